@@ -1,0 +1,3 @@
+-- Definitions: Machine (parsing a list of tokens), Parse (what `parse` answers and leaves).
+pub mod Machine
+pub mod Parse

@@ -1,0 +1,1 @@
+// The parser: token rows to node rows.
