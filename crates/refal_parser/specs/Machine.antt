@@ -4,9 +4,11 @@ use Prim.Native.Nat.{ℕ, zero, suc, _+_}
 use mathlib.Core.List.{List, [], _∷_}
 use mathlib.Core.Bool.{Bool, true, false}
 use lib.Dec.{eqb}
-use Rattle.refal_ast.specs.Kinds.{tokEntry, tokExtern, tokIdentifier, tokVariable, tokNumber, tokChar, tokLBrace, tokRBrace, tokLParen, tokRParen, tokLAngle, tokRAngle, tokComma, tokColon, tokEquals, tokSemicolon, tokEof}
+use Rattle.refal_ast.specs.Kinds.{tokEntry, tokExtern, tokIdentifier, tokVariable, tokNumber, tokChar, tokLBrace, tokRBrace, tokLParen, tokRParen, tokLAngle, tokRAngle, tokComma}
+use Rattle.refal_ast.specs.Kinds.{tokColon, tokEquals, tokSemicolon, tokEof}
 use Rattle.refal_ast.specs.Tokens.{Token}
-use Rattle.refal_ast.specs.Tree.{Leaf, symbol, variable, Terms, t0, tLeaf, tBracket, tCall, Conditions, c0, cTerms, cBlock, Sentences, s0, sTerms, sBlock, Names, nOne, nMore, Program, p0, pDeclaration, pFunction}
+use Rattle.refal_ast.specs.Tree.{Leaf, symbol, variable, Terms, t0, tLeaf, tBracket, tCall, Conditions, c0, cTerms, cBlock, Sentences, s0, sTerms, sBlock, Names, nOne, nMore}
+use Rattle.refal_ast.specs.Tree.{Program, p0, pDeclaration, pFunction}
 use Rattle.refal_ast.specs.declared.tree.Symbol.{Symbol}
 use Rattle.refal_ast.specs.declared.tree.Symbol.the-variants.{Char, Identifier, Number}
 use Rattle.refal_ast.specs.declared.tree.VariableKind.{VariableKind}

@@ -1,3 +1,4 @@
+-- `refal_rows::clear` meets its contract.
 use Prim.Native.Nat.{ℕ, _-_, _≤_}
 use mathlib.Core.Path.{_≡_, refl, ap, _∙_}
 use mathlib.Core.List.{List, _++_}
@@ -8,8 +9,6 @@ use Rattle.refal_rows.specs.Tests.{fill-turn, fill-done}
 use borrow.Author.Needs.{needs}
 use Rattle.refal_rows.proofs.clear.Statement.{statement}
 use Rattle.refal_rows.proofs.clear.Tie as tie
-use Rattle.refal_rows.proofs.clear.Reads as reads
-use Rattle.refal_rows.proofs.clear.Lts as lts
 
 abbrev Inv-loop : tie.InvT-loop
 Inv-loop rows₀ i₀ rows i = (i ≤ length rows₀) × (length rows ≡ length rows₀) × (rows ≡ replicate i 0 ++ drop i rows₀)
@@ -17,35 +16,27 @@ Inv-loop rows₀ i₀ rows i = (i ≤ length rows₀) × (length rows ≡ length
 abbrev μ-loop : tie.MeasureT-loop
 μ-loop rows₀ i₀ rows i = length rows₀ - i
 
--- src/lib.rt:48:5
 loop-holds : tie.Need-loop-holds Inv-loop μ-loop
 loop-holds c = (omega arith, refl, fill-none _ 0)
 
--- src/lib.rt:49:9
 mul-rows : tie.Need-mul-rows Inv-loop μ-loop
 mul-rows c = search needs
 
--- src/lib.rt:49:9
 slice-write-rows : tie.Need-slice-write-rows Inv-loop μ-loop
 slice-write-rows c = search needs
 
--- src/lib.rt:50:9
 add-i : tie.Need-add-i Inv-loop μ-loop
 add-i c = search needs
 
--- src/lib.rt:48:5
 loop-less : tie.Need-loop-less Inv-loop μ-loop
 loop-less c = search needs
 
--- src/lib.rt:48:5
 loop-again : tie.Need-loop-again Inv-loop μ-loop
 loop-again c = (omega arith, length-set (c .before .loop .rows) (c .before .loop .i) 0 ∙ c .before .loop .inv .1, fill-turn _ _ _ 0 (c .before .loop .inv .2) (omega arith))
 
--- src/lib.rt:44:1
 same-length : tie.Need-same-length Inv-loop μ-loop
 same-length c = search needs
 
--- src/lib.rt:44:1
 returns : tie.Need-returns Inv-loop μ-loop
 returns c = let e : c .before .loop .i ≡ length (c .before .before .args .rows .now) = omega arith in fill-done _ _ _ 0 (c .before .loop .inv .2) e
 

@@ -1,3 +1,4 @@
+-- `refal_rows::clear_bytes` meets its contract.
 use Prim.Native.Nat.{ℕ, _-_, _≤_}
 use mathlib.Core.Path.{_≡_, refl, ap, _∙_}
 use mathlib.Core.List.{List, _++_}
@@ -8,8 +9,6 @@ use Rattle.refal_rows.specs.Tests.{fill-turn, fill-done}
 use borrow.Author.Needs.{needs}
 use Rattle.refal_rows.proofs.clear_bytes.Statement.{statement}
 use Rattle.refal_rows.proofs.clear_bytes.Tie as tie
-use Rattle.refal_rows.proofs.clear_bytes.Reads as reads
-use Rattle.refal_rows.proofs.clear_bytes.Lts as lts
 
 abbrev Inv-loop : tie.InvT-loop
 Inv-loop out₀ i₀ out i = (i ≤ length out₀) × (length out ≡ length out₀) × (out ≡ replicate i 0 ++ drop i out₀)
@@ -17,31 +16,24 @@ Inv-loop out₀ i₀ out i = (i ≤ length out₀) × (length out ≡ length out
 abbrev μ-loop : tie.MeasureT-loop
 μ-loop out₀ i₀ out i = length out₀ - i
 
--- src/lib.rt:59:5
 loop-holds : tie.Need-loop-holds Inv-loop μ-loop
 loop-holds c = (omega arith, refl, fill-none _ 0)
 
--- src/lib.rt:60:9
 slice-write-out : tie.Need-slice-write-out Inv-loop μ-loop
 slice-write-out c = search needs
 
--- src/lib.rt:61:9
 add-i : tie.Need-add-i Inv-loop μ-loop
 add-i c = search needs
 
--- src/lib.rt:59:5
 loop-less : tie.Need-loop-less Inv-loop μ-loop
 loop-less c = search needs
 
--- src/lib.rt:59:5
 loop-again : tie.Need-loop-again Inv-loop μ-loop
 loop-again c = (omega arith, length-set (c .before .loop .out) (c .before .loop .i) 0 ∙ c .before .loop .inv .1, fill-turn _ _ _ 0 (c .before .loop .inv .2) (omega arith))
 
--- src/lib.rt:55:1
 same-length : tie.Need-same-length Inv-loop μ-loop
 same-length c = search needs
 
--- src/lib.rt:55:1
 returns : tie.Need-returns Inv-loop μ-loop
 returns c = let e : c .before .loop .i ≡ length (c .before .before .args .out .now) = omega arith in fill-done _ _ _ 0 (c .before .loop .inv .2) e
 

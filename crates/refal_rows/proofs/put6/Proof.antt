@@ -1,3 +1,4 @@
+-- `refal_rows::put6` meets its contract.
 use native.Mathlib.Omega.{arith}
 use native.Mathlib.Numerals.{add-one}
 use Prim.Native.Nat.{ℕ, suc, _+_, _*_}
@@ -8,94 +9,70 @@ use Rattle.refal_rows.specs.Writes.{put-fits, put-not, stores6}
 use borrow.Author.Needs.{needs}
 use Rattle.refal_rows.proofs.put6.Statement.{statement}
 use Rattle.refal_rows.proofs.put6.Tie as tie
-use Rattle.refal_rows.proofs.put6.Reads as reads
-use Rattle.refal_rows.proofs.put6.Lts as lts
 
--- src/lib.rt:13:13
 mul-i : tie.Need-mul-i
 mul-i c = search needs
 
--- src/lib.rt:14:15
 add-end : tie.Need-add-end
 add-end c = search needs
 
--- src/lib.rt:16:9
 mul-rows : tie.Need-mul-rows
 mul-rows c = search needs
 
--- src/lib.rt:16:9
 slice-write-rows : tie.Need-slice-write-rows
 slice-write-rows c = search needs
 
--- src/lib.rt:17:14
 add-rows : tie.Need-add-rows
 add-rows c = search needs
 
--- src/lib.rt:17:9
 mul-rows-2 : tie.Need-mul-rows-2
 mul-rows-2 c = search needs
 
--- src/lib.rt:17:9
 slice-write-rows-2 : tie.Need-slice-write-rows-2
 slice-write-rows-2 c = simp length-set (omega arith)
 
--- src/lib.rt:18:14
 add-rows-2 : tie.Need-add-rows-2
 add-rows-2 c = search needs
 
--- src/lib.rt:18:9
 mul-rows-3 : tie.Need-mul-rows-3
 mul-rows-3 c = search needs
 
--- src/lib.rt:18:9
 slice-write-rows-3 : tie.Need-slice-write-rows-3
 slice-write-rows-3 c = simp length-set (omega arith)
 
--- src/lib.rt:19:14
 add-rows-3 : tie.Need-add-rows-3
 add-rows-3 c = search needs
 
--- src/lib.rt:19:9
 mul-rows-4 : tie.Need-mul-rows-4
 mul-rows-4 c = search needs
 
--- src/lib.rt:19:9
 slice-write-rows-4 : tie.Need-slice-write-rows-4
 slice-write-rows-4 c = simp length-set (omega arith)
 
--- src/lib.rt:20:14
 add-rows-4 : tie.Need-add-rows-4
 add-rows-4 c = search needs
 
--- src/lib.rt:20:9
 mul-rows-5 : tie.Need-mul-rows-5
 mul-rows-5 c = search needs
 
--- src/lib.rt:20:9
 slice-write-rows-5 : tie.Need-slice-write-rows-5
 slice-write-rows-5 c = simp length-set (omega arith)
 
--- src/lib.rt:21:14
 add-rows-5 : tie.Need-add-rows-5
 add-rows-5 c = search needs
 
--- src/lib.rt:21:9
 mul-rows-6 : tie.Need-mul-rows-6
 mul-rows-6 c = search needs
 
--- src/lib.rt:21:9
 slice-write-rows-6 : tie.Need-slice-write-rows-6
 slice-write-rows-6 c = simp length-set (omega arith)
 
--- src/lib.rt:9:1
 same-length : tie.Need-same-length
 same-length c = search needs
 
--- src/lib.rt:9:1
 returns : tie.Need-returns
 returns c = stores6 (c .before .args .rows .now) (6 * c .before .args .m) (c .before .args .a) (c .before .args .b) (c .before .args .c) (c .before .args .d) (c .before .args .e) (c .before .args .f) ∙ sym (put-fits 6 (c .before .args .rows .now) (c .before .args .m) (c .before .args .a ∷ c .before .args .b ∷ c .before .args .c ∷ c .before .args .d ∷ c .before .args .e ∷ c .before .args .f ∷ []) (omega arith))
 
--- src/lib.rt:9:1
 returns-2 : tie.Need-returns-2
 returns-2 c = sym (put-not 6 (c .before .args .rows .now) (c .before .args .m) (c .before .args .a ∷ c .before .args .b ∷ c .before .args .c ∷ c .before .args .d ∷ c .before .args .e ∷ c .before .args .f ∷ []) (omega arith))
 

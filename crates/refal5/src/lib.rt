@@ -1,0 +1,51 @@
+// The exported library: what a Rust or C program links. Each function lends its slices to a proved one and puts the answer
+// into seven words: 0 refusal number (0: done), 1 count of rows or bytes put down (0 on refusal), 2 expected, 3 found, 4 span
+// start, 5 span end, 6 need.
+use refal_ast::Answer;
+ghost use mathlib.Core.Path.{_≡_};
+ghost use Rattle.refal_ast.specs.Names.{canonicalName, canonicalIndex, namesEqual, formAnswer, formBytes};
+ghost use Rattle.refal5.specs.Words.{answerWords};
+
+// An answer's seven words.
+fn words(a: Answer) -> [u64; 7]
+    ensures { λ r. ⌜ r ≡ answerWords a ⌝ }
+{
+    match a {
+        Answer::Done(n) => [0, n as u64, 0, 0, 0, 0, 0],
+        Answer::Refused(r) => [
+            r.number as u64,
+            0,
+            r.expected as u64,
+            r.found as u64,
+            r.start as u64,
+            r.end as u64,
+            r.need as u64,
+        ],
+    }
+}
+
+// The canonical form of a name.
+#[no_mangle]
+pub extern "C" fn refal5_canonical_name(name: &[u8], out: &mut [u8], answer: &mut [u64; 7])
+    ensures told { λ _. ⌜ now (answer .exit) ≡ answerWords (formAnswer (canonicalName (now (name .entry))) (now (out .entry))) ⌝ }
+    ensures left { λ _. ⌜ now (out .exit) ≡ formBytes (canonicalName (now (name .entry))) (now (out .entry)) ⌝ }
+{
+    *answer = words(refal_ast::names::canonical_identifier(name, out));
+}
+
+// The canonical form of a variable's index.
+#[no_mangle]
+pub extern "C" fn refal5_canonical_index(name: &[u8], out: &mut [u8], answer: &mut [u64; 7])
+    ensures told { λ _. ⌜ now (answer .exit) ≡ answerWords (formAnswer (canonicalIndex (now (name .entry))) (now (out .entry))) ⌝ }
+    ensures left { λ _. ⌜ now (out .exit) ≡ formBytes (canonicalIndex (now (name .entry))) (now (out .entry)) ⌝ }
+{
+    *answer = words(refal_ast::names::canonical_variable_index(name, out));
+}
+
+// Whether two names are equal.
+#[no_mangle]
+pub extern "C" fn refal5_names_equal(a: &[u8], b: &[u8]) -> bool
+    ensures { λ r. ⌜ r ≡ namesEqual (now (a .entry)) (now (b .entry)) ⌝ }
+{
+    refal_ast::names::identifiers_equal(a, b)
+}

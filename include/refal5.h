@@ -1,0 +1,34 @@
+/* refal5: a proved front end for Refal-5. Link target/staticlib/librefal5.a, which `rt staticlib refal5` makes.
+ *
+ * Every function takes every input. A slice is a pointer and a count of elements; what is lent for reading is not changed.
+ * answer[0] is 0 where the call is done, else the refusal's number, and then every element lent for output is 0.
+ *   answer[1]  rows or bytes put down (0 on refusal)
+ *   answer[2]  token kind expected        answer[3]  token kind found
+ *   answer[4]  span start, in bytes       answer[5]  span end, exclusive
+ *   answer[6]  rows or bytes that would be needed
+ * Slices lent to one call do not overlap, and answer overlaps none of them. A pointer is not null, also where the count is 0.
+ */
+#ifndef REFAL5_H
+#define REFAL5_H
+
+#include <stdbool.h>
+#include <stddef.h>
+#include <stdint.h>
+
+#ifdef __cplusplus
+extern "C" {
+#endif
+
+/* The canonical form of a name (a to z become A to Z, _ becomes -) or of a variable's index (letters only). Refusal 50 where out
+ * is shorter than name. */
+void refal5_canonical_name(const uint8_t *name, size_t n, uint8_t *out, size_t m, uint64_t answer[7]);
+void refal5_canonical_index(const uint8_t *name, size_t n, uint8_t *out, size_t m, uint64_t answer[7]);
+
+/* Whether two names are equal: their canonical forms are. */
+bool refal5_names_equal(const uint8_t *a, size_t n, const uint8_t *b, size_t m);
+
+#ifdef __cplusplus
+}
+#endif
+
+#endif
