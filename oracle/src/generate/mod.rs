@@ -1,0 +1,10 @@
+//! Inputs made from a seed: deliveries for measuring, and small ones for comparing.
+
+pub mod delivery;
+pub mod nests;
+pub mod rng;
+pub mod sources;
+pub mod tokens;
+pub mod trees;
+
+pub use rng::Rng;

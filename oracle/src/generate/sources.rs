@@ -1,0 +1,361 @@
+//! Small sources: programs by the grammar, soups of telling parts, and damaged copies.
+
+use super::{Rng, nests};
+
+/// Parts that meet every rule of reading and their edges.
+pub const PARTS: [&str; 96] = [
+    "{",
+    "}",
+    "(",
+    ")",
+    "<",
+    ">",
+    ",",
+    ":",
+    "=",
+    ";",
+    "'",
+    "\"",
+    "''",
+    "\"\"",
+    "$",
+    "$ENTRY",
+    "$EXTERN",
+    "$EXTRN",
+    "$EXTERNAL",
+    "$ENTRYX",
+    "$entry",
+    "$EXT",
+    "A",
+    "Z",
+    "Go",
+    "B1",
+    "F-x",
+    "F_x",
+    "Abcdefghijklmno",
+    "Abcdefghijklmnop",
+    "a",
+    "s",
+    "t",
+    "e",
+    "s.",
+    "t.",
+    "e.",
+    "s1",
+    "tX",
+    "eA",
+    "s.1",
+    "t.abc",
+    "e.A-b_C",
+    "s.abcdefghijklmno",
+    "e.abcdefghijklmnop",
+    "_",
+    "-",
+    "+",
+    "-a",
+    "_A",
+    "0",
+    "7",
+    "42",
+    "4294967295",
+    "4294967296",
+    "0004294967295",
+    "0004294967296",
+    "99999999999999999999999",
+    "00000000000000000000000",
+    "1.",
+    "1.5",
+    "1E",
+    "1E5",
+    "1.5E10",
+    "1E5.2",
+    "1.E5",
+    "+1",
+    "-1",
+    "+1.5",
+    "-2E3",
+    "+1.",
+    ".5",
+    ".",
+    "*",
+    "\n*",
+    "\n *",
+    " *",
+    "\n\u{a0}*",
+    "/*",
+    "*/",
+    "/**/",
+    "/*/",
+    "/* x */",
+    "/",
+    "\n",
+    "\r\n",
+    "\r",
+    "\t",
+    " ",
+    "\u{85}",
+    "\u{2028}",
+    "\u{3000}",
+    "é",
+    "漢",
+    "😀",
+    "'ab'",
+];
+
+/// A few parts set side by side, with or without spaces.
+pub fn soup(rng: &mut Rng, most: usize) -> String {
+    let mut text = String::new();
+    let spaced = rng.once_in(2);
+    for _ in 0..rng.within(0, most) {
+        text.push_str(rng.pick(&PARTS));
+        if spaced && rng.once_in(2) {
+            text.push(if rng.once_in(4) { '\n' } else { ' ' });
+        }
+    }
+    text
+}
+
+/// A program by the grammar, with gaps of every kind; reading and parsing accept it.
+pub fn program(rng: &mut Rng, items: usize) -> String {
+    let mut maker = Maker {
+        rng,
+        text: String::new(),
+    };
+    for _ in 0..items {
+        maker.item();
+    }
+    maker.gap();
+    maker.text
+}
+
+/// A copy with a few places cut, doubled, swapped, changed or put in.
+pub fn damaged(rng: &mut Rng, good: &[u8]) -> Vec<u8> {
+    let mut bytes = good.to_vec();
+    for _ in 0..rng.within(1, 3) {
+        let at = rng.below(bytes.len() + 1);
+        let end = (at + rng.within(1, 4)).min(bytes.len());
+        match rng.below(7) {
+            0 => drop(bytes.drain(at..end)),
+            1 => {
+                let part = bytes[at..end].to_vec();
+                bytes.splice(at..at, part);
+            }
+            2 => {
+                let part = rng.pick(&PARTS);
+                bytes.splice(at..at, part.bytes());
+            }
+            3 => {
+                let part = rng.pick(&PARTS);
+                bytes.splice(at..end, part.bytes());
+            }
+            4 if end < bytes.len() => bytes.swap(at, end),
+            5 if at < bytes.len() => bytes[at] ^= 1 << rng.below(8),
+            _ => bytes.truncate(at),
+        }
+    }
+    bytes
+}
+
+/// Any of the ways above, as bytes.
+pub fn any(rng: &mut Rng) -> Vec<u8> {
+    match rng.below(10) {
+        0 | 1 => soup(rng, 8).into_bytes(),
+        2 => soup(rng, 30).into_bytes(),
+        3 | 4 => program(rng, 2).into_bytes(),
+        5..=7 => {
+            let good = program(rng, 2).into_bytes();
+            damaged(rng, &good)
+        }
+        8 => {
+            let depth = rng.within(60, 68);
+            let ways = nests::ways(rng, depth);
+            let source = nests::nested(&ways).0.into_bytes();
+            if rng.once_in(3) {
+                damaged(rng, &source)
+            } else {
+                source
+            }
+        }
+        _ => (0..rng.within(0, 12)).map(|_| byte(rng)).collect(),
+    }
+}
+
+/// A byte, more often one that means something.
+fn byte(rng: &mut Rng) -> u8 {
+    const TELLING: &[u8] =
+        b"{}()<>,:=;'\"$ENTRYste.Aaz09+-_*/\n \r\t\xc2\xa0\xe2\x80\xa8\xf0\x9f\x98";
+    if rng.once_in(4) {
+        rng.bits() as u8
+    } else {
+        TELLING[rng.below(TELLING.len())]
+    }
+}
+
+struct Maker<'a> {
+    rng: &'a mut Rng,
+    text: String,
+}
+
+const GAPS: [&str; 12] = [
+    " ",
+    "  ",
+    "\n",
+    "\r\n",
+    "\t",
+    "\u{a0}",
+    "\u{2003}",
+    "\n* star\n",
+    "\n  *x\n",
+    "/* c */",
+    "/***/",
+    "\n\u{3000}*\n",
+];
+
+impl Maker<'_> {
+    fn gap(&mut self) {
+        while self.rng.once_in(3) {
+            let gap = self.rng.pick(&GAPS);
+            self.text.push_str(gap);
+        }
+    }
+
+    /// A token, parted from the one before where the two would run together.
+    fn put(&mut self, token: &str) {
+        let before = self.text.len();
+        self.gap();
+        let joins = |c: char| c.is_ascii_alphanumeric() || "_-.+'\"$".contains(c);
+        let runs_on = self.text.ends_with(joins) && token.starts_with(joins);
+        if self.text.len() == before && runs_on {
+            self.text.push(' ');
+        }
+        self.text.push_str(token);
+    }
+
+    fn name(&mut self) {
+        let name = self.rng.pick(&[
+            "A",
+            "Go",
+            "F-1",
+            "Prout",
+            "Add_Up",
+            "ZZ9",
+            "Abcdefghijklmno",
+            "X",
+            "Card",
+            "B",
+        ]);
+        self.put(name);
+    }
+
+    fn item(&mut self) {
+        while self.rng.once_in(4) {
+            self.put(";");
+        }
+        if self.rng.once_in(4) {
+            let word = self.rng.pick(&["$EXTRN", "$EXTERN", "$EXTERNAL"]);
+            self.put(word);
+            self.name();
+            while self.rng.once_in(2) {
+                self.put(",");
+                self.name();
+            }
+            self.put(";");
+            return;
+        }
+        if self.rng.once_in(3) {
+            self.put("$ENTRY");
+        }
+        self.name();
+        self.put("{");
+        for _ in 0..self.rng.within(0, 3) {
+            self.sentence(2);
+        }
+        self.put("}");
+    }
+
+    fn sentence(&mut self, blocks: usize) {
+        self.terms(2);
+        while self.rng.once_in(3) {
+            self.put(",");
+            self.terms(2);
+            self.put(":");
+            if blocks > 0 && self.rng.once_in(3) {
+                self.block(blocks - 1);
+            } else {
+                self.terms(2);
+            }
+        }
+        self.put("=");
+        if blocks > 0 && self.rng.once_in(4) {
+            self.put(",");
+            self.terms(2);
+            self.put(":");
+            self.block(blocks - 1);
+        } else {
+            self.terms(3);
+        }
+        self.put(";");
+    }
+
+    fn block(&mut self, blocks: usize) {
+        self.put("{");
+        for _ in 0..self.rng.within(0, 2) {
+            self.sentence(blocks);
+        }
+        self.put("}");
+    }
+
+    fn terms(&mut self, depth: usize) {
+        for _ in 0..self.rng.within(0, 3) {
+            self.term(depth);
+        }
+    }
+
+    fn term(&mut self, depth: usize) {
+        match self.rng.below(8) {
+            0 => self.name(),
+            1 => {
+                let number = self
+                    .rng
+                    .pick(&["0", "42", "4294967295", "-1.5", "+2E10", "1.25E3"]);
+                self.put(number);
+            }
+            2 => {
+                let literal = self.rng.pick(&[
+                    "'a'",
+                    "'it''s'",
+                    "\"x\"\"y\"",
+                    "'é漢😀'",
+                    "\" ' \"",
+                    "'*/'",
+                    "''''",
+                ]);
+                self.put(literal);
+            }
+            3 | 4 => {
+                let variable = self.rng.pick(&[
+                    "s1",
+                    "tX",
+                    "e.A",
+                    "s.abc-D_1",
+                    "e1e2",
+                    "t.abcdefghijklmno",
+                    "sAs2",
+                ]);
+                self.put(variable);
+            }
+            5 if depth > 0 => {
+                self.put("(");
+                self.terms(depth - 1);
+                self.put(")");
+            }
+            6 if depth > 0 => {
+                self.put("<");
+                self.name();
+                self.terms(depth - 1);
+                self.put(">");
+            }
+            _ => self.put("A"),
+        }
+    }
+}

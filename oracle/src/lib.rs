@@ -1,0 +1,14 @@
+//! The oracle: what document 01 says that reading, parsing, writing and names answer.
+//!
+//! [`original`] asks the original Rust, built unchanged where its three files are present, and puts
+//! its answers in 01's terms. [`reference`] is a plain implementation written from 01's text alone,
+//! with the refusals and the writing that the original does not have. Tests hold the two together.
+
+#[cfg(original)]
+include!(concat!(env!("OUT_DIR"), "/original.rs"));
+
+pub mod generate;
+pub mod messages;
+pub mod original;
+pub mod reference;
+pub mod terms;

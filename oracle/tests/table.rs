@@ -1,0 +1,191 @@
+//! Document 01's worked table and further rows worked out by hand from its text.
+
+use oracle::generate::tokens;
+use oracle::reference::{self, parse, read, write};
+use oracle::terms::Refusal;
+
+fn read_spans(src: &str) -> Vec<(u32, u32, u32)> {
+    let tokens = read::tokens(src.as_bytes()).expect(src);
+    tokens.iter().map(|row| (row[0], row[4], row[5])).collect()
+}
+
+fn read_refusal(src: &str) -> (u32, u64, u64) {
+    let refusal = read::tokens(src.as_bytes()).expect_err(src);
+    (refusal.number, refusal.start, refusal.end)
+}
+
+fn parse_refusal(src: &str) -> Refusal {
+    let tokens = read::tokens(src.as_bytes()).expect(src);
+    parse::tree(&tokens::flat(&tokens)).expect_err(src)
+}
+
+fn tree(src: &str) -> Vec<[u32; 7]> {
+    let tokens = read::tokens(src.as_bytes()).expect(src);
+    parse::tree(&tokens::flat(&tokens)).expect(src)
+}
+
+#[test]
+fn reading() {
+    assert_eq!(read_spans(""), [(17, 0, 0)]);
+    assert_eq!(
+        read_spans("s1s2s3"),
+        [(4, 0, 2), (4, 2, 4), (4, 4, 6), (17, 6, 6)]
+    );
+    assert_eq!(read_refusal("''"), (21, 0, 2));
+    assert_eq!(read_refusal("'''"), (23, 0, 3));
+    assert_eq!(read::tokens(b"''''").expect("read")[0], [6, 39, 0, 0, 0, 4]);
+    assert_eq!(
+        read::tokens(b"0004294967295").expect("read")[0],
+        [5, 0, 0, 13, 0, 13]
+    );
+    for (src, refusal) in [
+        ("4294967296", (19, 0, 10)),
+        ("+1", (18, 0, 2)),
+        ("+1.", (16, 0, 3)),
+        ("1E5.2", (10, 3, 4)),
+        ("-", (14, 0, 1)),
+        (" *a", (10, 1, 2)),
+        ("/*/", (24, 0, 3)),
+        ("$", (11, 0, 1)),
+        ("$EXTRNS A", (11, 0, 7)),
+        ("s. A", (12, 0, 2)),
+        ("e.abcdefghijklmnop;", (13, 0, 18)),
+        ("abc-1 ", (14, 0, 5)),
+        ("Abcdefghijklmnop ", (15, 0, 16)),
+        ("A 1E ", (17, 2, 4)),
+        ("é", (10, 0, 2)),
+        ("A 'b\nc'", (22, 2, 5)),
+        ("A \"b'", (23, 2, 5)),
+    ] {
+        assert_eq!(read_refusal(src), refusal, "{src}");
+    }
+    assert_eq!(read_spans("\n *a"), [(17, 4, 4)]);
+    assert_eq!(
+        read::tokens(b"A\xff").expect_err("ill-formed"),
+        Refusal::spanned(2, 1, 1)
+    );
+}
+
+#[test]
+fn parsing() {
+    let refusal = |number, expected, found, start, end| Refusal {
+        number,
+        expected,
+        found,
+        start,
+        end,
+        need: 0,
+    };
+    assert!(tree("").is_empty());
+    assert_eq!(parse::tree(&[]), Err(Refusal::plain(30)));
+    for (src, answer) in [
+        ("{}", refusal(32, 3, 7, 1, 2)),
+        ("F{=A}", refusal(34, 0, 8, 5, 5)),
+        ("$EXTRN ,", refusal(31, 3, 13, 8, 8)),
+        ("$EXTRN", refusal(31, 3, 17, 6, 6)),
+        ("F{<1>=;}", refusal(33, 3, 5, 4, 5)),
+        ("F{A", refusal(35, 15, 17, 3, 3)),
+        ("F(", refusal(35, 7, 9, 1, 2)),
+        ("F{(A", refusal(35, 10, 17, 4, 4)),
+        ("F{A,B:{=;}C=;}", refusal(35, 15, 3, 10, 11)),
+        ("F{=,A:B", refusal(35, 7, 3, 6, 7)),
+    ] {
+        assert_eq!(parse_refusal(src), answer, "{src}");
+    }
+    let rows = tree("F{A,B:{=;}=;}");
+    assert_eq!(rows.len(), 12);
+    let spans: Vec<_> = rows
+        .iter()
+        .filter(|row| matches!(row[0], 4 | 5 | 8))
+        .map(|row| (row[0], row[4], row[5]))
+        .collect();
+    assert_eq!(spans, [(4, 2, 12), (5, 4, 10), (8, 4, 10), (4, 7, 9)]);
+}
+
+#[test]
+fn depth() {
+    for (open, close, found) in [("(", ")", 9), ("<G ", ">", 11)] {
+        let nest = |n: usize| format!("F{{={}{};}}", open.repeat(n), close.repeat(n));
+        assert_eq!(tree(&nest(64)).len(), 4 + 64);
+        let refusal = parse_refusal(&nest(65));
+        assert_eq!((refusal.number, refusal.found), (37, found));
+        assert_eq!(refusal.start as usize, 3 + 64 * open.len());
+    }
+    let nest = |n: usize| format!("F{{{}{}}}", "=,:{".repeat(n), "};".repeat(n));
+    assert_eq!(tree(&nest(64)).len(), 1 + 4 * 64);
+    let refusal = parse_refusal(&nest(65));
+    assert_eq!(
+        (refusal.number, refusal.found, refusal.start),
+        (37, 7, 2 + 4 * 64 + 3)
+    );
+    // 37 comes before a call's name is looked at.
+    let src = format!("F{{={}<1", "(".repeat(64));
+    assert_eq!(parse_refusal(&src).number, 37);
+}
+
+#[test]
+fn the_program_of_01() {
+    let src = "$ENTRY Go{=;}";
+    assert_eq!(
+        tree(src),
+        [
+            [3, 1, 7, 2, 0, 13, 4],
+            [4, 0, 0, 0, 10, 12, 4],
+            [6, 0, 0, 0, 0, 0, 3],
+            [6, 0, 0, 0, 0, 0, 4],
+        ]
+    );
+    let words: Vec<u32> = tree(src).into_iter().flatten().collect();
+    let text = write::text(&words, src.as_bytes()).expect("written");
+    assert_eq!(text, b"$ENTRY Go { = ; } ");
+}
+
+#[test]
+fn capacities() {
+    let mut rows = [7; 13];
+    assert_eq!(reference::read(b"A", &mut rows), [0, 2, 0, 0, 0, 0, 0]);
+    assert_eq!(rows, [3, 0, 0, 1, 0, 1, 17, 0, 0, 0, 1, 1, 7]);
+    let mut rows = [7; 11];
+    assert_eq!(reference::read(b"A", &mut rows), [25, 0, 0, 0, 0, 0, 2]);
+    assert_eq!(rows, [0; 11]);
+    let mut rows = [7; 6];
+    let empty = [17, 0, 0, 0, 0, 0];
+    assert_eq!(reference::parse(&empty, &mut rows), [0; 7]);
+    assert_eq!(rows, [7; 6]);
+    let tokens = tokens::flat(&read::tokens(b"F{}").expect("read"));
+    assert_eq!(reference::parse(&tokens, &mut rows), [38, 0, 0, 0, 0, 0, 1]);
+    assert_eq!(rows, [0; 6]);
+    let tree = [3, 0, 0, 1, 0, 3, 1];
+    let mut out = [7; 7];
+    assert_eq!(
+        reference::write(&tree, b"F", &mut out),
+        [0, 6, 0, 0, 0, 0, 0]
+    );
+    assert_eq!(&out, b"F { } \x07");
+    let mut out = [7; 5];
+    assert_eq!(
+        reference::write(&tree, b"F", &mut out),
+        [42, 0, 0, 0, 0, 0, 6]
+    );
+    assert_eq!(out, [0; 5]);
+    let mut out = [7; 9];
+    assert_eq!(
+        reference::write(&tree, b"f", &mut out),
+        [41, 0, 0, 0, 0, 0, 0]
+    );
+    assert_eq!(
+        reference::write(&tree[..6], b"F", &mut out),
+        [40, 0, 0, 0, 0, 0, 0]
+    );
+    let mut out = [7; 3];
+    assert_eq!(
+        reference::canonical_name(b"a_1", &mut out),
+        [0, 3, 0, 0, 0, 0, 0]
+    );
+    assert_eq!(&out, b"A-1");
+    assert_eq!(
+        reference::canonical_index(b"a_1b", &mut out),
+        [50, 0, 0, 0, 0, 0, 0]
+    );
+    assert_eq!(out, [0; 3]);
+}
