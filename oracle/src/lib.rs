@@ -7,7 +7,9 @@
 #[cfg(original)]
 include!(concat!(env!("OUT_DIR"), "/original.rs"));
 
+pub mod cases;
 pub mod generate;
+pub mod lists;
 pub mod messages;
 pub mod original;
 pub mod reference;

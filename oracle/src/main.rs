@@ -1,9 +1,11 @@
 //! The command: answers on standard input's bytes, and generated files.
 
 use oracle::generate::delivery::{HOSTILE, delivery, hostile};
+use oracle::lists::{self, LISTS};
 use oracle::reference::{parse, read, write};
 use oracle::terms::Refusal;
 use std::io::{self, Read, Write};
+use std::path::Path;
 use std::process::ExitCode;
 
 const HELP: &str = "\
@@ -15,6 +17,7 @@ oracle: the answers of document 01, from the original where it is present
   oracle delivery SEED SIZE     a generated rule file of SIZE bytes
   oracle hostile NAME SIZE      a hostile file of at most SIZE bytes
   oracle hostile                the names of the hostile files
+  oracle lists FOLDER           the fixed lists of tests/vectors
 
 Where the original files are present its answer is compared with the reference's first.
 A refusal is printed as: refused number expected found start end need; the exit status is 1.
@@ -43,9 +46,27 @@ fn main() -> ExitCode {
             Err(_) => usage(),
         },
         ["hostile"] => print(HOSTILE.map(|name| format!("{name}\n")).concat().as_bytes()),
+        ["lists", folder] => lists(folder),
         ["--help"] => print(HELP.as_bytes()),
         _ => usage(),
     }
+}
+
+/// Only where the original can confirm them.
+fn lists(folder: &str) -> ExitCode {
+    if !oracle::original::PRESENT {
+        eprintln!("oracle: the original files are absent, no list is made");
+        return ExitCode::from(1);
+    }
+    for list in &LISTS {
+        let text = lists::text(list);
+        let file = Path::new(folder).join(list.file);
+        if let Err(error) = std::fs::write(&file, text) {
+            eprintln!("oracle: {}: {error}", file.display());
+            return ExitCode::from(2);
+        }
+    }
+    ExitCode::SUCCESS
 }
 
 fn usage() -> ExitCode {

@@ -11,9 +11,15 @@ pub fn parse(tokens: &[u32], rows: &mut [u32]) -> Answer {
 
 /// The tree's rows, or the first of 30 to 37.
 pub fn tree(words: &[u32]) -> Result<Vec<NodeRow>, Refusal> {
+    tree_to_depth(words, MAX_DEPTH)
+}
+
+/// The same with another limit in 37, to make trees that are too deep.
+pub fn tree_to_depth(words: &[u32], most: usize) -> Result<Vec<NodeRow>, Refusal> {
     let tokens = checked(words).ok_or(Refusal::plain(30))?;
     let mut parser = Parser {
         tokens: &tokens,
+        most,
         at: 0,
         rows: Vec::new(),
     };
@@ -49,6 +55,7 @@ fn lawful(&[kind, detail, start, length, ..]: &TokenRow) -> bool {
 
 struct Parser<'a> {
     tokens: &'a [TokenRow],
+    most: usize,
     at: usize,
     rows: Vec<NodeRow>,
 }
@@ -221,7 +228,7 @@ impl Parser<'_> {
 
     /// 37 at the present token, if as many as may be are open already.
     fn room(&self, depth: usize) -> Parsed<()> {
-        if depth < MAX_DEPTH {
+        if depth < self.most {
             return Ok(());
         }
         let [found, .., start, end] = self.tokens[self.at];

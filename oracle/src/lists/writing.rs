@@ -1,0 +1,288 @@
+//! Writing: trees of every kind of node, each word of each row changed, rows dropped, doubled and
+//! swapped, texts that are no spellings, outputs shorter, exact and longer.
+
+use super::SEED;
+use crate::cases::Case;
+use crate::generate::nests::{self, Way};
+use crate::generate::{Rng, tokens, trees};
+use crate::reference::{parse, write};
+use crate::terms::{MAX_DEPTH, NodeRow, node};
+
+pub fn cases() -> Vec<Case> {
+    let mut rng = Rng::new(SEED + 2);
+    let mut cases = Vec::new();
+    for src in SOURCES {
+        let (rows, src) = trees::of_source(src.as_bytes().to_vec());
+        put_around(&mut cases, trees::flat(&rows), src);
+    }
+    for small in ["$EXTRN Ab,C;", "F{A=1;}", "F{s.ab,('a')<G>:{=;}=,B:{};}"] {
+        for words in each_word_changed(small) {
+            put(&mut cases, &mut rng, words, small.as_bytes().to_vec());
+        }
+    }
+    for (words, src) in spellings() {
+        put(&mut cases, &mut rng, words, src);
+    }
+    for (words, src) in deep() {
+        put(&mut cases, &mut rng, words, src);
+    }
+    for _ in 0..500 {
+        let (words, src) = trees::any(&mut rng);
+        if words.len() < 300 {
+            put(&mut cases, &mut rng, words, src);
+        }
+    }
+    cases
+}
+
+const SOURCES: [&str; 12] = [
+    "",
+    "$ENTRY Go{=;}",
+    "F{}",
+    "$EXTRN A;",
+    "$EXTERN A,B-1,C_d;;",
+    "F{A,B:{=;}=;}",
+    "F{=,A:{=;};}",
+    "F{=,:{};}",
+    "F{A,B:C,:{},D:=E;}",
+    "F{e.1 s2 tX 'ab''c' 1.5=(A(B)())<G <H>()>;}",
+    "$EXTRN A;F{\"'é漢😀\"=;}$ENTRY G{=;=;}",
+    "F{+1.5E10 -0.25 0004294967295 = s.abcdefghijklmno Abcdefghijklmno;}",
+];
+
+fn put(cases: &mut Vec<Case>, rng: &mut Rng, tree: Vec<u32>, src: Vec<u8>) {
+    let exact = write::text(&tree, &src).map_or(rng.below(20), |text| text.len());
+    let some = [
+        exact,
+        exact,
+        exact + 1,
+        exact + 9,
+        exact.saturating_sub(1),
+        rng.below(exact + 1),
+    ];
+    let lent = some[rng.below(some.len())];
+    cases.push(Case::Write { tree, src, lent });
+}
+
+fn put_around(cases: &mut Vec<Case>, tree: Vec<u32>, src: Vec<u8>) {
+    let exact = write::text(&tree, &src).map_or(9, |text| text.len());
+    let mut some = vec![
+        0,
+        exact / 2,
+        exact.saturating_sub(1),
+        exact,
+        exact + 1,
+        exact + 9,
+    ];
+    some.dedup();
+    for lent in some {
+        cases.push(Case::Write {
+            tree: tree.clone(),
+            src: src.clone(),
+            lent,
+        });
+    }
+}
+
+fn each_word_changed(src: &str) -> Vec<Vec<u32>> {
+    let (rows, _) = trees::of_source(src.as_bytes().to_vec());
+    let mut all = Vec::new();
+    for at in 0..rows.len() {
+        for word in 0..7 {
+            let old = rows[at][word];
+            let mut values = vec![old.wrapping_add(1), old.wrapping_sub(1), 0, 1, u32::MAX];
+            if word == 0 {
+                values = (0..=15).collect();
+            }
+            values.retain(|&value| value != old);
+            values.dedup();
+            for value in values {
+                let mut rows = rows.clone();
+                rows[at][word] = value;
+                all.push(trees::flat(&rows));
+            }
+        }
+        let mut dropped = rows.clone();
+        dropped.remove(at);
+        all.push(trees::flat(&dropped));
+        let mut doubled = rows.clone();
+        doubled.insert(at, rows[at]);
+        all.push(trees::flat(&doubled));
+        if at + 1 < rows.len() {
+            let mut swapped = rows.clone();
+            swapped.swap(at, at + 1);
+            all.push(trees::flat(&swapped));
+        }
+    }
+    let words = trees::flat(&rows);
+    for cut in 1..=7 {
+        all.push(words[..words.len() - cut].to_vec());
+        all.push([&words[..], &vec![0; cut][..]].concat());
+    }
+    all
+}
+
+/// A function of one sentence whose result is one term of the kind, and the term's text.
+fn around(kind: u32, detail: u32, text: (u32, u32)) -> Vec<u32> {
+    let rows: [NodeRow; 5] = [
+        [node::FUNCTION, 0, 0, 1, 0, 0, 5],
+        [node::SENTENCE, 0, 0, 0, 0, 0, 5],
+        [node::TERMS, 0, 0, 0, 0, 0, 3],
+        [node::TERMS, 0, 0, 0, 0, 0, 5],
+        [kind, detail, text.0, text.1, 0, 0, 5],
+    ];
+    trees::flat(&rows)
+}
+
+/// Texts that are spellings and that are none, for each kind that has a text; characters.
+fn spellings() -> Vec<(Vec<u32>, Vec<u8>)> {
+    let texts = [
+        "",
+        "A",
+        "a",
+        "Z9",
+        "9",
+        "_",
+        "-",
+        "A-",
+        "A_b",
+        "-A",
+        "_A",
+        "A.",
+        "A b",
+        "s",
+        "s1",
+        "é",
+        "Aé",
+        "Abcdefghijklmno",
+        "Abcdefghijklmnop",
+        "abcdefghijklmno",
+        "abcdefghijklmnop",
+        "0",
+        "00",
+        "4294967295",
+        "4294967296",
+        "0004294967295",
+        "0004294967296",
+        "42949672950",
+        "00000000000000000000000000000000",
+        "1.",
+        ".5",
+        "1.5",
+        "1.5E",
+        "1.5E5",
+        "1E5",
+        "1E",
+        "1E5.2",
+        "1e5",
+        "+1",
+        "-1",
+        "+1.5",
+        "-1E5",
+        "+",
+        "-",
+        "+.5",
+        "+-1",
+        "1E+5",
+        "1E-5",
+        "4294967296.0",
+        "99999999999E9",
+        "1.5 ",
+        " 1",
+        "1A",
+        "'a'",
+        "$ENTRY",
+    ];
+    let mut all = Vec::new();
+    for text in texts {
+        let src = format!("F{text}").into_bytes();
+        let place = (1, text.len() as u32);
+        for (kind, detail) in [
+            (node::IDENTIFIER, 0),
+            (node::NUMBER, 0),
+            (node::VARIABLE, u32::from(b's')),
+            (node::CALL, 0),
+        ] {
+            all.push((around(kind, detail, place), src.clone()));
+        }
+        let declaration = [
+            [node::DECLARATION, 0, 0, 0, 0, 0, 2],
+            [node::NAME, 0, 1, place.1, 0, 0, 2],
+        ];
+        all.push((trees::flat(&declaration), src.clone()));
+        let function = [[node::FUNCTION, 1, 1, place.1, 0, 0, 1]];
+        all.push((trees::flat(&function), src));
+    }
+    for (start, length) in [
+        (0, 2),
+        (1, 1),
+        (2, 0),
+        (2, 1),
+        (u32::MAX, 1),
+        (1, u32::MAX),
+        (u32::MAX, u32::MAX),
+    ] {
+        all.push((around(node::IDENTIFIER, 0, (start, length)), b"FA".to_vec()));
+    }
+    // Ill-formed bytes in the source do not matter outside the texts.
+    all.push((around(node::IDENTIFIER, 0, (1, 1)), b"FA\xff".to_vec()));
+    all.push((around(node::IDENTIFIER, 0, (1, 2)), b"FA\xff".to_vec()));
+    for value in [
+        0,
+        9,
+        10,
+        13,
+        32,
+        34,
+        38,
+        39,
+        40,
+        0x7f,
+        0x80,
+        0x7ff,
+        0x800,
+        0xd7ff,
+        0xd800,
+        0xdbff,
+        0xdc00,
+        0xdfff,
+        0xe000,
+        0xffff,
+        0x1_0000,
+        0x10_ffff,
+        0x11_0000,
+        u32::MAX,
+    ] {
+        all.push((around(node::CHAR, value, (0, 0)), b"F".to_vec()));
+    }
+    for letter in 0..=255 {
+        let good = b"ste".contains(&letter);
+        if good || letter % 16 == 3 {
+            let words = around(node::VARIABLE, u32::from(letter), (0, 1));
+            all.push((words, b"F".to_vec()));
+        }
+    }
+    all
+}
+
+/// Trees of depth 64 and 65.
+fn deep() -> Vec<(Vec<u32>, Vec<u8>)> {
+    let mut nests: Vec<Vec<Way>> = Vec::new();
+    for depth in [MAX_DEPTH, MAX_DEPTH + 1] {
+        nests.extend(nests::WAYS.map(|way| vec![way; depth]));
+        nests.push([vec![Way::Ending; depth - 1], vec![Way::Call]].concat());
+        nests.push([vec![Way::Condition; depth - 1], vec![Way::Ending]].concat());
+        // An argument stands beside its block, not inside.
+        nests.push([vec![Way::Bracket; depth], vec![Way::Ending]].concat());
+        nests.push([vec![Way::Call; depth], vec![Way::Condition]].concat());
+    }
+    nests
+        .iter()
+        .map(|ways| {
+            let src = nests::nested(ways).0.into_bytes();
+            let tokens = tokens::flat(&tokens::of_source(&src));
+            let rows = parse::tree_to_depth(&tokens, MAX_DEPTH + 1).expect("a lawful tree");
+            (trees::flat(&rows), src)
+        })
+        .collect()
+}
