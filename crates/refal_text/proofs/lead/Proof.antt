@@ -1,0 +1,15 @@
+-- `refal_text::lead` meets its contract: the complement's leading zeros.
+use native.Mathlib.Omega.{arith}
+use Rattle.refal_text.specs.Utf8Laws.{leads-is}
+use borrow.Author.Needs.{needs}
+use Rattle.refal_text.proofs.lead.Statement.{statement}
+use Rattle.refal_text.proofs.lead.Tie as tie
+use Rattle.refal_text.proofs.lead.Reads as reads
+use Rattle.refal_text.proofs.lead.Lts as lts
+
+-- src/lib.rt:29:1
+returns : tie.Need-returns
+returns c = leads-is _ (c .fits .a .fits)
+
+pub lead-spec : {M : Type 1} → statement M
+lead-spec = tie.close (tie.spec returns)

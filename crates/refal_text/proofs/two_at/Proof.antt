@@ -1,0 +1,37 @@
+-- `refal_text::two_at` meets its contract: a sequence of two bytes.
+use lib.Dec.{leb}
+use Rattle.refal_text.specs.Utf8.{cont}
+use native.Mathlib.Omega.{arith}
+use Rattle.refal_rows.specs.Tests.{and-left, and-right, range-lo}
+use borrow.Author.Needs.{needs}
+use Rattle.refal_text.proofs.two_at.Statement.{statement}
+use Rattle.refal_text.proofs.two_at.Tie as tie
+use Rattle.refal_text.proofs.two_at.Reads as reads
+use Rattle.refal_text.proofs.two_at.Lts as lts
+
+-- src/lib.rt:60:18
+sub-x : tie.Need-sub-x
+sub-x c = search needs
+
+-- src/lib.rt:60:17
+mul-x : tie.Need-mul-x
+mul-x c = search needs
+
+-- src/lib.rt:60:44
+sub-x-2 : tie.Need-sub-x-2
+sub-x-2 c = let a = c .before .args in range-lo 128 (a .b) 191 (and-right (leb 194 (a .a)) (cont (a .b)) (c .if1 .taken))
+
+-- src/lib.rt:60:17
+add-x : tie.Need-add-x
+add-x c = search needs
+
+-- src/lib.rt:61:9
+returns : tie.Need-returns
+returns c = simp (c .if1 .taken)
+
+-- src/lib.rt:54:1
+returns-2 : tie.Need-returns-2
+returns-2 c = simp (c .if1 .left)
+
+pub two-at-spec : {M : Type 1} → statement M
+two-at-spec = tie.close (tie.spec sub-x mul-x sub-x-2 add-x returns returns-2)
