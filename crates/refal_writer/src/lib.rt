@@ -1,0 +1,1 @@
+// The writer: a tree of rows and its source to text.
