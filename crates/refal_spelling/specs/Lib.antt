@@ -1,0 +1,2 @@
+-- Definitions: Spell.
+pub mod Spell

@@ -1,0 +1,1 @@
+// How tokens are spelled in a written text: definitions and laws only.

@@ -1,1 +1,0 @@
-// The writer: a tree of rows and its source to text.
