@@ -1,0 +1,6 @@
+-- Laws and the theorems' proofs.
+pub mod Flats
+pub mod Levels
+pub mod Fields
+pub mod Read
+pub mod Sound

@@ -1,0 +1,1 @@
+// No code: theorems about what the other crates' functions answer and leave.
