@@ -4,3 +4,5 @@ pub mod Levels
 pub mod Fields
 pub mod Read
 pub mod Sound
+pub mod Erase
+pub mod Complete
