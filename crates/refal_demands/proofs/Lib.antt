@@ -6,3 +6,7 @@ pub mod Read
 pub mod Sound
 pub mod Erase
 pub mod Complete
+pub mod Agree
+pub mod Sizes
+pub mod Theorems
+pub mod Demand3
