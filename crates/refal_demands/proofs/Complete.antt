@@ -241,7 +241,7 @@ reads-cTerms cs a h i z ih f L ts d b s st q r l l' e =
     useT (readsT h L ts₁ d (argument b s st f₁ h₁ x₁) (mark tokColon ∷ flatT i (mark (sepKind q) ∷ r)) (omega arith) k₁) (λ h₂ ts₂ m₂ k₂ e₂.
     eat L ts₂ (mark tokColon) (flatT i (mark (sepKind q) ∷ r)) (within d (argument b s st f₁ h₁ x₁) h₂) k₂ (λ a₃ b₃ ts₃ k₃ e₃.
     let w = enter L tokLBrace tokLBrace ts₃ (flatT i (mark (sepKind q) ∷ r)) d (matched d b s st f₁ h₁ x₁ h₂ b₃) (λ a'. matching b s st f₁ h₁ x₁ h₂ b₃)
-              (enters-matching L d b s st f₁ h₁ x₁ h₂ b₃) (begins i tokLBrace tokLBrace (mark (sepKind q)) r (omega arith) (sep-brace q)) k₃ in
+    (enters-matching L d b s st f₁ h₁ x₁ h₂ b₃) (begins i tokLBrace tokLBrace (mark (sepKind q)) r (omega arith) (sep-brace q)) k₃ in
     useT (readsT i L ts₃ d (matching b s st f₁ h₁ x₁ h₂ b₃) (mark (sepKind q) ∷ r) (omega arith) k₃) (λ i₄ ts₄ m₄ k₄ e₄.
     eat L ts₄ (mark (sepKind q)) r (within d (matching b s st f₁ h₁ x₁ h₂ b₃) i₄) k₄ (λ a₅ b₅ ts₅ k₅ e₅.
     let v = step-matching L ts₅ q d b s st f₁ h₁ x₁ h₂ b₃ i₄ a₅ b₅ in
@@ -312,7 +312,7 @@ useH R k = k (R .st) (R .g) (R .hs) (R .rest) (R .sameT) (R .sameC) (R .after) (
 readsH : (cs : Conditions) → AllC cs → (f : Terms) (L : ℕ) (ts : List Token) (d : ℕ) (b : Block) (s : Sentences) (r : List Flat) → depthT f ≤ d → depthC cs ≤ d → flatsOf ts ≡ flatT f (flatC cs (mark tokEquals ∷ r)) → ReadsH L ts d b s f cs r
 readsH cs ih f L ts d b s r l l' e =
     let n = enter L tokRBrace tokEof ts (flatT f (flatC cs (mark tokEquals ∷ r))) d (between d b s) (λ a. pattern b s a)
-              (enters-pattern L d b s) (begins-head cs f tokRBrace tokEof (mark tokEquals) r (omega arith) (omega arith) (omega arith)) e in
+    (enters-pattern L d b s) (begins-head cs f tokRBrace tokEof (mark tokEquals) r (omega arith) (omega arith) (omega arith)) e in
     useC (ih f L ts d b s (n .0) equals r l l' e) (λ g hs x rest m m' k e₁.
     record { st = n .0; g = g; hs = hs; rest = rest; sameT = m; sameC = m'; after = k; means = n .1 ∙ e₁ })
 
@@ -323,7 +323,7 @@ reads-sTerms s a f cs g z is ic L ts d b r l e =
     useS (is L ts d b (flatT f (flatC cs (mark tokEquals ∷ r₃))) (omega arith) e) (λ s₁ ts₁ m₁ k₁ e₁.
     useH (readsH cs ic f L ts₁ d b s₁ r₃ (omega arith) (omega arith) k₁) (λ st f₂ c₂ ts₂ m₂ n₂ k₂ e₂.
     let w = enter L tokComma tokComma ts₂ r₃ d (equated d b s₁ st f₂ c₂) (λ a'. result b s₁ st f₂ c₂)
-              (enters-result L d b s₁ st f₂ c₂) (begins g tokComma tokComma (mark tokSemicolon) r (omega arith) (omega arith)) k₂ in
+    (enters-result L d b s₁ st f₂ c₂) (begins g tokComma tokComma (mark tokSemicolon) r (omega arith) (omega arith)) k₂ in
     useT (readsT g L ts₂ d (result b s₁ st f₂ c₂) (mark tokSemicolon ∷ r) (omega arith) k₂) (λ g₃ ts₃ m₃ k₃ e₃.
     eat L ts₃ (mark tokSemicolon) r (within d (result b s₁ st f₂ c₂) g₃) k₃ (λ a₄ b₄ ts₄ k₄ e₄.
     record {

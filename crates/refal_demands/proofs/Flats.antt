@@ -44,6 +44,7 @@ flatT-is (tCall f a s l g b) r =
 
 mutual
   unfolding flatC flattenC
+
   pub flatC-is : (cs : Conditions) (r : List Flat) → flatC cs r ≡ flattenC cs ++ r
   flatC-is c0 r = refl
   flatC-is (cTerms cs a f g b) r =

@@ -4,8 +4,9 @@ pub mod Levels
 pub mod Fields
 pub mod Read
 pub mod Sound
-<<<<<<< HEAD
 pub mod Erase
 pub mod Complete
-=======
->>>>>>> a8910c3 (What the machine accepts flattens to what it read)
+pub mod Agree
+pub mod Sizes
+pub mod Theorems
+pub mod Demand3

@@ -131,9 +131,9 @@ module _ (L : ℕ) (ts : List Token) (next : Next L ts) (r : Program) (t : Token
       (term-cases (GoodTerm d c f) (t .kind) tokChar _ _ (λ e. leaf d c f _ (detailed t fields e))
       (term-cases (GoodTerm d c f) (t .kind) tokVariable _ _
       (λ e.
-        term-cases (GoodTerm d c f) (t .detail) 115 _ _ (λ h. leaf d c f _ (varied kindS 115 e h refl))
-        (term-cases (GoodTerm d c f) (t .detail) 116 _ _ (λ h. leaf d c f _ (varied kindT 116 e h refl))
-        (term-cases (GoodTerm d c f) (t .detail) 101 _ _ (λ h. leaf d c f _ (varied kindE 101 e h refl)) (stops _ _ _ _ _ _))))
+      term-cases (GoodTerm d c f) (t .detail) 115 _ _ (λ h. leaf d c f _ (varied kindS 115 e h refl))
+      (term-cases (GoodTerm d c f) (t .detail) 116 _ _ (λ h. leaf d c f _ (varied kindT 116 e h refl))
+      (term-cases (GoodTerm d c f) (t .detail) 101 _ _ (λ h. leaf d c f _ (varied kindE 101 e h refl)) (stops _ _ _ _ _ _))))
       (term-cases (GoodTerm d c f) (t .kind) tokLParen _ _ (λ e. opening d e)
       (term-cases (GoodTerm d c f) (t .kind) tokLAngle _ _ (λ e. calls d e) (soundEnd d c f))))))
     where
@@ -196,8 +196,8 @@ module _ (L : ℕ) (ts : List Token) (next : Next L ts) (r : Program) (t : Token
       on-cases (Good (named p a ns)) (t .kind) tokComma _ _ (λ e. goes _ _ _ (plain t tokComma (λ d s l. refl) fields e) refl refl (λ o. o)) (λ n₁.
       on-cases (Good (named p a ns)) (t .kind) tokSemicolon _ _
       (λ e. ends-item _ _ (mark tokSemicolon) (flatDeclaration ns) (plain t tokSemicolon (λ d s l. refl) fields e)
-        (ap (λ (q : List Flat). mark tokExtern ∷ q) (flatN-is ns (mark tokSemicolon ∷ flatsOf ts)) ∙ simp append-assoc)
-        (λ l₀ h. loose-declaration h) (λ o. o)) (λ n₂.
+      (ap (λ (q : List Flat). mark tokExtern ∷ q) (flatN-is ns (mark tokSemicolon ∷ flatsOf ts)) ∙ simp append-assoc)
+      (λ l₀ h. loose-declaration h) (λ o. o)) (λ n₂.
       stops _ _ _ _ _ _))
   soundStep (entered p a) z =
       on-cases (Good (entered p a)) (t .kind) tokIdentifier _ _ (λ e. goes _ _ _ (texted t tokIdentifier (λ d s l. refl) fields e) refl refl (λ o. o)) (λ n. stops _ _ _ _ _ _)
@@ -231,7 +231,7 @@ module _ (L : ℕ) (ts : List Token) (next : Next L ts) (r : Program) (t : Token
   soundStep (ended d b s st f cs a g v e') z =
       on-cases (Good (ended d b s st f cs a g v e')) (t .kind) tokSemicolon _ _
       (λ e. goes _ _ _ (plain t tokSemicolon (λ d s l. refl) fields e) refl refl
-        (λ o. ((let h₀ = o .0 in let h₁ = h₀ .sentences in let h₂ = h₀ .pattern in let h₃ = h₀ .conditions in let h₄ = o .1 in let h₅ = o .2 in omega arith), o .3)))
+      (λ o. ((let h₀ = o .0 in let h₁ = h₀ .sentences in let h₂ = h₀ .pattern in let h₃ = h₀ .conditions in let h₄ = o .1 in let h₅ = o .2 in omega arith), o .3)))
       (λ n. stops _ _ _ _ _ _)
 
 pub sound : (L : ℕ) (ts : List Token) → Ends ts → Next L ts

@@ -1,1 +1,4 @@
--- The theorems' statements.
+-- The theorems' statements: Demand3 (with Trees and Spans, the terms in which it is stated).
+pub mod Spans
+pub mod Trees
+pub mod Demand3

@@ -1,0 +1,111 @@
+-- Demand 3, first half, holds of every list of token words that check 30 passes and all node words lent.
+use mathlib.Core.Path.{_≡_, refl, sym, ap, subst, _∙_}
+use Prim.Native.Nat.{ℕ, _*_, _≤_}
+use mathlib.Core.List.{List, [], _∷_, _++_}
+use mathlib.Core.Bool.{Bool, true, false}
+use native.Mathlib.Omega.{arith}
+use lib.Dec.{leb}
+use lib.ListN.{length, take, drop, replicate}
+use lib.Seq.{take-at}
+use borrow.Author.Tests.{leb-true, le-leb}
+use Rattle.refal_rows.specs.Rows.{pickList}
+use Rattle.refal_ast.specs.Kinds.{tokEof}
+use Rattle.refal_ast.specs.Answers.{refusal, pickAnswer}
+use Rattle.refal_ast.specs.Tokens.{Token, tokensOf}
+use Rattle.refal_ast.specs.Check.{wellFormed}
+use Rattle.refal_ast.specs.Tree.{Program, sizeP, depthP}
+use Rattle.refal_ast.specs.Encode.{nodeWidth, encP}
+use Rattle.refal_ast.specs.Flatten.{Flat, mark, flatOf, flatsOf, Loose}
+use Rattle.refal_ast.specs.declared.Answer.{Answer}
+use Rattle.refal_ast.specs.declared.Answer.the-variants.{Done, Refused}
+use Rattle.refal_parser.specs.Machine.{Outcome, tree, refuse}
+use Rattle.refal_parser.specs.Parse.{parsed, fits, answerOf, rowsLeft, parseAnswer, parseRows}
+use Rattle.refal_demands.specs.Spans.{SameButSpans}
+use Rattle.refal_demands.specs.Trees.{Lawful, withoutLast, tokensBeforeEof, Flattens}
+use Rattle.refal_demands.specs.Demand3.{Fits, parserTree, Demand3}
+use Rattle.refal_demands.proofs.Fields.{Ends, ends, plain}
+use Rattle.refal_demands.proofs.Erase.{eraseP}
+use Rattle.refal_demands.proofs.Agree.{size-eraseP, same-rows}
+use Rattle.refal_demands.proofs.Sizes.{longP}
+use Rattle.refal_demands.proofs.Theorems.{ok-tokens, soundness, completeness, uniqueness}
+
+-- what an answer of success says of the outcome
+record Success (o : Outcome) (B : List ℕ) (m : ℕ) : Type 0 where
+  t : Program
+  is : o ≡ tree t
+  size : m ≡ sizeP t
+  room : nodeWidth * sizeP t ≤ length B
+
+success : (o : Outcome) (B : List ℕ) (m : ℕ) → answerOf o B ≡ Done m → Success o B m
+success (refuse number expected found from to) B m e = let z : _≡_ {A = ℕ} 0 1 = cc in let y : ⊥ = omega arith in absurd y
+success (tree t) B m e = go (fits t B) refl e
+  where
+    go : (b : Bool) → fits t B ≡ b → pickAnswer b (Done (sizeP t)) (Refused (refusal 38 0 0 0 0 (sizeP t))) ≡ Done m → Success (tree t) B m
+    go true f h = record { t = t; is = refl; size = cc; room = leb-true (nodeWidth * sizeP t) (length B) f }
+    go false f h = let z : _≡_ {A = ℕ} 0 1 = cc in let y : ⊥ = omega arith in absurd y
+
+-- then the rows left begin with the tree's
+parser-tree : (w B : List ℕ) (m : ℕ) (t : Program) → parsed w ≡ tree t → m ≡ sizeP t → nodeWidth * sizeP t ≤ length B → parserTree w B m ≡ encP t 0
+parser-tree w B m t e s r =
+    ap (λ (o : Outcome). take (nodeWidth * m) (rowsLeft o B)) e
+    ∙ ap (λ (b : Bool). take (nodeWidth * m) (pickList b (encP t 0 ++ drop (nodeWidth * sizeP t) B) (replicate (length B) 0))) (le-leb (nodeWidth * sizeP t) (length B) r)
+    ∙ take-at (encP t 0) (drop (nodeWidth * sizeP t) B) (nodeWidth * m) (longP t 0 ∙ ap (λ (k : ℕ). nodeWidth * k) (sym s))
+
+without-last : (l : List Flat) (c : Flat) → withoutLast (l ++ (c ∷ [])) ≡ l
+without-last [] c = refl
+without-last (x ∷ []) c = refl
+without-last (x ∷ y ∷ l) c = ap (λ (k : List Flat). x ∷ k) (without-last (y ∷ l) c)
+
+-- the tokens before Eof, and Eof
+with-eof : (ts : List Token) → Ends ts → flatsOf ts ≡ withoutLast (flatsOf ts) ++ (mark tokEof ∷ [])
+with-eof [] h = absurd h
+with-eof (t ∷ []) h = ap (λ (c : Flat). c ∷ []) (plain t tokEof (λ d s l. refl) (h .0) (h .1))
+with-eof (t ∷ u ∷ ts) h = ap (λ (l : List Flat). flatOf t ∷ l) (with-eof (u ∷ ts) (h .2))
+
+-- the parser's tree flattens to the tokens
+flattens : (w : List ℕ) (t : Program) → parsed w ≡ tree t → Loose t (tokensBeforeEof w)
+flattens w t e =
+    let s = soundness w t e in
+    subst (Loose t) (sym (ap withoutLast (s .1) ∙ without-last (s .0) (mark tokEof))) (s .2)
+
+is-deep : (w : List ℕ) (t : Program) → parsed w ≡ tree t → depthP t ≤ 64
+is-deep w t e = soundness w t e .3
+
+-- what parsing accepts
+gives : (w B : List ℕ) (m : ℕ) → parseAnswer w B ≡ Done m → Fits w B (parserTree w B m) × (length (parserTree w B m) ≡ nodeWidth * m)
+gives w B m e =
+    let S = success (parsed w) B m e in
+    let r : parserTree w B m ≡ encP (S .t) 0 = parser-tree w B m (S .t) (S .is) (S .size) (S .room) in
+    let l : length (parserTree w B m) ≡ nodeWidth * sizeP (S .t) = ap length r ∙ longP (S .t) 0 in
+    let s = S .size in
+    let k = S .room in (
+      record { lawful = record { program = S .t; rows = r }; deep = is-deep w (S .t) (S .is); room = omega arith; flattens = flattens w (S .t) (S .is) },
+      l ∙ ap (λ (x : ℕ). nodeWidth * x) (sym s),
+    )
+
+accepted : (w B T : List ℕ) → wellFormed w ≡ true → Fits w B T → (m : ℕ) × (parseAnswer w B ≡ Done m)
+accepted w B T g f =
+    let p = f .lawful .program in
+    let c = completeness w p (tokensBeforeEof w) g (f .deep) (f .flattens) (with-eof (tokensOf w) (ends (tokensOf w) (ok-tokens w g))) in
+    let l = f .room in
+    let l₁ : length T ≡ nodeWidth * sizeP p = ap length (f .lawful .rows) ∙ longP p 0 in
+    let s : sizeP (c .0) ≡ sizeP p = sym (size-eraseP (c .0)) ∙ ap sizeP (c .2) ∙ size-eraseP p in
+    let r : nodeWidth * sizeP (c .0) ≤ length B = omega arith in (
+      sizeP (c .0),
+      ap (λ (o : Outcome). answerOf o B) (c .1)
+          ∙ ap (λ (b : Bool). pickAnswer b (Done (sizeP (c .0))) (Refused (refusal 38 0 0 0 0 (sizeP (c .0))))) (le-leb (nodeWidth * sizeP (c .0)) (length B) r),
+    )
+
+one : (w B : List ℕ) (m : ℕ) → parseAnswer w B ≡ Done m → (T : List ℕ) (t : Lawful T) → Flattens t w → SameButSpans T (parserTree w B m)
+one w B m e T t f =
+    let S = success (parsed w) B m e in
+    let r : parserTree w B m ≡ encP (S .t) 0 = parser-tree w B m (S .t) (S .is) (S .size) (S .room) in
+    let u = same-rows (t .program) (S .t) (uniqueness (t .program) (S .t) (tokensBeforeEof w) f (flattens w (S .t) (S .is))) in
+    subst (λ (x : List ℕ). SameButSpans x (parserTree w B m)) (sym (t .rows)) (subst (λ (x : List ℕ). SameButSpans (encP (t .program) 0) x) (sym r) u)
+
+pub demand3 : (w B : List ℕ) → wellFormed w ≡ true → Demand3 w B
+demand3 w B g = record {
+  accepts = (λ a. (parserTree w B (a .0), gives w B (a .0) (a .1) .0), λ a. accepted w B (a .0) g (a .1));
+  gives = gives w B;
+  one = one w B;
+}

@@ -1,0 +1,11 @@
+-- Equality of trees of rows, spans aside, as document 01 has it: "as many rows, and agree in every word but the two of the span".
+use mathlib.Core.Path.{_≡_}
+use Prim.Native.Nat.{ℕ, _%_}
+use mathlib.Core.List.{List}
+use lib.ListN.{length, getD}
+use Rattle.refal_ast.specs.Encode.{nodeWidth}
+
+-- a row's words 4 and 5 are its span's start and end
+pub record SameButSpans (T U : List ℕ) : Type 0 where
+  pub rows : length T ≡ length U
+  pub word : (i : ℕ) → (i % nodeWidth ≡ 4 → ⊥) → (i % nodeWidth ≡ 5 → ⊥) → getD T i 0 ≡ getD U i 0
