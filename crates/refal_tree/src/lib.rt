@@ -1,0 +1,1 @@
+// Trees of rows: whether words are the rows of a lawful tree.
