@@ -1,0 +1,129 @@
+-- A tree's words are those of its forest.
+use Prim.Native.Nat.{ℕ, zero, suc, _+_}
+use mathlib.Core.List.{List, [], _∷_, _++_, append-assoc, append-nil}
+use mathlib.Core.Path.{_≡_, refl, sym, ap, subst, _∙_}
+use native.Mathlib.Omega.{arith}
+use Rattle.refal_ast.specs.Tree.{Leaf, symbol, variable, Terms, t0, tLeaf, tBracket, tCall, Conditions, c0, cTerms, cBlock, Sentences, s0, sTerms, sBlock, Names, nOne, nMore, Program, p0, pDeclaration, pFunction, sizeT, sizeC, sizeS, sizeN, sizeP}
+use Rattle.refal_ast.specs.Encode.{entryWord, node, leafRow, encT, encTerms, encC, encS, encN, encP}
+use Rattle.refal_ast.specs.declared.tree.Symbol.{Symbol}
+use Rattle.refal_ast.specs.declared.tree.Symbol.the-variants.{Char, Identifier, Number}
+use Rattle.refal_tree.specs.Forest.{Row, row, Forest, empty, tree, sizeG, rowWords, encG}
+use Rattle.refal_tree.specs.Typed.{leafR, plain, forT, forTerms, forC, forS, nameR, forN, forP, toForest}
+
+-- op puts k rows, with the words E, before a forest; the first is row n
+pub record Part (op : Forest → Forest) (n k : ℕ) (E : List ℕ) : Type 0 where
+  pub size : (g : Forest) → sizeG (op g) ≡ k + sizeG g
+  pub words : (g : Forest) → encG (op g) n ≡ E ++ encG g (n + k)
+
+part-none : (n : ℕ) → Part (λ (g : Forest). g) n 0 []
+part-none n = record { size = λ g. omega arith; words = λ g. ap (encG g) (let e : n ≡ n + 0 = omega arith in e) }
+
+part-then : {op₁ op₂ : Forest → Forest} {n k₁ m k₂ : ℕ} {E₁ E₂ : List ℕ} → Part op₁ n k₁ E₁ → m ≡ n + k₁ → Part op₂ m k₂ E₂ → Part (λ (g : Forest). op₁ (op₂ g)) n (k₁ + k₂) (E₁ ++ E₂)
+part-then {op₁} {op₂} {n} {k₁} {m} {k₂} {E₁} {E₂} p e q = record {
+  size = λ g. let a = p .size (op₂ g) in let b = q .size g in omega arith;
+  words = λ g.
+      p .words (op₂ g)
+      ∙ ap (λ (x : ℕ). E₁ ++ encG (op₂ g) x) (sym e)
+      ∙ ap (λ (l : List ℕ). E₁ ++ l) (q .words g)
+      ∙ ap (λ (x : ℕ). E₁ ++ (E₂ ++ encG g x)) (let z : m + k₂ ≡ n + (k₁ + k₂) = omega arith in z)
+      ∙ sym (append-assoc E₁ E₂ (encG g (n + (k₁ + k₂))));
+}
+
+-- a row above what op puts
+part-row : {op : Forest → Forest} {n m k next : ℕ} {E : List ℕ} (r : Row) → m ≡ n + 1 → next ≡ m + k → Part op m k E → Part (λ (g : Forest). tree r (op empty) g) n (1 + k) (rowWords r next ++ E)
+unfolding sizeG encG
+part-row {op} {n} {m} {k} {next} {E} r e f p = record {
+  size = λ g. let a = p .size empty in omega arith;
+  words = λ g.
+      let a = p .size empty in
+      let u : n + 1 + sizeG (op empty) ≡ next = omega arith in
+      let v : n + 1 ≡ m = omega arith in
+      let z : next ≡ n + (1 + k) = omega arith in
+      ap (λ (x : ℕ). rowWords r x ++ (encG (op empty) (n + 1) ++ encG g x)) u
+      ∙ ap (λ (x : ℕ). rowWords r next ++ (encG (op empty) x ++ encG g next)) v
+      ∙ ap (λ (l : List ℕ). rowWords r next ++ (l ++ encG g next)) (p .words empty ∙ append-nil E)
+      ∙ ap (λ (x : ℕ). rowWords r next ++ (E ++ encG g x)) z;
+}
+
+part-size : {op : Forest → Forest} {n k k' : ℕ} {E : List ℕ} → k ≡ k' → Part op n k E → Part op n k' E
+part-size {op} {n} {k} {k'} {E} e p = subst (λ (x : ℕ). Part op n x E) e p
+
+-- a row with nothing below it
+part-leaf : (r : Row) (n next : ℕ) → next ≡ n + 1 → Part (λ (g : Forest). tree r empty g) n 1 (rowWords r next)
+part-leaf r n next e = part-row r refl (let z : next ≡ n + 1 + 0 = omega arith in z) (part-none (n + 1))
+
+leaf-words : (x : Leaf) (a b next : ℕ) → rowWords (leafR x a b) next ≡ leafRow x a b next
+leaf-words (symbol (Char x)) a b next = refl
+leaf-words (symbol (Identifier s l)) a b next = refl
+leaf-words (symbol (Number s l)) a b next = refl
+leaf-words (variable v s l) a b next = refl
+
+pub part-T : (f : Terms) (n : ℕ) → Part (forT f) n (sizeT f) (encT f n)
+unfolding forT sizeT encT
+part-T t0 n = part-none n
+part-T (tLeaf f x a b) n =
+    subst (λ (l : List ℕ). Part (λ (g : Forest). forT f (tree (leafR x a b) empty g)) n (sizeT f + 1) (encT f n ++ l)) (leaf-words x a b (n + sizeT f + 1))
+    (part-then (part-T f n) refl (part-leaf (leafR x a b) (n + sizeT f) (n + sizeT f + 1) refl))
+part-T (tBracket f a t b) n = part-then (part-T f n) refl (part-row (plain 13 a b) refl refl (part-T t (n + sizeT f + 1)))
+part-T (tCall f a s l t b) n = part-then (part-T f n) refl (part-row (row 14 0 s l a b) refl refl (part-T t (n + sizeT f + 1)))
+
+pub part-terms : (f : Terms) (n : ℕ) → Part (forTerms f) n (1 + sizeT f) (encTerms f n)
+part-terms f n = part-row (plain 6 0 0) refl refl (part-T f (n + 1))
+
+mutual
+  unfolding forC sizeC encC forS sizeS encS
+  pub part-C : (cs : Conditions) (n : ℕ) → Part (forC cs) n (sizeC cs) (encC cs n)
+  part-C c0 n = part-none n
+  part-C (cTerms cs a f t b) n =
+      let m : ℕ = n + sizeC cs + 1 in
+      part-size (let z : sizeC cs + (1 + (1 + sizeT f + (1 + sizeT t))) ≡ sizeC cs + (3 + sizeT f + sizeT t) = omega arith in z)
+      (part-then (part-C cs n) refl
+      (part-row (plain 5 a b) refl (let z : m + 1 + sizeT f + 1 + sizeT t ≡ m + (1 + sizeT f + (1 + sizeT t)) = omega arith in z)
+      (part-then (part-terms f m) (let z : m + 1 + sizeT f ≡ m + (1 + sizeT f) = omega arith in z) (part-terms t (m + 1 + sizeT f)))))
+  part-C (cBlock cs a f o v e b) n =
+      let m : ℕ = n + sizeC cs + 1 in
+      part-size (let z : sizeC cs + (1 + (1 + sizeT f + (1 + sizeS v))) ≡ sizeC cs + (3 + sizeT f + sizeS v) = omega arith in z)
+      (part-then (part-C cs n) refl
+      (part-row (plain 5 a b) refl (let z : m + 1 + sizeT f + 1 + sizeS v ≡ m + (1 + sizeT f + (1 + sizeS v)) = omega arith in z)
+      (part-then (part-terms f m) (let z : m + 1 + sizeT f ≡ m + (1 + sizeT f) = omega arith in z)
+      (part-row (plain 8 o e) refl refl (part-S v (m + 1 + sizeT f + 1))))))
+
+  pub part-S : (s : Sentences) (n : ℕ) → Part (forS s) n (sizeS s) (encS s n)
+  part-S s0 n = part-none n
+  part-S (sTerms s a f cs t b) n =
+      let m : ℕ = n + sizeS s + 1 in
+      part-size (let z : sizeS s + (1 + (1 + sizeT f + (sizeC cs + (1 + sizeT t)))) ≡ sizeS s + (3 + sizeT f + sizeC cs + sizeT t) = omega arith in z)
+      (part-then (part-S s n) refl
+      (part-row (plain 4 a b) refl (let z : m + 1 + sizeT f + sizeC cs + 1 + sizeT t ≡ m + (1 + sizeT f + (sizeC cs + (1 + sizeT t))) = omega arith in z)
+      (part-then (part-terms f m) (let z : m + 1 + sizeT f ≡ m + (1 + sizeT f) = omega arith in z)
+      (part-then (part-C cs (m + 1 + sizeT f)) refl (part-terms t (m + 1 + sizeT f + sizeC cs))))))
+  part-S (sBlock s a f cs o t v e b) n =
+      let m : ℕ = n + sizeS s + 1 in
+      let j : ℕ = m + 1 + sizeT f + sizeC cs in
+      part-size (let z : sizeS s + (1 + (1 + sizeT f + (sizeC cs + (1 + (1 + sizeT t + sizeS v))))) ≡ sizeS s + (4 + sizeT f + sizeC cs + sizeT t + sizeS v) = omega arith in z)
+      (part-then (part-S s n) refl
+      (part-row (plain 4 a b) refl (let z : j + 1 + 1 + sizeT t + sizeS v ≡ m + (1 + sizeT f + (sizeC cs + (1 + (1 + sizeT t + sizeS v)))) = omega arith in z)
+      (part-then (part-terms f m) (let z : m + 1 + sizeT f ≡ m + (1 + sizeT f) = omega arith in z)
+      (part-then (part-C cs (m + 1 + sizeT f)) refl
+      (part-row (plain 7 o e) refl (let z : j + 1 + 1 + sizeT t + sizeS v ≡ j + 1 + (1 + sizeT t + sizeS v) = omega arith in z)
+      (part-then (part-terms t (j + 1)) (let z : j + 1 + 1 + sizeT t ≡ j + 1 + (1 + sizeT t) = omega arith in z) (part-S v (j + 1 + 1 + sizeT t))))))))
+
+pub part-N : (ns : Names) (n : ℕ) → Part (forN ns) n (sizeN ns) (encN ns n)
+unfolding forN sizeN encN
+part-N (nOne s l) n = part-leaf (nameR s l) n (n + 1) refl
+part-N (nMore ns s l) n = part-then (part-N ns n) refl (part-leaf (nameR s l) (n + sizeN ns) (n + sizeN ns + 1) refl)
+
+pub part-P : (p : Program) (n : ℕ) → Part (forP p) n (sizeP p) (encP p n)
+unfolding forP sizeP encP
+part-P p0 n = part-none n
+part-P (pDeclaration p a ns b) n = part-then (part-P p n) refl (part-row (plain 1 a b) refl refl (part-N ns (n + sizeP p + 1)))
+part-P (pFunction p a x s l v b) n = part-then (part-P p n) refl (part-row (row 3 (entryWord x) s l a b) refl refl (part-S v (n + sizeP p + 1)))
+
+-- the words of a tree, and the count of its rows
+pub enc-tree : (p : Program) (n : ℕ) → encG (toForest p) n ≡ encP p n
+unfolding encG
+enc-tree p n = part-P p n .words empty ∙ append-nil (encP p n)
+
+pub size-tree : (p : Program) → sizeG (toForest p) ≡ sizeP p
+unfolding sizeG
+size-tree p = let a = part-P p 0 .size empty in omega arith
