@@ -94,6 +94,7 @@ cut-is (tree r f k) m x g h e = go (λ (g' h' : Forest). cut-is k (m + 1 + sizeG
         let p : x ≡ m + (1 + sizeG f + sizeG g') = let s = i .place in omega arith in
         subst (λ (y : Forest). IsCut (tree r f k) m x y h) u
         (subst (λ (y : Forest). IsCut (tree r f k) m x (tree r f g') y) v (record { parts = ap (λ (y : Forest). tree r f y) (i .parts); place = p }))
+
     go : ((g' h' : Forest) → cut k (m + 1 + sizeG f) x ≡ cutAt g' h' → IsCut k (m + 1 + sizeG f) x g' h') → (b : Bool) → eqb m x ≡ b → pickCut b (cutAt empty (tree r f k)) (cutMore r f (cut k (m + 1 + sizeG f) x)) ≡ cutAt g h → IsCut (tree r f k) m x g h
     go ih true q e =
         let u : empty ≡ g = cc in

@@ -64,6 +64,7 @@ ok-inner f left h = ok-T f left empty h
 
 mutual
   unfolding forC forS depthC depthS okG
+
   pub ok-C : (cs : Conditions) (left : ℕ) (g : Forest) → depthC cs ≤ left → okG atConditions left (forC cs g) ≡ okG atConditions left g
   ok-C c0 left g h = refl
   ok-C (cTerms cs a f t b) left g h =
@@ -119,18 +120,18 @@ ok-P (pFunction p a x s l v b) left g h =
     ∙ ok-tree atItems left (row 3 (entryWord x) s l a b) (forS v empty) g (ok-function x left s l a b) (ok-S v left empty (omega arith))
 
 -- ---- the tree of a tree's forest
-leaf-back : (f : Terms) (x : Leaf) (a b : ℕ) → addTerm f (leafR x a b) t0 ≡ tLeaf f x a b
-leaf-back f (symbol (Char x)) a b = refl
-leaf-back f (symbol (Identifier s l)) a b = refl
-leaf-back f (symbol (Number s l)) a b = refl
-leaf-back f (variable kindS s l) a b = refl
-leaf-back f (variable kindT s l) a b = refl
-leaf-back f (variable kindE s l) a b = refl
+pub leaf-back : (f : Terms) (x : Leaf) (a b : ℕ) (t : Terms) → addTerm f (leafR x a b) t ≡ tLeaf f x a b
+leaf-back f (symbol (Char x)) a b t = refl
+leaf-back f (symbol (Identifier s l)) a b t = refl
+leaf-back f (symbol (Number s l)) a b t = refl
+leaf-back f (variable kindS s l) a b t = refl
+leaf-back f (variable kindT s l) a b t = refl
+leaf-back f (variable kindE s l) a b t = refl
 
 pub back-T : (f : Terms) (g : Forest) → getT t0 (forT f g) ≡ getT f g
 unfolding forT getT
 back-T t0 g = refl
-back-T (tLeaf f x a b) g = back-T f (tree (leafR x a b) empty g) ∙ ap (λ (t : Terms). getT t g) (leaf-back f x a b)
+back-T (tLeaf f x a b) g = back-T f (tree (leafR x a b) empty g) ∙ ap (λ (t : Terms). getT t g) (leaf-back f x a b t0)
 back-T (tBracket f a t b) g = back-T f (tree (plain 13 a b) (forT t empty) g) ∙ ap (λ (y : Terms). getT (tBracket f a y b) g) (back-T t empty)
 back-T (tCall f a s l t b) g = back-T f (tree (row 14 0 s l a b) (forT t empty) g) ∙ ap (λ (y : Terms). getT (tCall f a s l y b) g) (back-T t empty)
 
@@ -140,6 +141,7 @@ inner-T f = back-T f empty
 
 mutual
   unfolding forC forS getS getSentence getTail getBlock getCondition getRight
+
   pub back-C : (s : Sentences) (r : Row) (p : Terms) (cs : Conditions) (g : Forest) → getTail s r p c0 (forC cs g) ≡ getTail s r p cs g
   back-C s r p c0 g = refl
   back-C s r p (cTerms cs a f t b) g =
@@ -172,7 +174,7 @@ unfolding forN getN getNs
 back-N (nOne s l) g = refl
 back-N (nMore ns s l) g = back-N ns (tree (nameR s l) empty g)
 
-entry-back : (x : Bool) → eqb (entryWord x) 1 ≡ x
+pub entry-back : (x : Bool) → eqb (entryWord x) 1 ≡ x
 entry-back true = refl
 entry-back false = refl
 

@@ -72,6 +72,7 @@ part-terms f n = part-row (plain 6 0 0) refl refl (part-T f (n + 1))
 
 mutual
   unfolding forC sizeC encC forS sizeS encS
+
   pub part-C : (cs : Conditions) (n : ℕ) → Part (forC cs) n (sizeC cs) (encC cs n)
   part-C c0 n = part-none n
   part-C (cTerms cs a f t b) n =

@@ -1,0 +1,337 @@
+-- A forest that keeps the rules is the forest of a tree that is no deeper than the levels.
+use Prim.Native.Nat.{ℕ, zero, suc, max, _+_, _≤_, _<_}
+use mathlib.Core.Bool.{Bool, true, false, _&&_}
+use mathlib.Core.Path.{_≡_, refl, sym, ap, subst, _∙_}
+use native.Mathlib.Omega.{arith}
+use lib.Dec.{eqb, leb}
+use borrow.Author.Tests.{leb-true}
+use Rattle.refal_rows.specs.Tests.{and-left, and-right}
+use Rattle.refal_ast.specs.Tree.{Leaf, symbol, variable, Terms, t0, tLeaf, tBracket, tCall, Conditions, c0, cTerms, cBlock, Sentences, s0, sTerms, sBlock, Names, nOne, nMore, Program, p0, pDeclaration, pFunction, depthT, depthC, depthS, depthP}
+use Rattle.refal_ast.specs.Encode.{entryWord, letterOf}
+use Rattle.refal_ast.specs.declared.tree.Symbol.{Symbol}
+use Rattle.refal_ast.specs.declared.tree.Symbol.the-variants.{Char, Identifier, Number}
+use Rattle.refal_tree.specs.Forest.{Row, row, Forest, empty, tree}
+use Rattle.refal_tree.specs.States.{wrong, atItems, atName, atNames, atSentences, atPattern, atConditions, atCondition, atColon, atTerms, atArgument, closed, inside, after, below, lower}
+use Rattle.refal_tree.specs.Rules.{rowOk, okG}
+use Rattle.refal_tree.specs.Typed.{leafR, plain, forT, forTerms, forC, forS, nameR, forN, forP, toForest, addTerm, addItem, getT, getS, getSentence, getTail, getBlock, getCondition, getRight, getNs, getN, getP, programOf}
+use Rattle.refal_tree.specs.TypedRules.{leaf-back, entry-back}
+use Rattle.refal_tree.specs.Views.{never, TermRow, isLeaf, isBracket, isCall, ItemRow, isDeclaration, isFunction, NameRow, isName, PlainRow, isPlain, TermsRow, isTerms, TailRow, isCondition, isResult, isEnding, RightRow, isRight, isBlock, Kept, kept, item-row, name-row, names-row, sentence-row, pattern-row, condition-row, argument-row, tail-row, right-row, term-row}
+
+-- what keeping the rules says of a row, of its children and of what follows
+pub record Parts (st left : ℕ) (r : Row) (f g : Forest) : Type 0 where
+  pub here : Kept st left r
+  pub kids : okG (inside (r .kind)) (below st (r .kind) left) f ≡ true
+  pub rest : okG (after st (r .kind)) left g ≡ true
+
+pub parts : (st left : ℕ) (r : Row) (f g : Forest) → okG st left (tree r f g) ≡ true → Parts st left r f g
+unfolding okG
+parts st left r f g h =
+    let x : Bool = rowOk st left r in
+    let y : Bool = okG (inside (r .kind)) (below st (r .kind) left) f in
+    let z : Bool = okG (after st (r .kind)) left g in
+    record { here = kept st left r (and-left x (y && z) h); kids = and-left y z (and-right x (y && z) h); rest = and-right y z (and-right x (y && z) h) }
+
+pub closed-empty : (left : ℕ) (f : Forest) → okG closed left f ≡ true → f ≡ empty
+closed-empty left empty h = refl
+closed-empty left (tree r f g) h = never (parts closed left r f g h .here .fit)
+
+-- one level up
+raise : (d left : ℕ) → leb 1 left ≡ true → d ≤ lower left → suc d ≤ left
+raise d zero h i = let z = leb-true 1 zero h in absurd (omega arith)
+raise d (suc n) h i = omega arith
+
+suc-lower : (left : ℕ) → leb 1 left ≡ true → suc (lower left) ≡ left
+suc-lower zero h = let z = leb-true 1 zero h in absurd (omega arith)
+suc-lower (suc n) h = refl
+
+-- ---- terms
+pub record TermsOf (left : ℕ) (t : Terms) (f : Forest) : Type 0 where
+  pub forest : forT (getT t f) empty ≡ forT t f
+  pub deep : depthT t ≤ left → depthT (getT t f) ≤ left
+
+leaf-kids : (x : Leaf) (a b left : ℕ) (f : Forest) → okG (inside (leafR x a b .kind)) left f ≡ true → f ≡ empty
+leaf-kids (symbol (Char x)) a b left f h = closed-empty left f h
+leaf-kids (symbol (Identifier s l)) a b left f h = closed-empty left f h
+leaf-kids (symbol (Number s l)) a b left f h = closed-empty left f h
+leaf-kids (variable v s l) a b left f h = closed-empty left f h
+
+leaf-after : (x : Leaf) (a b : ℕ) → after atTerms (leafR x a b .kind) ≡ atTerms
+leaf-after (symbol (Char x)) a b = refl
+leaf-after (symbol (Identifier s l)) a b = refl
+leaf-after (symbol (Number s l)) a b = refl
+leaf-after (variable v s l) a b = refl
+
+abbrev AllT : Forest → Type 0
+AllT f = (left : ℕ) (t : Terms) → okG atTerms left f ≡ true → TermsOf left t f
+
+term-step : (r : Row) (f g : Forest) (left : ℕ) (t : Terms) → TermRow r → Parts atTerms left r f g → AllT f → AllT g → TermsOf left t (tree r f g)
+unfolding forT getT depthT
+term-step _ f g left t (isLeaf x a b) p kids rest =
+    let n = rest left (tLeaf t x a b) (ap (λ (st : ℕ). okG st left g) (sym (leaf-after x a b)) ∙ p .rest) in
+    let q = leaf-back t x a b (getT t0 f) in
+    record {
+      forest =
+          ap (λ (y : Terms). forT (getT y g) empty) q
+          ∙ n .forest
+          ∙ ap (λ (y : Forest). forT t (tree (leafR x a b) y g)) (sym (leaf-kids x a b (below atTerms (leafR x a b .kind) left) f (p .kids)));
+      deep = λ d. subst (λ (y : Terms). depthT (getT y g) ≤ left) (sym q) (n .deep d);
+    }
+term-step _ f g left t (isBracket a b) p kids rest =
+    let k = kids (lower left) t0 (p .kids) in
+    let n = rest left (tBracket t a (getT t0 f) b) (p .rest) in
+    record {
+      forest = n .forest ∙ ap (λ (y : Forest). forT t (tree (plain 13 a b) y g)) (k .forest);
+      deep = λ d. let i = raise (depthT (getT t0 f)) left (p .here .deep) (k .deep (omega arith)) in n .deep (omega arith);
+    }
+term-step _ f g left t (isCall s l a b) p kids rest =
+    let k = kids (lower left) t0 (p .kids) in
+    let n = rest left (tCall t a s l (getT t0 f) b) (p .rest) in
+    record {
+      forest = n .forest ∙ ap (λ (y : Forest). forT t (tree (row 14 0 s l a b) y g)) (k .forest);
+      deep = λ d. let i = raise (depthT (getT t0 f)) left (p .here .deep) (k .deep (omega arith)) in n .deep (omega arith);
+    }
+
+pub sound-T : (f : Forest) (left : ℕ) (t : Terms) → okG atTerms left f ≡ true → TermsOf left t f
+unfolding getT
+sound-T empty left t h = record { forest = refl; deep = λ d. d }
+sound-T (tree r f g) left t h =
+    let p = parts atTerms left r f g h in term-step r f g left t (term-row (p .here)) p (sound-T f) (sound-T g)
+
+-- the terms of a Terms row
+terms-of : (f : Forest) (left : ℕ) → okG atTerms left f ≡ true → forT (getT t0 f) empty ≡ f
+unfolding forT
+terms-of f left h = sound-T f left t0 h .forest
+
+terms-deep : (f : Forest) (left : ℕ) → okG atTerms left f ≡ true → depthT (getT t0 f) ≤ left
+unfolding depthT
+terms-deep f left h = sound-T f left t0 h .deep (omega arith)
+
+-- ---- sentences and conditions
+pub record SentencesOf (left : ℕ) (s : Sentences) (f : Forest) : Type 0 where
+  pub forest : forS (getS s f) empty ≡ forS s f
+  pub deep : depthS s ≤ left → depthS (getS s f) ≤ left
+
+-- a sentence, of the row r
+pub record SentenceOf (left : ℕ) (s : Sentences) (r : Row) (f : Forest) : Type 0 where
+  pub forest : (g : Forest) → forS (getSentence s r f) g ≡ forS s (tree (plain 4 (r .from) (r .to)) f g)
+  pub deep : depthS s ≤ left → depthS (getSentence s r f) ≤ left
+
+-- the rest of a sentence, after its pattern p and conditions cs
+pub record TailOf (left : ℕ) (s : Sentences) (r : Row) (p : Terms) (cs : Conditions) (f : Forest) : Type 0 where
+  pub forest : (g : Forest) → forS (getTail s r p cs f) g ≡ forS s (tree (plain 4 (r .from) (r .to)) (forTerms p (forC cs f)) g)
+  pub deep : depthS s ≤ left → depthT p ≤ left → depthC cs ≤ left → depthS (getTail s r p cs f) ≤ left
+
+-- an ending block, of the row q
+pub record BlockOf (left : ℕ) (s : Sentences) (r : Row) (p : Terms) (cs : Conditions) (q : Row) (f : Forest) : Type 0 where
+  pub forest : (g : Forest) → forS (getBlock s r p cs q f) g ≡ forS s (tree (plain 4 (r .from) (r .to)) (forTerms p (forC cs (tree (plain 7 (q .from) (q .to)) f empty))) g)
+  pub deep : depthS s ≤ suc left → depthT p ≤ suc left → depthC cs ≤ suc left → depthS (getBlock s r p cs q f) ≤ suc left
+
+-- a condition, of the row r
+pub record ConditionOf (left : ℕ) (cs : Conditions) (r : Row) (f : Forest) : Type 0 where
+  pub forest : (g : Forest) → forC (getCondition cs r f) g ≡ forC cs (tree (plain 5 (r .from) (r .to)) f g)
+  pub deep : depthC cs ≤ left → depthC (getCondition cs r f) ≤ left
+
+-- the rest of a condition, after its first terms p
+pub record RightOf (left : ℕ) (cs : Conditions) (r : Row) (p : Terms) (f : Forest) : Type 0 where
+  pub forest : (g : Forest) → forC (getRight cs r p f) g ≡ forC cs (tree (plain 5 (r .from) (r .to)) (forTerms p f) g)
+  pub deep : depthC cs ≤ left → depthT p ≤ left → depthC (getRight cs r p f) ≤ left
+
+-- the same for a forest's part, whatever stands before it
+abbrev AllS : Forest → Type 0
+AllS f = (left : ℕ) (s : Sentences) → okG atSentences left f ≡ true → SentencesOf left s f
+
+abbrev AllSentence : Forest → Type 0
+AllSentence f = (left : ℕ) (s : Sentences) (r : Row) → okG atPattern left f ≡ true → SentenceOf left s r f
+
+abbrev AllTail : Forest → Type 0
+AllTail f = (left : ℕ) (s : Sentences) (r : Row) (p : Terms) (cs : Conditions) → okG atConditions left f ≡ true → TailOf left s r p cs f
+
+abbrev AllBlock : Forest → Type 0
+AllBlock f = (left : ℕ) (s : Sentences) (r : Row) (p : Terms) (cs : Conditions) (q : Row) → okG atArgument left f ≡ true → BlockOf left s r p cs q f
+
+abbrev AllCondition : Forest → Type 0
+AllCondition f = (left : ℕ) (cs : Conditions) (r : Row) → okG atCondition left f ≡ true → ConditionOf left cs r f
+
+abbrev AllRight : Forest → Type 0
+AllRight f = (left : ℕ) (cs : Conditions) (r : Row) (p : Terms) → okG atColon left f ≡ true → RightOf left cs r p f
+
+sentence-step : (r : Row) (f g : Forest) (left : ℕ) (s : Sentences) → PlainRow 4 r → Parts atSentences left r f g → AllSentence f → AllS g → SentencesOf left s (tree r f g)
+unfolding getS
+sentence-step _ f g left s (isPlain a b) p kids rest =
+    let k = kids left s (plain 4 a b) (p .kids) in
+    let n = rest left (getSentence s (plain 4 a b) f) (p .rest) in
+    record { forest = n .forest ∙ k .forest g; deep = λ d. n .deep (k .deep d) }
+
+pattern-step : (z : Row) (f g : Forest) (left : ℕ) (s : Sentences) (r : Row) → TermsRow z → Parts atPattern left z f g → AllTail g → SentenceOf left s r (tree z f g)
+unfolding getSentence forC depthC
+pattern-step _ f g left s r isTerms p rest =
+    let n = rest left s r (getT t0 f) c0 (p .rest) in
+    let t = terms-deep f left (p .kids) in
+    record {
+      forest = λ h. n .forest h ∙ ap (λ (y : Forest). forS s (tree (plain 4 (r .from) (r .to)) (tree (plain 6 0 0) y g) h)) (terms-of f left (p .kids));
+      deep = λ d. n .deep d t (omega arith);
+    }
+
+tail-step : (z : Row) (f g : Forest) (left : ℕ) (s : Sentences) (r : Row) (p : Terms) (cs : Conditions) → TailRow z → Parts atConditions left z f g → AllCondition f → AllBlock f → AllTail g → TailOf left s r p cs (tree z f g)
+unfolding getTail forC forS depthS
+tail-step _ f g left s r p cs (isCondition a b) q kids blocks rest =
+    let k = kids left cs (plain 5 a b) (q .kids) in
+    let n = rest left s r p (getCondition cs (plain 5 a b) f) (q .rest) in
+    record {
+      forest = λ h. n .forest h ∙ ap (λ (y : Forest). forS s (tree (plain 4 (r .from) (r .to)) (forTerms p y) h)) (k .forest g);
+      deep = λ d t c. n .deep d t (k .deep c);
+    }
+tail-step _ f g left s r p cs isResult q kids blocks rest =
+    let t = terms-deep f left (q .kids) in
+    record {
+      forest = λ h.
+          ap (λ (y : Forest). forS s (tree (plain 4 (r .from) (r .to)) (forTerms p (forC cs (tree (plain 6 0 0) y empty))) h)) (terms-of f left (q .kids))
+          ∙ ap (λ (y : Forest). forS s (tree (plain 4 (r .from) (r .to)) (forTerms p (forC cs (tree (plain 6 0 0) f y))) h)) (sym (closed-empty left g (q .rest)));
+      deep = λ d u c. omega arith;
+    }
+tail-step _ f g left s r p cs (isEnding a b) q kids blocks rest =
+    let k = blocks (lower left) s r p cs (plain 7 a b) (q .kids) in
+    let e = suc-lower left (q .here .deep) in
+    record {
+      forest = λ h.
+          k .forest h
+          ∙ ap (λ (y : Forest). forS s (tree (plain 4 (r .from) (r .to)) (forTerms p (forC cs (tree (plain 7 a b) f y))) h)) (sym (closed-empty left g (q .rest)));
+      deep = λ d u c. let i : depthS (getBlock s r p cs (plain 7 a b) f) ≤ suc (lower left) = k .deep (omega arith) (omega arith) (omega arith) in omega arith;
+    }
+
+block-step : (z : Row) (f g : Forest) (left : ℕ) (s : Sentences) (r : Row) (p : Terms) (cs : Conditions) (q : Row) → TermsRow z → Parts atArgument left z f g → AllS g → BlockOf left s r p cs q (tree z f g)
+unfolding getBlock forS depthS
+block-step _ f g left s r p cs q isTerms o rest =
+    let t = terms-deep f (suc left) (o .kids) in
+    let n = rest left s0 (o .rest) in
+    let v : depthS (getS s0 g) ≤ left = n .deep (omega arith) in
+    record {
+      forest = λ h.
+          ap (λ (y : Forest). forS s (tree (plain 4 (r .from) (r .to)) (forTerms p (forC cs (tree (plain 7 (q .from) (q .to)) (tree (plain 6 0 0) y (forS (getS s0 g) empty)) empty))) h)) (terms-of f (suc left) (o .kids))
+          ∙ ap (λ (y : Forest). forS s (tree (plain 4 (r .from) (r .to)) (forTerms p (forC cs (tree (plain 7 (q .from) (q .to)) (tree (plain 6 0 0) f y) empty))) h)) (n .forest);
+      deep = λ d u c. omega arith;
+    }
+
+condition-step : (z : Row) (f g : Forest) (left : ℕ) (cs : Conditions) (r : Row) → TermsRow z → Parts atCondition left z f g → AllRight g → ConditionOf left cs r (tree z f g)
+unfolding getCondition
+condition-step _ f g left cs r isTerms q rest =
+    let n = rest left cs r (getT t0 f) (q .rest) in
+    let t = terms-deep f left (q .kids) in
+    record {
+      forest = λ h. n .forest h ∙ ap (λ (y : Forest). forC cs (tree (plain 5 (r .from) (r .to)) (tree (plain 6 0 0) y g) h)) (terms-of f left (q .kids));
+      deep = λ d. n .deep d t;
+    }
+
+right-step : (z : Row) (f g : Forest) (left : ℕ) (cs : Conditions) (r : Row) (p : Terms) → RightRow z → Parts atColon left z f g → AllS f → RightOf left cs r p (tree z f g)
+unfolding getRight forC forS depthC depthS
+right-step _ f g left cs r p isRight q kids =
+    let t = terms-deep f left (q .kids) in
+    record {
+      forest = λ h.
+          ap (λ (y : Forest). forC cs (tree (plain 5 (r .from) (r .to)) (forTerms p (tree (plain 6 0 0) y empty)) h)) (terms-of f left (q .kids))
+          ∙ ap (λ (y : Forest). forC cs (tree (plain 5 (r .from) (r .to)) (forTerms p (tree (plain 6 0 0) f y)) h)) (sym (closed-empty left g (q .rest)));
+      deep = λ d u. omega arith;
+    }
+right-step _ f g left cs r p (isBlock a b) q kids =
+    let n = kids (lower left) s0 (q .kids) in
+    let i = raise (depthS (getS s0 f)) left (q .here .deep) (n .deep (omega arith)) in
+    record {
+      forest = λ h.
+          ap (λ (y : Forest). forC cs (tree (plain 5 (r .from) (r .to)) (forTerms p (tree (plain 8 a b) y empty)) h)) (n .forest)
+          ∙ ap (λ (y : Forest). forC cs (tree (plain 5 (r .from) (r .to)) (forTerms p (tree (plain 8 a b) f y)) h)) (sym (closed-empty left g (q .rest)));
+      deep = λ d u. omega arith;
+    }
+
+mutual
+  unfolding getS okG
+
+  pub sound-S : (f : Forest) (left : ℕ) (s : Sentences) → okG atSentences left f ≡ true → SentencesOf left s f
+  sound-S empty left s h = record { forest = refl; deep = λ d. d }
+  sound-S (tree r f g) left s h =
+      let p = parts atSentences left r f g h in sentence-step r f g left s (sentence-row (p .here)) p (λ (l : ℕ) (s : Sentences) (r : Row). λ h. sound-sentence f l s r h) (λ (l : ℕ) (s : Sentences). λ h. sound-S g l s h)
+
+  sound-sentence : (f : Forest) (left : ℕ) (s : Sentences) (r : Row) → okG atPattern left f ≡ true → SentenceOf left s r f
+  sound-sentence empty left s r h = never h
+  sound-sentence (tree z f g) left s r h =
+      let p = parts atPattern left z f g h in pattern-step z f g left s r (pattern-row (p .here)) p (λ (l : ℕ) (s : Sentences) (r : Row) (p : Terms) (cs : Conditions). λ h. sound-tail g l s r p cs h)
+
+  sound-tail : (f : Forest) (left : ℕ) (s : Sentences) (r : Row) (p : Terms) (cs : Conditions) → okG atConditions left f ≡ true → TailOf left s r p cs f
+  sound-tail empty left s r p cs h = never h
+  sound-tail (tree z f g) left s r p cs h =
+      let q = parts atConditions left z f g h in tail-step z f g left s r p cs (tail-row (q .here)) q (λ (l : ℕ) (cs : Conditions) (r : Row). λ h. sound-condition f l cs r h) (λ (l : ℕ) (s : Sentences) (r : Row) (p : Terms) (cs : Conditions) (q : Row). λ h. sound-block f l s r p cs q h) (λ (l : ℕ) (s : Sentences) (r : Row) (p : Terms) (cs : Conditions). λ h. sound-tail g l s r p cs h)
+
+  sound-block : (f : Forest) (left : ℕ) (s : Sentences) (r : Row) (p : Terms) (cs : Conditions) (q : Row) → okG atArgument left f ≡ true → BlockOf left s r p cs q f
+  sound-block empty left s r p cs q h = never h
+  sound-block (tree z f g) left s r p cs q h =
+      let o = parts atArgument left z f g h in block-step z f g left s r p cs q (argument-row (o .here)) o (λ (l : ℕ) (s : Sentences). λ h. sound-S g l s h)
+
+  sound-condition : (f : Forest) (left : ℕ) (cs : Conditions) (r : Row) → okG atCondition left f ≡ true → ConditionOf left cs r f
+  sound-condition empty left cs r h = never h
+  sound-condition (tree z f g) left cs r h =
+      let q = parts atCondition left z f g h in condition-step z f g left cs r (condition-row (q .here)) q (λ (l : ℕ) (cs : Conditions) (r : Row) (p : Terms). λ h. sound-right g l cs r p h)
+
+  sound-right : (f : Forest) (left : ℕ) (cs : Conditions) (r : Row) (p : Terms) → okG atColon left f ≡ true → RightOf left cs r p f
+  sound-right empty left cs r p h = never h
+  sound-right (tree z f g) left cs r p h =
+      let q = parts atColon left z f g h in right-step z f g left cs r p (right-row (q .here)) q (λ (l : ℕ) (s : Sentences). λ h. sound-S f l s h)
+
+-- ---- names
+names-step : (r : Row) (f g : Forest) (left : ℕ) (ns : Names) → NameRow r → Parts atNames left r f g → ((ns : Names) → okG atNames left g ≡ true → forN (getNs ns g) empty ≡ forN ns g) → forN (getNs ns (tree r f g)) empty ≡ forN ns (tree r f g)
+unfolding forN getNs
+names-step _ f g left ns (isName s l) p rest = rest (nMore ns s l) (p .rest) ∙ ap (λ (y : Forest). forN ns (tree (nameR s l) y g)) (sym (closed-empty left f (p .kids)))
+
+sound-Ns : (f : Forest) (left : ℕ) (ns : Names) → okG atNames left f ≡ true → forN (getNs ns f) empty ≡ forN ns f
+unfolding getNs
+sound-Ns empty left ns h = refl
+sound-Ns (tree r f g) left ns h =
+    let p = parts atNames left r f g h in names-step r f g left ns (names-row (p .here)) p (λ (m : Names). sound-Ns g left m)
+
+name-step : (r : Row) (f g : Forest) (left : ℕ) → NameRow r → Parts atName left r f g → forN (getN (tree r f g)) empty ≡ tree r f g
+unfolding forN getN
+name-step _ f g left (isName s l) p = sound-Ns g left (nOne s l) (p .rest) ∙ ap (λ (y : Forest). tree (nameR s l) y g) (sym (closed-empty left f (p .kids)))
+
+pub sound-N : (f : Forest) (left : ℕ) → okG atName left f ≡ true → forN (getN f) empty ≡ f
+unfolding okG
+sound-N empty left h = never h
+sound-N (tree r f g) left h = let p = parts atName left r f g h in name-step r f g left (name-row (p .here)) p
+
+-- ---- programs
+pub record ProgramOf (left : ℕ) (p : Program) (f : Forest) : Type 0 where
+  pub forest : forP (getP p f) empty ≡ forP p f
+  pub deep : depthP p ≤ left → depthP (getP p f) ≤ left
+
+abbrev AllP : ℕ → Forest → Type 0
+AllP left f = (p : Program) → okG atItems left f ≡ true → ProgramOf left p f
+
+item-step : (r : Row) (f g : Forest) (left : ℕ) (p : Program) → ItemRow r → Parts atItems left r f g → AllP left g → ProgramOf left p (tree r f g)
+unfolding forP getP forS depthP depthS
+item-step _ f g left p (isDeclaration a b) q rest =
+    let n = rest (pDeclaration p a (getN f) b) (q .rest) in
+    record { forest = n .forest ∙ ap (λ (y : Forest). forP p (tree (plain 1 a b) y g)) (sound-N f left (q .kids)); deep = n .deep }
+item-step _ f g left p (isFunction x s l a b) q rest =
+    let k = sound-S f left s0 (q .kids) in
+    let n = rest (pFunction p a x s l (getS s0 f) b) (q .rest) in
+    let e : eqb (entryWord x) 1 ≡ x = entry-back x in
+    record {
+      forest =
+          ap (λ (y : Bool). forP (getP (pFunction p a y s l (getS s0 f) b) g) empty) e
+          ∙ n .forest
+          ∙ ap (λ (y : Forest). forP p (tree (row 3 (entryWord x) s l a b) y g)) (k .forest);
+      deep = λ d. subst (λ (y : Bool). depthP (getP (pFunction p a y s l (getS s0 f) b) g) ≤ left) (sym e)
+          (let i = k .deep (omega arith) in n .deep (omega arith));
+    }
+
+pub sound-P : (f : Forest) (left : ℕ) (p : Program) → okG atItems left f ≡ true → ProgramOf left p f
+unfolding getP
+sound-P empty left p h = record { forest = refl; deep = λ d. d }
+sound-P (tree r f g) left p h =
+    let q = parts atItems left r f g h in item-step r f g left p (item-row (q .here)) q (λ (m : Program). sound-P g left m)
+
+-- ---- whole trees
+pub sound-forest : (f : Forest) (left : ℕ) → okG atItems left f ≡ true → toForest (programOf f) ≡ f
+unfolding forP
+sound-forest f left h = sound-P f left p0 h .forest
+
+pub sound-deep : (f : Forest) (left : ℕ) → okG atItems left f ≡ true → depthP (programOf f) ≤ left
+unfolding depthP
+sound-deep f left h = sound-P f left p0 h .deep (omega arith)

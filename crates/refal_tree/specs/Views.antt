@@ -1,0 +1,228 @@
+-- What the rules say of a row: in each state, of which forms a row that keeps them is.
+use Prim.Native.Nat.{ℕ, zero, suc, _≤_}
+use mathlib.Core.Bool.{Bool, true, false, not, _&&_, _||_}
+use mathlib.Core.Path.{_≡_, refl, sym, ap, subst, _∙_}
+use native.Mathlib.Omega.{arith}
+use lib.Dec.{eqb, leb}
+use borrow.Author.Tests.{eqb-true, eqb-false, leb-true}
+use Rattle.refal_rows.specs.Tests.{and-left, and-right}
+use Rattle.refal_ast.specs.Tree.{Leaf, symbol, variable}
+use Rattle.refal_ast.specs.Encode.{entryWord, letterOf}
+use Rattle.refal_ast.specs.declared.tree.Symbol.the-variants.{Char, Identifier, Number}
+use Rattle.refal_ast.specs.declared.tree.VariableKind.{VariableKind}
+use Rattle.refal_ast.specs.declared.tree.VariableKind.the-variants.{Symbol as kindS, Term as kindT, Expression as kindE}
+use Rattle.refal_tree.specs.Forest.{Row, row}
+use Rattle.refal_tree.specs.States.{wrong, atItems, atName, atNames, atSentences, atPattern, atConditions, atCondition, atColon, atTerms, atArgument, closed, pick, on, fits, room}
+use Rattle.refal_tree.specs.Rules.{letter, fieldsOk, rowOk}
+use Rattle.refal_tree.specs.Typed.{leafR, plain, nameR}
+
+pub never : {A : Type 0} → false ≡ true → A
+never {A} e = let z : _≡_ {A = ℕ} 0 1 = cc in absurd (omega arith)
+
+-- ---- the forms
+pub data TermRow : Row → Type 0 where
+  isLeaf : (x : Leaf) (a b : ℕ) → TermRow (leafR x a b)
+  isBracket : (a b : ℕ) → TermRow (plain 13 a b)
+  isCall : (s l a b : ℕ) → TermRow (row 14 0 s l a b)
+
+pub data ItemRow : Row → Type 0 where
+  isDeclaration : (a b : ℕ) → ItemRow (plain 1 a b)
+  isFunction : (x : Bool) (s l a b : ℕ) → ItemRow (row 3 (entryWord x) s l a b)
+
+pub data NameRow : Row → Type 0 where
+  isName : (s l : ℕ) → NameRow (nameR s l)
+
+-- a row of the kind k, with a span only
+pub data PlainRow (k : ℕ) : Row → Type 0 where
+  isPlain : (a b : ℕ) → PlainRow k (plain k a b)
+
+-- a Terms row
+pub data TermsRow : Row → Type 0 where
+  isTerms : TermsRow (plain 6 0 0)
+
+pub data TailRow : Row → Type 0 where
+  isCondition : (a b : ℕ) → TailRow (plain 5 a b)
+  isResult : TailRow (plain 6 0 0)
+  isEnding : (a b : ℕ) → TailRow (plain 7 a b)
+
+pub data RightRow : Row → Type 0 where
+  isRight : RightRow (plain 6 0 0)
+  isBlock : (a b : ℕ) → RightRow (plain 8 a b)
+
+-- ---- a row is known by its six words
+row-is : (r : Row) (k d s l a b : ℕ) → r .kind ≡ k → r .detail ≡ d → r .start ≡ s → r .len ≡ l → r .from ≡ a → r .to ≡ b → r ≡ row k d s l a b
+row-is r k d s l a b ek ed es el ea eb = λ i. record { kind = ek i; detail = ed i; start = es i; len = el i; from = ea i; to = eb i }
+
+-- both of two words are 0
+zeros : (x y : ℕ) → eqb x 0 && eqb y 0 ≡ true → (x ≡ 0) × (y ≡ 0)
+zeros x y h = (eqb-true x 0 (and-left (eqb x 0) (eqb y 0) h), eqb-true y 0 (and-right (eqb x 0) (eqb y 0) h))
+
+-- a kind that may stand here is n, or may stand here by what is said of the others
+pub on-cases : {A : Type 0} (k n x y : ℕ) → not (eqb (on k n x y) wrong) ≡ true → (k ≡ n → A) → (not (eqb y wrong) ≡ true → A) → A
+on-cases {A} k n x y h f g = go (eqb k n) refl h
+  where
+    go : (b : Bool) → eqb k n ≡ b → not (eqb (pick b x y) wrong) ≡ true → A
+    go true e h = f (eqb-true k n e)
+    go false e h = g h
+
+letter-is : (d : ℕ) → letter d ≡ true → (v : VariableKind) × (d ≡ letterOf v)
+letter-is d h = go (eqb d 115) (eqb d 116) (eqb d 101) refl refl refl h
+  where
+    go : (x y z : Bool) → eqb d 115 ≡ x → eqb d 116 ≡ y → eqb d 101 ≡ z → (x || y) || z ≡ true → (v : VariableKind) × (d ≡ letterOf v)
+    go true y z ex ey ez h = (kindS, eqb-true d 115 ex)
+    go false true z ex ey ez h = (kindT, eqb-true d 116 ey)
+    go false false true ex ey ez h = (kindE, eqb-true d 101 ez)
+    go false false false ex ey ez h = never h
+
+entry-is : (d : ℕ) → d ≤ 1 → (x : Bool) × (d ≡ entryWord x)
+entry-is d h = go (eqb d 1) refl
+  where
+    go : (b : Bool) → eqb d 1 ≡ b → (x : Bool) × (d ≡ entryWord x)
+    go true e = (true, eqb-true d 1 e)
+    go false e = let n : (d ≡ 1 → ⊥) = eqb-false d 1 e in (false, (let z : d ≡ 0 = omega arith in z))
+
+module _ (r : Row) where
+  -- the fields of a row are good, if it is of the kind k
+  abbrev Fields : ℕ → Type 0
+  Fields k = fieldsOk k (r .detail) (r .start) (r .len) (r .from) (r .to) ≡ true
+
+  plain-is : (k : ℕ) → r .kind ≡ k → eqb (r .detail) 0 && ((eqb (r .start) 0 && eqb (r .len) 0) && true) ≡ true → PlainRow k r
+  plain-is k e h =
+      let d = eqb-true (r .detail) 0 (and-left (eqb (r .detail) 0) ((eqb (r .start) 0 && eqb (r .len) 0) && true) h) in
+      let t = zeros (r .start) (r .len) (and-left (eqb (r .start) 0 && eqb (r .len) 0) true (and-right (eqb (r .detail) 0) ((eqb (r .start) 0 && eqb (r .len) 0) && true) h)) in
+      subst (PlainRow k) (sym (row-is r k 0 0 0 (r .from) (r .to) e d (t .0) (t .1) refl refl)) (isPlain (r .from) (r .to))
+
+  terms-is : r .kind ≡ 6 → Fields 6 → TermsRow r
+  terms-is e h =
+      let d = eqb-true (r .detail) 0 (and-left (eqb (r .detail) 0) ((eqb (r .start) 0 && eqb (r .len) 0) && (eqb (r .from) 0 && eqb (r .to) 0)) h) in
+      let q : (eqb (r .start) 0 && eqb (r .len) 0) && (eqb (r .from) 0 && eqb (r .to) 0) ≡ true = and-right (eqb (r .detail) 0) ((eqb (r .start) 0 && eqb (r .len) 0) && (eqb (r .from) 0 && eqb (r .to) 0)) h in
+      let t = zeros (r .start) (r .len) (and-left (eqb (r .start) 0 && eqb (r .len) 0) (eqb (r .from) 0 && eqb (r .to) 0) q) in
+      let u = zeros (r .from) (r .to) (and-right (eqb (r .start) 0 && eqb (r .len) 0) (eqb (r .from) 0 && eqb (r .to) 0) q) in
+      subst TermsRow (sym (row-is r 6 0 0 0 0 0 e d (t .0) (t .1) (u .0) (u .1))) isTerms
+
+  name-is : r .kind ≡ 2 → Fields 2 → NameRow r
+  name-is e h =
+      let d = eqb-true (r .detail) 0 (and-left (eqb (r .detail) 0) (eqb (r .from) 0 && eqb (r .to) 0) h) in
+      let u = zeros (r .from) (r .to) (and-right (eqb (r .detail) 0) (eqb (r .from) 0 && eqb (r .to) 0) h) in
+      subst NameRow (sym (row-is r 2 0 (r .start) (r .len) 0 0 e d refl refl (u .0) (u .1))) (isName (r .start) (r .len))
+
+  function-is : r .kind ≡ 3 → Fields 3 → ItemRow r
+  function-is e h =
+      let q = entry-is (r .detail) (leb-true (r .detail) 1 (and-left (leb (r .detail) 1) true h)) in
+      subst ItemRow (sym (row-is r 3 (entryWord (q .0)) (r .start) (r .len) (r .from) (r .to) e (q .1) refl refl refl refl)) (isFunction (q .0) (r .start) (r .len) (r .from) (r .to))
+
+  -- a row of the kind k, with a text and a span
+  texted-is : (k : ℕ) → r .kind ≡ k → eqb (r .detail) 0 && true ≡ true → r ≡ row k 0 (r .start) (r .len) (r .from) (r .to)
+  texted-is k e h = row-is r k 0 (r .start) (r .len) (r .from) (r .to) e (eqb-true (r .detail) 0 (and-left (eqb (r .detail) 0) true h)) refl refl refl refl
+
+  char-is : r .kind ≡ 11 → Fields 11 → TermRow r
+  char-is e h =
+      let t = zeros (r .start) (r .len) (and-left (eqb (r .start) 0 && eqb (r .len) 0) true h) in
+      subst TermRow (sym (row-is r 11 (r .detail) 0 0 (r .from) (r .to) e refl (t .0) (t .1) refl refl)) (isLeaf (symbol (Char (r .detail))) (r .from) (r .to))
+
+  variable-is : r .kind ≡ 12 → Fields 12 → TermRow r
+  variable-is e h =
+      let q = letter-is (r .detail) (and-left (letter (r .detail)) true h) in
+      subst TermRow (sym (row-is r 12 (letterOf (q .0)) (r .start) (r .len) (r .from) (r .to) e (q .1) refl refl refl refl)) (isLeaf (variable (q .0) (r .start) (r .len)) (r .from) (r .to))
+
+  plain-term : PlainRow 13 r → TermRow r
+  plain-term p = go r p
+    where
+      go : (q : Row) → PlainRow 13 q → TermRow q
+      go _ (isPlain a b) = isBracket a b
+
+  module _ (good : Fields (r .kind)) where
+    -- the fields of a row whose kind is known
+    at : (k : ℕ) → r .kind ≡ k → Fields k
+    at k e = subst (λ (x : ℕ). Fields x) e good
+
+-- a row that keeps the rules in the state st, with so many levels left
+pub record Kept (st left : ℕ) (r : Row) : Type 0 where
+  pub fit : fits st (r .kind) ≡ true
+  pub deep : room (r .kind) left ≡ true
+  pub good : fieldsOk (r .kind) (r .detail) (r .start) (r .len) (r .from) (r .to) ≡ true
+
+pub kept : (st left : ℕ) (r : Row) → rowOk st left r ≡ true → Kept st left r
+kept st left r h =
+    let f : Bool = fits st (r .kind) in
+    let d : Bool = room (r .kind) left in
+    let g : Bool = fieldsOk (r .kind) (r .detail) (r .start) (r .len) (r .from) (r .to) in
+    record { fit = and-left f d (and-left (f && d) g h); deep = and-right f d (and-left (f && d) g h); good = and-right (f && d) g h }
+
+-- where one kind only may stand
+only : (k n x : ℕ) → not (eqb (on k n x wrong) wrong) ≡ true → k ≡ n
+only k n x h = on-cases k n x wrong h (λ e. e) never
+
+module _ {left : ℕ} {r : Row} where
+  pub item-row : Kept atItems left r → ItemRow r
+  item-row p =
+      on-cases (r .kind) 1 atItems (on (r .kind) 3 atItems wrong) (p .fit)
+      (λ e. go r (plain-is r 1 e (at r (p .good) 1 e)))
+      (λ h. let e = only (r .kind) 3 atItems h in function-is r e (at r (p .good) 3 e))
+    where
+      go : (q : Row) → PlainRow 1 q → ItemRow q
+      go _ (isPlain a b) = isDeclaration a b
+
+  pub name-row : Kept atName left r → NameRow r
+  name-row p = let e = only (r .kind) 2 atNames (p .fit) in name-is r e (at r (p .good) 2 e)
+
+  pub names-row : Kept atNames left r → NameRow r
+  names-row p = let e = only (r .kind) 2 atNames (p .fit) in name-is r e (at r (p .good) 2 e)
+
+  pub sentence-row : Kept atSentences left r → PlainRow 4 r
+  sentence-row p = let e = only (r .kind) 4 atSentences (p .fit) in plain-is r 4 e (at r (p .good) 4 e)
+
+  pub pattern-row : Kept atPattern left r → TermsRow r
+  pattern-row p = let e = only (r .kind) 6 atConditions (p .fit) in terms-is r e (at r (p .good) 6 e)
+
+  pub condition-row : Kept atCondition left r → TermsRow r
+  condition-row p = let e = only (r .kind) 6 atColon (p .fit) in terms-is r e (at r (p .good) 6 e)
+
+  pub argument-row : Kept atArgument left r → TermsRow r
+  argument-row p = let e = only (r .kind) 6 atSentences (p .fit) in terms-is r e (at r (p .good) 6 e)
+
+  pub tail-row : Kept atConditions left r → TailRow r
+  tail-row p =
+      on-cases (r .kind) 5 atConditions (on (r .kind) 6 closed (on (r .kind) 7 closed wrong)) (p .fit)
+      (λ e. five r (plain-is r 5 e (at r (p .good) 5 e)))
+      (λ h. on-cases (r .kind) 6 closed (on (r .kind) 7 closed wrong) h
+      (λ e. six r (terms-is r e (at r (p .good) 6 e)))
+      (λ h. let e = only (r .kind) 7 closed h in seven r (plain-is r 7 e (at r (p .good) 7 e))))
+    where
+      five : (q : Row) → PlainRow 5 q → TailRow q
+      five _ (isPlain a b) = isCondition a b
+
+      six : (q : Row) → TermsRow q → TailRow q
+      six _ isTerms = isResult
+
+      seven : (q : Row) → PlainRow 7 q → TailRow q
+      seven _ (isPlain a b) = isEnding a b
+
+  pub right-row : Kept atColon left r → RightRow r
+  right-row p =
+      on-cases (r .kind) 6 closed (on (r .kind) 8 closed wrong) (p .fit)
+      (λ e. six r (terms-is r e (at r (p .good) 6 e)))
+      (λ h. let e = only (r .kind) 8 closed h in eight r (plain-is r 8 e (at r (p .good) 8 e)))
+    where
+      six : (q : Row) → TermsRow q → RightRow q
+      six _ isTerms = isRight
+
+      eight : (q : Row) → PlainRow 8 q → RightRow q
+      eight _ (isPlain a b) = isBlock a b
+
+  pub term-row : Kept atTerms left r → TermRow r
+  term-row p =
+      let k : ℕ = r .kind in
+      let c14 : ℕ = on k 14 atTerms wrong in
+      let c13 : ℕ = on k 13 atTerms c14 in
+      let c12 : ℕ = on k 12 atTerms c13 in
+      let c11 : ℕ = on k 11 atTerms c12 in
+      let c10 : ℕ = on k 10 atTerms c11 in
+      on-cases k 9 atTerms c10 (p .fit)
+      (λ e. subst TermRow (sym (texted-is r 9 e (at r (p .good) 9 e))) (isLeaf (symbol (Identifier (r .start) (r .len))) (r .from) (r .to)))
+      (λ h. on-cases k 10 atTerms c11 h
+      (λ e. subst TermRow (sym (texted-is r 10 e (at r (p .good) 10 e))) (isLeaf (symbol (Number (r .start) (r .len))) (r .from) (r .to)))
+      (λ h. on-cases k 11 atTerms c12 h (λ e. char-is r e (at r (p .good) 11 e))
+      (λ h. on-cases k 12 atTerms c13 h (λ e. variable-is r e (at r (p .good) 12 e))
+      (λ h. on-cases k 13 atTerms c14 h (λ e. plain-term r (plain-is r 13 e (at r (p .good) 13 e)))
+      (λ h. let e = only k 14 atTerms h in subst TermRow (sym (texted-is r 14 e (at r (p .good) 14 e))) (isCall (r .start) (r .len) (r .from) (r .to)))))))
