@@ -158,7 +158,8 @@ pub fn damaged(rng: &mut Rng, good: &[u8]) -> Vec<u8> {
 
 /// Any of the ways above, as bytes.
 pub fn any(rng: &mut Rng) -> Vec<u8> {
-    match rng.below(10) {
+    match rng.below(11) {
+        10 => limits(rng).into_bytes(),
         0 | 1 => soup(rng, 8).into_bytes(),
         2 => soup(rng, 30).into_bytes(),
         3 | 4 => program(rng, 2).into_bytes(),
@@ -178,6 +179,34 @@ pub fn any(rng: &mut Rng) -> Vec<u8> {
         }
         _ => (0..rng.within(0, 12)).map(|_| byte(rng)).collect(),
     }
+}
+
+/// Something about as long as may be, with something before and after.
+fn limits(rng: &mut Rng) -> String {
+    let middle = match rng.below(4) {
+        0 => {
+            let part = rng.pick(&["a", "''", "é", "漢", "😀", "\"", "a\u{a0}"]);
+            let length = rng.within(250, 260);
+            let close = rng.pick(&["'", "'", "'", "", "\n'", "''"]);
+            format!("'{}{close}", part.repeat(length))
+        }
+        1 => format!(
+            "A{}",
+            rng.pick(&["b", "-", "_", "9"]).repeat(rng.within(12, 17))
+        ),
+        2 => {
+            let letter = rng.pick(&["s", "t", "e"]);
+            format!(
+                "{letter}.{}",
+                rng.pick(&["b", "-", "_", "9"]).repeat(rng.within(12, 17))
+            )
+        }
+        _ => {
+            let value = 4_294_967_200 + rng.below(200);
+            format!("{}{value}", "0".repeat(rng.below(30)))
+        }
+    };
+    format!("{}{middle}{}", soup(rng, 2), soup(rng, 2))
 }
 
 /// A byte, more often one that means something.

@@ -1,0 +1,84 @@
+//! Random calls from a seed.
+
+use oracle::cases::Case;
+use oracle::generate::{Rng, sources, tokens, trees};
+use oracle::reference::{parse, read, write};
+
+/// A random call of any of the six functions, lent about as much as it needs.
+pub fn any(rng: &mut Rng) -> Case {
+    match rng.below(12) {
+        0 => name(rng),
+        1..=5 => reading(rng),
+        6..=8 => parsing(rng),
+        _ => writing(rng),
+    }
+}
+
+/// Around `exact`, in words or bytes, for rows of `width`.
+fn lent(rng: &mut Rng, exact: usize, width: usize) -> usize {
+    match rng.below(8) {
+        0 => exact.saturating_sub(1),
+        1 => exact + 1,
+        2 => exact.saturating_sub(width),
+        3 => exact + width,
+        4 => exact + rng.below(4 * width),
+        5 => rng.below(exact + 1),
+        _ => exact,
+    }
+}
+
+fn name(rng: &mut Rng) -> Case {
+    let name: Vec<u8> = (0..rng.below(41))
+        .map(|_| {
+            if rng.once_in(3) {
+                rng.bits() as u8
+            } else {
+                b"AZazmM09_-@[`{/:"[rng.below(16)]
+            }
+        })
+        .collect();
+    let lent = lent(rng, name.len(), 4);
+    match rng.below(3) {
+        0 => Case::Name { name, lent },
+        1 => Case::Index { name, lent },
+        _ => {
+            let mut b = name.clone();
+            for byte in &mut b {
+                match *byte {
+                    b'_' | b'-' if rng.once_in(2) => *byte ^= b'_' ^ b'-',
+                    _ if byte.is_ascii_alphabetic() && rng.once_in(2) => *byte ^= 0x20,
+                    _ => (),
+                }
+            }
+            if rng.once_in(3) && !b.is_empty() {
+                let at = rng.below(b.len());
+                b[at] ^= 1 << rng.below(8);
+            }
+            if rng.once_in(6) {
+                b.truncate(rng.below(b.len() + 1));
+            }
+            Case::Equal { a: name, b }
+        }
+    }
+}
+
+pub fn reading(rng: &mut Rng) -> Case {
+    let src = sources::any(rng);
+    let exact = read::tokens(&src).map_or_else(|_| rng.below(30), |rows| rows.len() * 6);
+    let lent = lent(rng, exact, 6);
+    Case::Read { src, lent }
+}
+
+pub fn parsing(rng: &mut Rng) -> Case {
+    let tokens = tokens::any(rng);
+    let exact = parse::tree(&tokens).map_or_else(|_| rng.below(30), |rows| rows.len() * 7);
+    let lent = lent(rng, exact, 7);
+    Case::Parse { tokens, lent }
+}
+
+pub fn writing(rng: &mut Rng) -> Case {
+    let (tree, src) = trees::any(rng);
+    let exact = write::text(&tree, &src).map_or_else(|_| rng.below(30), |text| text.len());
+    let lent = lent(rng, exact, 4);
+    Case::Write { tree, src, lent }
+}
