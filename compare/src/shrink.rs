@@ -2,142 +2,167 @@
 
 use oracle::cases::Case;
 
+/// One way to make a call smaller.
+#[derive(Debug, Clone, Copy)]
+enum Edit {
+    /// Leaves out a run of the first input.
+    Cut(usize, usize),
+    /// Leaves out a run of the second input.
+    CutSecond(usize, usize),
+    /// Leaves out the same place of both.
+    CutBoth(usize),
+    /// Leaves out a tree's node and all below it, and puts the nexts right.
+    Prune(usize, usize),
+    /// Makes a word 0.
+    Zero(usize),
+    /// Lends less.
+    Lend(usize),
+}
+
 /// The smallest call found for which `fails` still holds.
 pub fn shrink(case: Case, fails: impl Fn(&Case) -> bool) -> Case {
     let mut best = case;
-    loop {
-        match smaller(&best).into_iter().find(|case| fails(case)) {
-            Some(case) => best = case,
-            None => return best,
+    let mut edits = edits(&best);
+    let mut at = 0;
+    let mut missed = 0;
+    while missed < edits.len() {
+        at = if at < edits.len() { at } else { 0 };
+        let smaller = apply(&best, edits[at]);
+        if fails(&smaller) {
+            best = smaller;
+            edits = self::edits(&best);
+            missed = 0;
+        } else {
+            at += 1;
+            missed += 1;
         }
     }
+    best
 }
 
-/// Calls with less input, simpler words, or less lent, the boldest first.
-fn smaller(case: &Case) -> Vec<Case> {
-    let mut all = Vec::new();
+/// The edits of a call, the boldest first.
+fn edits(case: &Case) -> Vec<Edit> {
+    let mut edits = Vec::new();
+    let mut lent = 0;
     match case {
-        Case::Name { name, lent } => {
-            all.extend(cuts(name, 1).map(|name| Case::Name { name, lent: *lent }));
-            all.extend(less(*lent).map(|lent| Case::Name {
-                name: name.clone(),
-                lent,
-            }));
-        }
-        Case::Index { name, lent } => {
-            all.extend(cuts(name, 1).map(|name| Case::Index { name, lent: *lent }));
-            all.extend(less(*lent).map(|lent| Case::Index {
-                name: name.clone(),
-                lent,
-            }));
+        Case::Name { name, lent: l } | Case::Index { name, lent: l } => {
+            cuts(name.len(), 1, Edit::Cut, &mut edits);
+            lent = *l;
         }
         Case::Equal { a, b } => {
-            all.extend(cuts(a, 1).map(|a| Case::Equal { a, b: b.clone() }));
-            all.extend(cuts(b, 1).map(|b| Case::Equal { a: a.clone(), b }));
-            for at in 0..a.len().min(b.len()) {
-                let (mut a, mut b) = (a.clone(), b.clone());
-                a.remove(at);
-                b.remove(at);
-                all.push(Case::Equal { a, b });
-            }
+            cuts(a.len(), 1, Edit::Cut, &mut edits);
+            cuts(b.len(), 1, Edit::CutSecond, &mut edits);
+            edits.extend((0..a.len().min(b.len())).map(Edit::CutBoth));
         }
-        Case::Read { src, lent } => {
-            all.extend(cuts(src, 1).map(|src| Case::Read { src, lent: *lent }));
-            all.extend(less(*lent).map(|lent| Case::Read {
-                src: src.clone(),
-                lent,
-            }));
+        Case::Read { src, lent: l } => {
+            cuts(src.len(), 1, Edit::Cut, &mut edits);
+            lent = *l;
         }
-        Case::Parse { tokens, lent } => {
-            let inputs = cuts(tokens, 6).chain(cuts(tokens, 1)).chain(zeros(tokens));
-            all.extend(inputs.map(|tokens| Case::Parse {
-                tokens,
-                lent: *lent,
-            }));
-            all.extend(less(*lent).map(|lent| Case::Parse {
-                tokens: tokens.clone(),
-                lent,
-            }));
+        Case::Parse { tokens, lent: l } => {
+            cuts(tokens.len(), 6, Edit::Cut, &mut edits);
+            words(tokens, &mut edits);
+            lent = *l;
         }
-        Case::Write { tree, src, lent } => {
-            let trees = prunings(tree)
-                .chain(cuts(tree, 7))
-                .chain(cuts(tree, 1))
-                .chain(zeros(tree));
-            all.extend(trees.map(|tree| Case::Write {
-                tree,
-                src: src.clone(),
-                lent: *lent,
-            }));
-            all.extend(cuts(src, 1).map(|src| Case::Write {
-                tree: tree.clone(),
-                src,
-                lent: *lent,
-            }));
-            all.extend(less(*lent).map(|lent| Case::Write {
-                tree: tree.clone(),
-                src: src.clone(),
-                lent,
-            }));
+        Case::Write { tree, src, lent: l } => {
+            prunings(tree, &mut edits);
+            cuts(tree.len(), 7, Edit::Cut, &mut edits);
+            words(tree, &mut edits);
+            cuts(src.len(), 1, Edit::CutSecond, &mut edits);
+            lent = *l;
         }
     }
-    all
+    if lent > 1 {
+        edits.push(Edit::Lend(lent / 2));
+    }
+    if lent > 0 {
+        edits.push(Edit::Lend(lent - 1));
+    }
+    edits
 }
 
-/// Copies with a run of rows of `width` left out: halves first, single rows last; short runs from
-/// every row on.
-fn cuts<T: Clone>(whole: &[T], width: usize) -> impl Iterator<Item = Vec<T>> {
-    let rows = whole.len() / width;
-    let mut runs = Vec::new();
-    let mut size = rows.div_ceil(2);
+/// Runs of rows of `width`: halves first, single rows last; short runs from every row on.
+fn cuts(length: usize, width: usize, cut: fn(usize, usize) -> Edit, edits: &mut Vec<Edit>) {
+    let rows = length / width;
+    let mut size = rows;
     while size > 0 {
         let step = if size <= 8 { 1 } else { size };
-        runs.extend((0..rows).step_by(step).map(|start| (start, size)));
-        size = if size <= 8 {
-            size - 1
-        } else {
-            size.div_ceil(2)
-        };
+        for start in (0..rows).step_by(step) {
+            edits.push(cut(start * width, rows.min(start + size) * width));
+        }
+        size = if size <= 8 { size - 1 } else { size / 2 };
     }
-    runs.into_iter().map(move |(start, size)| {
-        let end = whole.len().min((start + size) * width);
-        [&whole[..start * width], &whole[end..]].concat()
-    })
 }
 
-/// Copies of a tree with one node and all below it left out, the nexts put right.
-fn prunings(tree: &[u32]) -> impl Iterator<Item = Vec<u32>> {
+fn words(words: &[u32], edits: &mut Vec<Edit>) {
+    edits.extend((0..words.len()).map(|at| Edit::Cut(at, at + 1)));
+    let nonzero = (0..words.len()).filter(|&at| words[at] != 0);
+    edits.extend(nonzero.map(Edit::Zero));
+}
+
+fn prunings(tree: &[u32], edits: &mut Vec<Edit>) {
     let rows = tree.len() / 7;
-    let next = |at: usize| tree[7 * at + 6] as usize;
-    let nodes: Vec<(usize, usize)> = (0..rows)
-        .map(|at| (at, next(at)))
-        .filter(|&(at, end)| at < end && end <= rows)
-        .collect();
-    nodes.into_iter().map(move |(at, end)| {
-        let mut words = [&tree[..7 * at], &tree[7 * end..]].concat();
-        for next in words.iter_mut().skip(6).step_by(7) {
-            if *next as usize >= end {
-                *next -= (end - at) as u32;
+    for at in 0..rows {
+        let end = tree[7 * at + 6] as usize;
+        if at < end && end <= rows {
+            edits.push(Edit::Prune(at, end));
+        }
+    }
+}
+
+fn apply(case: &Case, edit: Edit) -> Case {
+    let mut case = case.clone();
+    match &mut case {
+        Case::Name { name: input, lent }
+        | Case::Index { name: input, lent }
+        | Case::Read { src: input, lent } => match edit {
+            Edit::Cut(start, end) => drop(input.drain(start..end)),
+            Edit::Lend(less) => *lent = less,
+            _ => (),
+        },
+        Case::Equal { a, b } => match edit {
+            Edit::Cut(start, end) => drop(a.drain(start..end)),
+            Edit::CutSecond(start, end) => drop(b.drain(start..end)),
+            Edit::CutBoth(at) => {
+                a.remove(at);
+                b.remove(at);
+            }
+            _ => (),
+        },
+        Case::Parse { tokens, lent } => match edit {
+            Edit::Lend(less) => *lent = less,
+            _ => edit_words(tokens, edit),
+        },
+        Case::Write { tree, src, lent } => match edit {
+            Edit::Lend(less) => *lent = less,
+            Edit::CutSecond(start, end) => {
+                src.drain(start..end);
+                // Texts that stand after the cut keep their bytes.
+                for text in tree.iter_mut().skip(2).step_by(7) {
+                    if *text as usize >= end {
+                        *text -= (end - start) as u32;
+                    }
+                }
+            }
+            _ => edit_words(tree, edit),
+        },
+    }
+    case
+}
+
+fn edit_words(words: &mut Vec<u32>, edit: Edit) {
+    match edit {
+        Edit::Cut(start, end) => drop(words.drain(start..end)),
+        Edit::Zero(at) => words[at] = 0,
+        Edit::Prune(at, end) => {
+            words.drain(7 * at..7 * end);
+            for next in words.iter_mut().skip(6).step_by(7) {
+                if *next as usize >= end {
+                    *next -= (end - at) as u32;
+                }
             }
         }
-        words
-    })
-}
-
-/// Copies with one word 0.
-fn zeros(words: &[u32]) -> impl Iterator<Item = Vec<u32>> {
-    let places: Vec<usize> = (0..words.len()).filter(|&at| words[at] != 0).collect();
-    places.into_iter().map(move |at| {
-        let mut words = words.to_vec();
-        words[at] = 0;
-        words
-    })
-}
-
-fn less(lent: usize) -> impl Iterator<Item = usize> {
-    [lent / 2, lent.saturating_sub(1)]
-        .into_iter()
-        .filter(move |&less| less < lent)
+        _ => (),
+    }
 }
 
 #[cfg(test)]
