@@ -10,3 +10,6 @@ pub mod Agree
 pub mod Sizes
 pub mod Theorems
 pub mod Demand3
+pub mod Table
+pub mod Edge
+pub mod Bound

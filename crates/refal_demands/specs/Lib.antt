@@ -2,3 +2,5 @@
 pub mod Spans
 pub mod Trees
 pub mod Demand3
+pub mod Table
+pub mod Edge
