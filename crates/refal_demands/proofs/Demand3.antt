@@ -24,8 +24,8 @@ use Rattle.refal_demands.specs.Spans.{SameButSpans}
 use Rattle.refal_demands.specs.Trees.{Lawful, withoutLast, tokensBeforeEof, Flattens}
 use Rattle.refal_demands.specs.Demand3.{Fits, parserTree, Demand3}
 use Rattle.refal_demands.proofs.Fields.{Ends, ends, plain}
-use Rattle.refal_demands.proofs.Erase.{eraseP}
-use Rattle.refal_demands.proofs.Agree.{size-eraseP, same-rows}
+use Rattle.refal_demands.proofs.Respan.{eraseP, size-respanP}
+use Rattle.refal_demands.proofs.Moved.{same-rows}
 use Rattle.refal_demands.proofs.Sizes.{longP}
 use Rattle.refal_demands.proofs.Theorems.{ok-tokens, soundness, completeness, uniqueness}
 
@@ -79,17 +79,19 @@ gives w B m e =
     let l : length (parserTree w B m) ≡ nodeWidth * sizeP (S .t) = ap length r ∙ longP (S .t) 0 in
     let s = S .size in
     let k = S .room in (
-      record { lawful = record { program = S .t; rows = r }; deep = is-deep w (S .t) (S .is); room = omega arith; flattens = flattens w (S .t) (S .is) },
+      record { lawful = record { program = S .t; rows = r }; deep = let d = is-deep w (S .t) (S .is) in omega arith; room = omega arith; flattens = flattens w (S .t) (S .is) },
       l ∙ ap (λ (x : ℕ). nodeWidth * x) (sym s),
     )
 
 accepted : (w B T : List ℕ) → wellFormed w ≡ true → Fits w B T → (m : ℕ) × (parseAnswer w B ≡ Done m)
 accepted w B T g f =
     let p = f .lawful .program in
-    let c = completeness w p (tokensBeforeEof w) g (f .deep) (f .flattens) (with-eof (tokensOf w) (ends (tokensOf w) (ok-tokens w g))) in
+    let d = f .deep in
+    let d₁ : depthP p ≤ 64 = omega arith in
+    let c = completeness w p (tokensBeforeEof w) g d₁ (f .flattens) (with-eof (tokensOf w) (ends (tokensOf w) (ok-tokens w g))) in
     let l = f .room in
     let l₁ : length T ≡ nodeWidth * sizeP p = ap length (f .lawful .rows) ∙ longP p 0 in
-    let s : sizeP (c .0) ≡ sizeP p = sym (size-eraseP (c .0)) ∙ ap sizeP (c .2) ∙ size-eraseP p in
+    let s : sizeP (c .0) ≡ sizeP p = sym (size-respanP (λ (x : ℕ). 0) (c .0)) ∙ ap sizeP (c .2) ∙ size-respanP (λ (x : ℕ). 0) p in
     let r : nodeWidth * sizeP (c .0) ≤ length B = omega arith in (
       sizeP (c .0),
       ap (λ (o : Outcome). answerOf o B) (c .1)

@@ -15,7 +15,8 @@ use Rattle.refal_parser.specs.Machine.{termOf, Block, body, inCondition, inEndi
 use Rattle.refal_parser.specs.Machine.{State, items, wantsName, wantsMore, named, entered, headed, between, within, calling}
 use Rattle.refal_parser.specs.Machine.{matched, conditioned, equated, blocked, ended, Outcome, tree, refuse, Step, go, stop, pick}
 use Rattle.refal_parser.specs.Machine.{opens, endOf, inTerms, leave, step, follow, nextFrom, nextTo, run}
-use Rattle.refal_demands.specs.Edge.{joinP, before}
+use Rattle.refal_demands.specs.Edge.{joinP, before, shift}
+use Rattle.refal_demands.proofs.Moved.{rows-shifted}
 
 -- a state with the items of p before its own
 abbrev afterB : Program → Block → Block
@@ -107,7 +108,8 @@ run-after p (t ∷ ts) st =
     ap (λ (z : Step). follow z (λ (st' : State). run ts st')) (step-after p st t (nextFrom t ts) (nextTo t ts))
     ∙ follow-after (step st t (nextFrom t ts) (nextTo t ts)) (λ (st' : State). run-after p ts st')
   where
-    follow-after : (z : Step) → ((st' : State) → run ts (after p st') ≡ before p (run ts st')) → follow (afterStep p z) (λ (st' : State). run ts st') ≡ before p (follow z (λ (st' : State). run ts st'))
+    follow-after : (z : Step) → ((st' : State) → run ts (after p st') ≡ before p (run ts st'))
+        → follow (afterStep p z) (λ (st' : State). run ts st') ≡ before p (follow z (λ (st' : State). run ts st'))
     follow-after (go st') h = h st'
     follow-after (stop o) h = refl
 
@@ -136,3 +138,10 @@ rows-join p (pFunction q a x s l v b) n =
     ap (λ (z : List ℕ). z ++ (node nodeFunction (entryWord x) s l a b (n + sizeP (joinP p q) + 1 + sizeS v) ++ encS v (n + sizeP (joinP p q) + 1))) (rows-join p q n)
     ∙ ap (λ (k : ℕ). (encP p n ++ encP q (n + sizeP p)) ++ (node nodeFunction (entryWord x) s l a b (k + 1 + sizeS v) ++ encS v (k + 1))) e
     ∙ append-assoc (encP p n) (encP q (n + sizeP p)) (node nodeFunction (entryWord x) s l a b (n + sizeP p + sizeP q + 1 + sizeS v) ++ encS v (n + sizeP p + sizeP q + 1))
+
+-- In all: the rows of the items before, then the rows of what stands from there on as a list of its own, shifted.
+pub edge-rows : (p q : Program) → encP (joinP p q) 0 ≡ encP p 0 ++ shift (sizeP p) (encP q 0)
+edge-rows p q = rows-join p q 0 ∙ ap (λ (l : List ℕ). encP p 0 ++ l) (ap (λ (n : ℕ). encP q n) e ∙ rows-shifted q 0 (sizeP p))
+  where
+    e : 0 + sizeP p ≡ sizeP p + 0
+    e = omega arith

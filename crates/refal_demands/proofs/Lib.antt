@@ -4,9 +4,13 @@ pub mod Levels
 pub mod Fields
 pub mod Read
 pub mod Sound
-pub mod Erase
+pub mod Respan
+pub mod Eat
+pub mod ReadsTerms
+pub mod Begins
+pub mod ReadsSentences
 pub mod Complete
-pub mod Agree
+pub mod Moved
 pub mod Sizes
 pub mod Theorems
 pub mod Demand3

@@ -75,24 +75,30 @@ module _ (L : ℕ) (ts : List Token) (next : Next L ts) (r : Program) (t : Token
       record { l = s .l; loose = s .loose; flat = ap (λ (z : Flat). l₀ ++ read st (z ∷ flatsOf ts)) e ∙ ap (λ (z : List Flat). l₀ ++ z) f ∙ s .flat; deep = s .deep }
 
   -- a step to an item's edge, having read a of the item
-  ends-item : (st : State) (p' : Program) (c : Flat) (a : List Flat) → flatOf t ≡ c → read st (c ∷ flatsOf ts) ≡ a ++ flatsOf ts → ((l₀ : List Flat) → Loose (itemsOf st) l₀ → Loose p' (l₀ ++ a)) → (Ok L st → depthP p' ≤ L) → Good st (go (items p'))
+  ends-item : (st : State) (p' : Program) (c : Flat) (a : List Flat) → flatOf t ≡ c → read st (c ∷ flatsOf ts) ≡ a ++ flatsOf ts
+      → ((l₀ : List Flat) → Loose (itemsOf st) l₀ → Loose p' (l₀ ++ a)) → (Ok L st → depthP p' ≤ L) → Good st (go (items p'))
   ends-item st p' c a e f i g o l₀ p q =
       let s = next (items p') r (l₀ ++ a) (g o) (i l₀ p) q in
       record { l = s .l; loose = s .loose; flat = ap (λ (z : Flat). l₀ ++ read st (z ∷ flatsOf ts)) e ∙ ap (λ (z : List Flat). l₀ ++ z) f ∙ edge l₀ a (flatsOf ts) ∙ s .flat; deep = s .deep }
 
   -- after a pattern and conditions
-  soundPattern : (st₀ : State) (d : ℕ) (b : Block) (s : Sentences) (st : ℕ) (f : Terms) (cs : Conditions) (other : Step) → ((ks : List Flat) → read st₀ ks ≡ readB b (head s f cs ks)) → itemsOf st₀ ≡ itemsB b → (Ok L st₀ → Deep d s f cs × OkB L d b) → Good st₀ other → Good st₀ (afterPattern d b s st f cs t x y other)
+  soundPattern : (st₀ : State) (d : ℕ) (b : Block) (s : Sentences) (st : ℕ) (f : Terms) (cs : Conditions) (other : Step)
+      → ((ks : List Flat) → read st₀ ks ≡ readB b (head s f cs ks)) → itemsOf st₀ ≡ itemsB b → (Ok L st₀ → Deep d s f cs × OkB L d b) → Good st₀ other
+      → Good st₀ (afterPattern d b s st f cs t x y other)
   unfolding flatT depthT
   soundPattern st₀ d b s st f cs other u i v g =
       on-cases (Good st₀) (t .kind) tokComma _ _ (λ e. goes st₀ _ _ (plain t tokComma (λ d s l. refl) fields e) (u _) i (λ o. (omega arith, v o))) (λ n₁.
       on-cases (Good st₀) (t .kind) tokEquals _ _ (λ e. goes st₀ _ _ (plain t tokEquals (λ d s l. refl) fields e) (u _) i v) (λ n₂. g))
 
-  soundTerms : (st₀ : State) (d : ℕ) (b : Block) (s : Sentences) (st : ℕ) (f : Terms) (cs : Conditions) → ((ks : List Flat) → read st₀ ks ≡ readB b (head s f cs ks)) → itemsOf st₀ ≡ itemsB b → (Ok L st₀ → Deep d s f cs × OkB L d b) → Good st₀ (afterTerms d b s st f cs t x y)
+  soundTerms : (st₀ : State) (d : ℕ) (b : Block) (s : Sentences) (st : ℕ) (f : Terms) (cs : Conditions)
+      → ((ks : List Flat) → read st₀ ks ≡ readB b (head s f cs ks)) → itemsOf st₀ ≡ itemsB b → (Ok L st₀ → Deep d s f cs × OkB L d b)
+      → Good st₀ (afterTerms d b s st f cs t x y)
   soundTerms st₀ d b s st f cs u i v =
       soundPattern st₀ d b s st f cs _ u i v (on-cases (Good st₀) (t .kind) tokEof _ _ (λ e. stops st₀ _ _ _ _ _) (λ n. stops st₀ _ _ _ _ _))
 
   -- the token that closes terms
-  closes : (st st' : State) (k : ℕ) → (t .kind ≡ k → flatOf t ≡ mark k) → read st (mark k ∷ flatsOf ts) ≡ read st' (flatsOf ts) → itemsOf st ≡ itemsOf st' → (Ok L st → Ok L st') → Good st (closing k t x y (go st'))
+  closes : (st st' : State) (k : ℕ) → (t .kind ≡ k → flatOf t ≡ mark k) → read st (mark k ∷ flatsOf ts) ≡ read st' (flatsOf ts)
+      → itemsOf st ≡ itemsOf st' → (Ok L st → Ok L st') → Good st (closing k t x y (go st'))
   closes st st' k m f i g =
       on-cases (Good st) (t .kind) k _ _ (λ e. goes st st' (mark k) (m e) f i g) (λ n.
       on-cases (Good st) (t .kind) tokEof _ _ (λ e. stops st _ _ _ _ _) (λ n'. stops st _ _ _ _ _))
@@ -105,7 +111,8 @@ module _ (L : ℕ) (ts : List Token) (next : Next L ts) (r : Program) (t : Token
       soundTerms (within d (matching b s st h cs a g e) f) d b s st h (cTerms cs a g f (lastEnd f e)) (λ ks. refl) refl
       (λ o. (record { sentences = o .1 .0 .sentences; pattern = o .1 .0 .pattern; conditions = let h₀ = o .0 in let h₁ = o .1 .0 .conditions in let h₂ = o .1 .1 in omega arith }, o .1 .2))
   soundEnd d (result b s st h cs) f =
-      closes _ _ tokSemicolon (plain t tokSemicolon (λ d s l. refl) fields) refl refl (λ o. ((let h₀ = o .0 in let h₁ = o .1 .0 in let h₂ = h₁ .sentences in let h₃ = h₁ .pattern in let h₄ = h₁ .conditions in omega arith), o .1 .1))
+      closes _ _ tokSemicolon (plain t tokSemicolon (λ d s l. refl) fields) refl refl
+      (λ o. ((let h₀ = o .0 in let h = o .1 .0 in let h₁ = h .sentences in let h₂ = h .pattern in let h₃ = h .conditions in omega arith), o .1 .1))
   soundEnd d (ending b s st h cs a) f = closes _ _ tokColon (plain t tokColon (λ d s l. refl) fields) refl refl (λ o. (o .1 .0, o .0, o .1 .1))
   soundEnd d (bracket c g a) f = closes _ _ tokRParen (plain t tokRParen (λ d s l. refl) fields) refl refl (λ o. ((let h₀ = o .0 in let h₁ = o .1 .0 in omega arith), o .1 .1))
   soundEnd d (call c g a s l) f = closes _ _ tokRAngle (plain t tokRAngle (λ d s l. refl) fields) refl refl (λ o. ((let h₀ = o .0 in let h₁ = o .1 .0 in omega arith), o .1 .1))
@@ -116,7 +123,9 @@ module _ (L : ℕ) (ts : List Token) (next : Next L ts) (r : Program) (t : Token
   leaf d c f z e = goes _ _ (flatLeaf z) e refl refl (λ o. o)
 
   -- a variable with this letter
-  varied : (v : VariableKind) (letter : ℕ) → t .kind ≡ tokVariable → t .detail ≡ letter → flatLeaf (variable v (t .start) (t .len)) ≡ flatToken tokVariable letter (t .start) (t .len) → flatOf t ≡ flatLeaf (variable v (t .start) (t .len))
+  varied : (v : VariableKind) (letter : ℕ) → t .kind ≡ tokVariable → t .detail ≡ letter
+      → flatLeaf (variable v (t .start) (t .len)) ≡ flatToken tokVariable letter (t .start) (t .len)
+      → flatOf t ≡ flatLeaf (variable v (t .start) (t .len))
   varied v letter e h u =
       ap (λ (z : ℕ). flatToken z (t .detail) (t .start) (t .len)) e ∙ ap (λ (z : ℕ). flatToken tokVariable z (t .start) (t .len)) h ∙ sym u
 

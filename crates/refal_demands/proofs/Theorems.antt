@@ -18,7 +18,7 @@ use Rattle.refal_demands.proofs.Levels.{runAt, run-is}
 use Rattle.refal_demands.proofs.Fields.{ends}
 use Rattle.refal_demands.proofs.Sound.{sound}
 use Rattle.refal_demands.proofs.Complete.{complete, Accepts}
-use Rattle.refal_demands.proofs.Erase.{eraseP}
+use Rattle.refal_demands.proofs.Respan.{eraseP}
 
 pub parsed-good : (w : List ℕ) → wellFormed w ≡ true → parsed w ≡ runAt 64 (tokensOf w) (items p0)
 unfolding parsed
@@ -46,7 +46,8 @@ soundness w t e =
     (n .l, n .flat, n .loose, n .deep)
 
 -- What is the flattening, but for semicolons outside items, of a tree that nests no deeper than 64 is accepted, with that tree, spans aside.
-pub completeness : (w : List ℕ) (s : Program) (l : List Flat) → wellFormed w ≡ true → depthP s ≤ 64 → Loose s l → flatsOf (tokensOf w) ≡ l ++ (mark tokEof ∷ []) → (t : Program) × (parsed w ≡ tree t) × (eraseP t ≡ eraseP s)
+pub completeness : (w : List ℕ) (s : Program) (l : List Flat) → wellFormed w ≡ true → depthP s ≤ 64 → Loose s l
+    → flatsOf (tokensOf w) ≡ l ++ (mark tokEof ∷ []) → (t : Program) × (parsed w ≡ tree t) × (eraseP t ≡ eraseP s)
 completeness w s l g d h e =
     let a = complete h 64 (tokensOf w) d e in
     (a .t, parsed-good w g ∙ a .means, a .same)

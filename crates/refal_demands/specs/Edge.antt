@@ -1,5 +1,6 @@
 -- Parsing from an item's edge on: what stands there is parsed as a list of its own, with the items before put before.
-use Prim.Native.Nat.{ℕ}
+use Prim.Native.Nat.{ℕ, _+_}
+use mathlib.Core.List.{List, [], _∷_}
 use Rattle.refal_ast.specs.Tree.{Program, p0, pDeclaration, pFunction}
 use Rattle.refal_parser.specs.Machine.{Outcome, tree, refuse}
 
@@ -13,3 +14,14 @@ joinP p (pFunction q a x s l v b) = pFunction (joinP p q) a x s l v b
 abbrev pub before : Program → Outcome → Outcome
 before p (tree q) = tree (joinP p q)
 before p (refuse number expected found from to) = refuse number expected found from to
+
+-- rows moved k rows on: k is added to each row's `next`
+unfoldable pub shift : ℕ → List ℕ → List ℕ
+shift k [] = []
+shift k (a ∷ []) = []
+shift k (a ∷ b ∷ []) = []
+shift k (a ∷ b ∷ c ∷ []) = []
+shift k (a ∷ b ∷ c ∷ d ∷ []) = []
+shift k (a ∷ b ∷ c ∷ d ∷ e ∷ []) = []
+shift k (a ∷ b ∷ c ∷ d ∷ e ∷ f ∷ []) = []
+shift k (a ∷ b ∷ c ∷ d ∷ e ∷ f ∷ next ∷ l) = a ∷ b ∷ c ∷ d ∷ e ∷ f ∷ (k + next) ∷ shift k l

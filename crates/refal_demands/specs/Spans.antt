@@ -5,7 +5,10 @@ use mathlib.Core.List.{List}
 use lib.ListN.{length, getD}
 use Rattle.refal_ast.specs.Encode.{nodeWidth}
 
--- a row's words 4 and 5 are its span's start and end
+-- word i is none of a span's two, which are words 4 and 5 of a row
+abbrev pub OutsideSpan : ℕ → Type 0
+OutsideSpan i = (i % nodeWidth ≡ 4 → ⊥) × (i % nodeWidth ≡ 5 → ⊥)
+
 pub record SameButSpans (T U : List ℕ) : Type 0 where
   pub rows : length T ≡ length U
-  pub word : (i : ℕ) → (i % nodeWidth ≡ 4 → ⊥) → (i % nodeWidth ≡ 5 → ⊥) → getD T i 0 ≡ getD U i 0
+  pub words : (i : ℕ) → OutsideSpan i → getD T i 0 ≡ getD U i 0
