@@ -20,14 +20,20 @@ use Rattle.refal_ast.specs.declared.Answer.{Answer}
 use Rattle.refal_ast.specs.declared.Answer.the-variants.{Done, Refused}
 use Rattle.refal_parser.specs.Machine.{Outcome, tree, refuse}
 use Rattle.refal_parser.specs.Parse.{parsed, fits, answerOf, rowsLeft, parseAnswer, parseRows}
+use Rattle.refal_tree.specs.ForestLaws.{length-enc}
+use Rattle.refal_tree.specs.Typed.{toForest}
+use Rattle.refal_tree.specs.TypedWords.{enc-tree, size-tree}
 use Rattle.refal_demands.specs.Spans.{SameButSpans}
 use Rattle.refal_demands.specs.Trees.{Lawful, withoutLast, tokensBeforeEof, Flattens}
 use Rattle.refal_demands.specs.Demand3.{Fits, parserTree, Demand3}
 use Rattle.refal_demands.proofs.Fields.{Ends, ends, plain}
 use Rattle.refal_demands.proofs.Respan.{eraseP, size-respanP}
 use Rattle.refal_demands.proofs.Moved.{same-rows}
-use Rattle.refal_demands.proofs.Sizes.{longP}
 use Rattle.refal_demands.proofs.Theorems.{ok-tokens, soundness, completeness, uniqueness}
+
+-- how many words a tree's rows have
+words-of : (t : Program) → length (encP t 0) ≡ nodeWidth * sizeP t
+words-of t = ap length (sym (enc-tree t 0)) ∙ length-enc (toForest t) 0 ∙ ap (λ (n : ℕ). nodeWidth * n) (size-tree t)
 
 -- what an answer of success says of the outcome
 record Success (o : Outcome) (B : List ℕ) (m : ℕ) : Type 0 where
@@ -49,7 +55,7 @@ parser-tree : (w B : List ℕ) (m : ℕ) (t : Program) → parsed w ≡ tree t �
 parser-tree w B m t e s r =
     ap (λ (o : Outcome). take (nodeWidth * m) (rowsLeft o B)) e
     ∙ ap (λ (b : Bool). take (nodeWidth * m) (pickList b (encP t 0 ++ drop (nodeWidth * sizeP t) B) (replicate (length B) 0))) (le-leb (nodeWidth * sizeP t) (length B) r)
-    ∙ take-at (encP t 0) (drop (nodeWidth * sizeP t) B) (nodeWidth * m) (longP t 0 ∙ ap (λ (k : ℕ). nodeWidth * k) (sym s))
+    ∙ take-at (encP t 0) (drop (nodeWidth * sizeP t) B) (nodeWidth * m) (words-of t ∙ ap (λ (k : ℕ). nodeWidth * k) (sym s))
 
 without-last : (l : List Flat) (c : Flat) → withoutLast (l ++ (c ∷ [])) ≡ l
 without-last [] c = refl
@@ -76,7 +82,7 @@ gives : (w B : List ℕ) (m : ℕ) → parseAnswer w B ≡ Done m → Fits w B (
 gives w B m e =
     let S = success (parsed w) B m e in
     let r : parserTree w B m ≡ encP (S .t) 0 = parser-tree w B m (S .t) (S .is) (S .size) (S .room) in
-    let l : length (parserTree w B m) ≡ nodeWidth * sizeP (S .t) = ap length r ∙ longP (S .t) 0 in
+    let l : length (parserTree w B m) ≡ nodeWidth * sizeP (S .t) = ap length r ∙ words-of (S .t) in
     let s = S .size in
     let k = S .room in (
       record { lawful = record { program = S .t; rows = r }; deep = let d = is-deep w (S .t) (S .is) in omega arith; room = omega arith; flattens = flattens w (S .t) (S .is) },
@@ -90,7 +96,7 @@ accepted w B T g f =
     let d₁ : depthP p ≤ 64 = omega arith in
     let c = completeness w p (tokensBeforeEof w) g d₁ (f .flattens) (with-eof (tokensOf w) (ends (tokensOf w) (ok-tokens w g))) in
     let l = f .room in
-    let l₁ : length T ≡ nodeWidth * sizeP p = ap length (f .lawful .rows) ∙ longP p 0 in
+    let l₁ : length T ≡ nodeWidth * sizeP p = ap length (f .lawful .rows) ∙ words-of p in
     let s : sizeP (c .0) ≡ sizeP p = sym (size-respanP (λ (x : ℕ). 0) (c .0)) ∙ ap sizeP (c .2) ∙ size-respanP (λ (x : ℕ). 0) p in
     let r : nodeWidth * sizeP (c .0) ≤ length B = omega arith in (
       sizeP (c .0),

@@ -11,9 +11,9 @@ pub mod Begins
 pub mod ReadsSentences
 pub mod Complete
 pub mod Moved
-pub mod Sizes
 pub mod Theorems
 pub mod Demand3
 pub mod Table
 pub mod Edge
 pub mod Bound
+pub mod LawfulRows
