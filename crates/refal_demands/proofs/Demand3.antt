@@ -25,7 +25,7 @@ use Rattle.refal_tree.specs.Typed.{toForest}
 use Rattle.refal_tree.specs.TypedWords.{enc-tree, size-tree}
 use Rattle.refal_demands.specs.Spans.{SameButSpans}
 use Rattle.refal_demands.specs.Trees.{Lawful, withoutLast, tokensBeforeEof, Flattens}
-use Rattle.refal_demands.specs.Demand3.{Fits, parserTree, Demand3}
+use Rattle.refal_demands.specs.Demand3.{Fits, parserTree, Theorem}
 use Rattle.refal_demands.proofs.Fields.{Ends, ends, plain}
 use Rattle.refal_demands.proofs.Respan.{eraseP, size-respanP}
 use Rattle.refal_demands.proofs.Moved.{same-rows}
@@ -111,7 +111,7 @@ one w B m e T t f =
     let u = same-rows (t .program) (S .t) (uniqueness (t .program) (S .t) (tokensBeforeEof w) f (flattens w (S .t) (S .is))) in
     subst (λ (x : List ℕ). SameButSpans x (parserTree w B m)) (sym (t .rows)) (subst (λ (x : List ℕ). SameButSpans (encP (t .program) 0) x) (sym r) u)
 
-pub demand3 : (w B : List ℕ) → wellFormed w ≡ true → Demand3 w B
+pub demand3 : Theorem
 demand3 w B g = record {
   accepts = (λ a. (parserTree w B (a .0), gives w B (a .0) (a .1) .0), λ a. accepted w B (a .0) g (a .1));
   gives = gives w B;

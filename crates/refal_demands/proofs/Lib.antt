@@ -1,4 +1,4 @@
--- Laws and the theorems' proofs.
+-- The theorems' proofs: Demand3, Table, Edge, Bound, LawfulRows, and Theorems (the same over trees). The other modules serve them.
 pub mod Flats
 pub mod Levels
 pub mod Fields

@@ -2,9 +2,11 @@
 -- the token words w with the node words B lent, and `parseRows w B` what it leaves in them: its contract equates both.
 use mathlib.Core.Path.{_≡_}
 use Prim.Native.Nat.{ℕ, _*_, _≤_}
+use mathlib.Core.Bool.{true}
 use mathlib.Core.Logic.{_↔_}
 use mathlib.Core.List.{List}
 use lib.ListN.{length, take}
+use Rattle.refal_ast.specs.Check.{wellFormed}
 use Rattle.refal_ast.specs.Encode.{nodeWidth}
 use Rattle.refal_ast.specs.declared.Answer.the-variants.{Done}
 use Rattle.refal_parser.specs.Parse.{parseAnswer, parseRows}
@@ -29,3 +31,7 @@ pub record Demand3 (w B : List ℕ) : Type 0 where
   pub gives : (m : ℕ) → parseAnswer w B ≡ Done m → Fits w B (parserTree w B m) × (length (parserTree w B m) ≡ nodeWidth * m)
   -- and every lawful tree that flattens so, whatever its depth, is equal to the parser's, spans aside
   pub one : (m : ℕ) → parseAnswer w B ≡ Done m → (T : List ℕ) (t : Lawful T) → Flattens t w → SameButSpans T (parserTree w B m)
+
+-- The theorem: for all token words that check 30 passes, and all node words lent. (`proofs/Demand3` proves it.)
+abbrev pub Theorem : Type 0
+Theorem = (w B : List ℕ) → wellFormed w ≡ true → Demand3 w B

@@ -1,4 +1,5 @@
--- The theorems' statements: Demand3 (with Trees and Spans, the terms in which it is stated).
+-- The theorems' statements: Demand3 (with Trees and Spans, the terms in which it is stated), Table (01's worked table), Edge (parsing from
+-- an item's edge on).
 pub mod Spans
 pub mod Trees
 pub mod Demand3
