@@ -75,10 +75,15 @@ fn main() -> ExitCode {
     );
     let all = [&measured[..], &hostiles[..]].concat();
     print!("{}", table::step("Reading", &all, |m| m.reading));
-    print!("{}", table::step("Parsing", &all, |m| m.parsing));
+    let parsed: Vec<Measured> = all
+        .iter()
+        .filter(|input| input.tokens >= table::FEW)
+        .cloned()
+        .collect();
+    print!("{}", table::step("Parsing", &parsed, |m| m.parsing));
     let both = |m: &Measured| m.reading.plus(m.parsing);
     print!("{}", table::step("Reading and parsing", &measured, both));
-    print!("{}", table::writing(&all));
+    print!("{}", table::writing(&parsed));
     let peaks: Vec<_> = measured
         .iter()
         .zip(&deliveries)

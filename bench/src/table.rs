@@ -2,6 +2,9 @@
 
 use crate::measure::{Measured, Times};
 
+/// An input of fewer tokens says nothing on the time of one.
+pub const FEW: usize = 1000;
+
 fn megabytes(bytes: usize, time: Option<f64>) -> String {
     time.map_or_else(
         || "-".into(),
@@ -9,8 +12,9 @@ fn megabytes(bytes: usize, time: Option<f64>) -> String {
     )
 }
 
+/// Nothing for an input of hardly any tokens.
 fn nanoseconds(tokens: usize, time: Option<f64>) -> String {
-    time.map_or_else(
+    time.filter(|_| tokens >= FEW).map_or_else(
         || "-".into(),
         |time| format!("{:.1}", time / tokens as f64 * 1e9),
     )

@@ -1,7 +1,6 @@
 //! Parsing: a test of all tokens, then one pass of recursive descent that puts rows down in place.
 
 use super::refuse;
-use oracle::reference::utf8::is_scalar;
 use oracle::terms::{Answer, MAX_DEPTH, MAX_TOKENS, done, node, token};
 
 pub fn parse(tokens: &[u32], rows: &mut [u32]) -> Answer {
@@ -28,29 +27,46 @@ pub fn parse(tokens: &[u32], rows: &mut [u32]) -> Answer {
 }
 
 const TEXT: u32 = 1 << token::IDENTIFIER | 1 << token::VARIABLE | 1 << token::NUMBER;
+const LEAVES: u32 = TEXT | 1 << token::CHAR;
+/// The node of a token that is a term by itself, by the token's kind.
+const LEAF: [u32; 8] = [
+    0,
+    0,
+    0,
+    node::IDENTIFIER,
+    node::VARIABLE,
+    node::NUMBER,
+    node::CHAR,
+    0,
+];
 const DETAIL: u32 = 1 << token::VARIABLE | 1 << token::CHAR;
 
+/// Without branches on what the tokens hold.
 fn all_lawful(tokens: &[[u32; 6]]) -> bool {
     let Some((last, before)) = tokens.split_last() else {
         return false;
     };
-    lawful(last)
-        && last[0] == token::EOF
-        && before.iter().all(|row| lawful(row) && row[0] < token::EOF)
+    let mut bad = unlawful(last) | (last[0] != token::EOF);
+    for row in before {
+        bad |= unlawful(row) | (row[0] == token::EOF);
+    }
+    !bad
 }
 
 #[inline(always)]
-fn lawful(&[kind, detail, start, length, ..]: &[u32; 6]) -> bool {
-    if kind.wrapping_sub(1) > 16 {
-        return false;
-    }
-    let bit = 1 << kind;
-    (bit & TEXT != 0 || start | length == 0)
-        && if bit & DETAIL != 0 {
-            is_scalar(detail)
-        } else {
-            detail == 0
-        }
+fn unlawful(&[kind, detail, start, length, ..]: &[u32; 6]) -> bool {
+    let bit = 1u32.wrapping_shl(kind);
+    (kind.wrapping_sub(1) > 16)
+        | (bit & TEXT == 0) & (start | length != 0)
+        | (bit & DETAIL == 0) & (detail != 0)
+        | (detail > 0x10_ffff)
+        | (detail.wrapping_sub(0xd800) < 0x800)
+}
+
+/// s, t or e.
+#[inline(always)]
+fn is_letter(detail: u32) -> bool {
+    (detail == 115) | (detail == 116) | (detail == 101)
 }
 
 struct Refused;
@@ -276,25 +292,19 @@ impl Parser {
                 if closing >> kind & 1 != 0 {
                     return Ok(());
                 }
-                let leaf = match kind {
-                    token::IDENTIFIER => node::IDENTIFIER,
-                    token::NUMBER => node::NUMBER,
-                    token::CHAR => node::CHAR,
-                    token::VARIABLE => {
-                        if !(detail == 115 || detail == 116 || detail == 101) {
-                            return Err(self.taken(36, 0));
-                        }
-                        node::VARIABLE
+                if LEAVES >> kind & 1 != 0 {
+                    if (kind == token::VARIABLE) & !is_letter(detail) {
+                        return Err(self.taken(36, 0));
                     }
-                    token::LPAREN | token::LANGLE => {
-                        self.nest(kind, depth)?;
-                        continue;
-                    }
-                    _ => return Err(self.taken(34, 0)),
-                };
-                self.next();
-                let row = self.open();
-                self.put(row, [leaf, detail, text, length, start, end]);
+                    self.next();
+                    let row = self.open();
+                    let leaf = LEAF[kind as usize & 7];
+                    self.put(row, [leaf, detail, text, length, start, end]);
+                } else if kind == token::LPAREN || kind == token::LANGLE {
+                    self.nest(kind, depth)?;
+                } else {
+                    return Err(self.taken(34, 0));
+                }
             }
         }
     }

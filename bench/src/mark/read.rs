@@ -1,7 +1,6 @@
 //! Reading: one pass of validation, one of scanning by a table of byte classes.
 
 use super::refuse;
-use oracle::reference::utf8;
 use oracle::terms::{Answer, MAX_SOURCE, done, token};
 
 const OTHER: u8 = 0;
@@ -169,13 +168,8 @@ impl Scanner<'_> {
             let byte = unsafe { *src.get_unchecked(at) };
             let class = CLASS[byte as usize];
             match class {
-                SPACE => {
-                    at += 1;
-                    continue;
-                }
-                NEWLINE => {
-                    fresh = true;
-                    at += 1;
+                SPACE | NEWLINE => {
+                    (at, fresh) = self.blank(at, fresh);
                     continue;
                 }
                 STAR if fresh => {
@@ -206,9 +200,25 @@ impl Scanner<'_> {
                 _ => return Err((10, at, at + 1)),
             }
             fresh = false;
+            // Most tokens have one space after them.
+            at += usize::from(self.byte(at) == b' ');
         }
         self.out.put([token::EOF, 0, 0, 0, at as u32, at as u32]);
         Ok(())
+    }
+
+    /// Passes over ASCII white space.
+    #[inline(always)]
+    fn blank(&self, mut at: usize, mut fresh: bool) -> (usize, bool) {
+        loop {
+            at = self.while_in(at, |byte| byte == b' ');
+            match self.byte(at) {
+                b'\n' => fresh = true,
+                0x09..=0x0d => (),
+                _ => return (at, fresh),
+            }
+            at += 1;
+        }
     }
 
     #[inline(always)]
@@ -219,8 +229,15 @@ impl Scanner<'_> {
 
     /// White space that is not ASCII, or 10.
     fn wide(&self, at: usize) -> Result<usize, Refused> {
-        let (value, length) = utf8::first_char(&self.src[at..]).expect("well formed");
-        if utf8::is_white_space(value) {
+        let length = self.byte(at).leading_ones() as usize;
+        let space = match (self.byte(at), self.byte(at + 1), self.byte(at + 2)) {
+            (0xc2, second, _) => matches!(second, 0x85 | 0xa0),
+            (0xe2, 0x80, third) => matches!(third, 0x80..=0x8a | 0xa8 | 0xa9 | 0xaf),
+            (0xe2, 0x81, third) => third == 0x9f,
+            (0xe1, 0x9a, third) | (0xe3, 0x80, third) => third == 0x80,
+            _ => false,
+        };
+        if space {
             Ok(at + length)
         } else {
             Err((10, at, at + length))
@@ -233,7 +250,7 @@ impl Scanner<'_> {
         loop {
             match find(&self.src[at.min(self.src.len())..], b'*') {
                 None => return Err((24, start, self.src.len())),
-                Some(star) => at += star + 1,
+                Some(star) => at = self.while_in(at + star, |byte| byte == b'*'),
             }
             if self.byte(at) == b'/' {
                 return Ok(at + 1);
