@@ -1,6 +1,6 @@
 //! Times of the original, the proved library and the mark on one input, taken in turn.
 
-use crate::mark;
+use crate::{clock, mark};
 use compare::{Library, has};
 use oracle::cases::{Case, Functions};
 use oracle::original;
@@ -162,10 +162,11 @@ fn writing(src: &str, tree: &[u32], effort: Effort) -> Option<Writing> {
     })
 }
 
+/// Seconds of processor time, so that a busy machine does not count.
 fn time<T>(work: impl FnOnce() -> T) -> (f64, T) {
-    let started = Instant::now();
+    let started = clock::seconds();
     let result = black_box(work());
-    (started.elapsed().as_secs_f64(), result)
+    (clock::seconds() - started, result)
 }
 
 fn repeat(effort: Effort, mut round: impl FnMut()) {
