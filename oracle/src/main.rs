@@ -18,6 +18,7 @@ oracle: the answers of document 01, from the original where it is present
   oracle hostile NAME SIZE      a hostile file of at most SIZE bytes
   oracle hostile                the names of the hostile files
   oracle lists FOLDER           the fixed lists of tests/vectors
+  oracle sample FOLDER          a sample of them as stdin and stdout of crates/vectors
 
 Where the original files are present its answer is compared with the reference's first.
 A refusal is printed as: refused number expected found start end need; the exit status is 1.
@@ -47,6 +48,7 @@ fn main() -> ExitCode {
         },
         ["hostile"] => print(HOSTILE.map(|name| format!("{name}\n")).concat().as_bytes()),
         ["lists", folder] => lists(folder),
+        ["sample", folder] => sample(folder),
         ["--help"] => print(HELP.as_bytes()),
         _ => usage(),
     }
@@ -58,15 +60,30 @@ fn lists(folder: &str) -> ExitCode {
         eprintln!("oracle: the original files are absent, no list is made");
         return ExitCode::from(1);
     }
-    for list in &LISTS {
-        let text = lists::text(list);
-        let file = Path::new(folder).join(list.file);
-        if let Err(error) = std::fs::write(&file, text) {
+    let texts = LISTS.iter().map(|list| (list.file, lists::text(list)));
+    texts
+        .map(|(file, text)| write_file(folder, file, text.as_bytes()))
+        .find(|&code| code != ExitCode::SUCCESS)
+        .unwrap_or(ExitCode::SUCCESS)
+}
+
+fn sample(folder: &str) -> ExitCode {
+    let (input, output) = lists::sample::sample();
+    match write_file(folder, "stdin", &input) {
+        ExitCode::SUCCESS => write_file(folder, "stdout", output.as_bytes()),
+        code => code,
+    }
+}
+
+fn write_file(folder: &str, file: &str, bytes: &[u8]) -> ExitCode {
+    let file = Path::new(folder).join(file);
+    match std::fs::write(&file, bytes) {
+        Ok(()) => ExitCode::SUCCESS,
+        Err(error) => {
             eprintln!("oracle: {}: {error}", file.display());
-            return ExitCode::from(2);
+            ExitCode::from(2)
         }
     }
-    ExitCode::SUCCESS
 }
 
 fn usage() -> ExitCode {

@@ -1,7 +1,7 @@
 //! The lists in tests/vectors are those that the oracle makes, and the reference answers them.
 
 use oracle::cases::{Case, Outcome, Reference, run};
-use oracle::lists::{LISTS, format, text};
+use oracle::lists::{LISTS, format, sample, text};
 use std::collections::BTreeMap;
 use std::path::Path;
 
@@ -21,6 +21,18 @@ fn are_those_that_the_oracle_makes() {
             list.file
         );
     }
+}
+
+#[test]
+fn the_sample_is_the_one_that_the_oracle_makes() {
+    let folder = Path::new(env!("CARGO_MANIFEST_DIR")).join("../crates/vectors");
+    let (input, output) = sample::sample();
+    let stored = |file: &str| std::fs::read(folder.join(file)).expect(file);
+    assert!(stored("stdin") == input, "stdin is out of date");
+    assert!(
+        stored("stdout") == output.into_bytes(),
+        "stdout is out of date"
+    );
 }
 
 #[test]

@@ -4,6 +4,7 @@ pub mod format;
 pub mod names;
 pub mod parsing;
 pub mod reading;
+pub mod sample;
 pub mod writing;
 
 use crate::cases::{Case, Reference, original_agrees, run};

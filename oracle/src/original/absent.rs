@@ -21,3 +21,23 @@ pub fn canonical_index(_: &str) -> Option<String> {
 pub fn names_equal(_: &str, _: &str) -> Option<bool> {
     None
 }
+
+pub struct Tokens;
+
+impl Tokens {
+    pub fn count(&self) -> usize {
+        0
+    }
+
+    pub fn copy(&self) -> Self {
+        Self
+    }
+}
+
+pub fn tokenize(_: &str) -> Option<Tokens> {
+    None
+}
+
+pub fn parse_tokens(_: Tokens) -> Option<()> {
+    None
+}

@@ -268,3 +268,32 @@ pub fn canonical_index(name: &str) -> Option<String> {
 pub fn names_equal(a: &str, b: &str) -> Option<bool> {
     Some(ast::identifiers_equal(a, b))
 }
+
+/// The original's tokens, to be timed and parsed.
+pub struct Tokens(Vec<lexer::Token>);
+
+impl Tokens {
+    pub fn count(&self) -> usize {
+        self.0.len()
+    }
+
+    /// A copy for a parser to own.
+    pub fn copy(&self) -> Self {
+        Self(self.0.clone())
+    }
+}
+
+/// `Lexer::tokenize` and nothing else.
+pub fn tokenize(src: &str) -> Option<Tokens> {
+    Lexer::new(src).tokenize().ok().map(Tokens)
+}
+
+/// The original's tree, kept only so that dropping it is not timed.
+pub struct Tree(pub ast::Program);
+
+/// `Parser::parse_program` and nothing else.
+pub fn parse_tokens(tokens: Tokens) -> Option<(Tree, Parser)> {
+    let mut parser = Parser::new(tokens.0);
+    let program = parser.parse_program().ok()?;
+    Some((Tree(program), parser))
+}

@@ -1,0 +1,109 @@
+//! Times the original, the proved library and the mark in one run, and prints tables.
+
+use bench::measure::{Effort, Measured, measure};
+use bench::memory::{Counting, original_peak};
+use bench::{plot, table};
+use oracle::generate::delivery::{HOSTILE, delivery, hostile};
+use oracle::terms::MAX_SOURCE;
+use std::process::ExitCode;
+use std::time::Duration;
+
+#[global_allocator]
+static ALLOCATOR: Counting = Counting;
+
+const HELP: &str = "\
+bench: times the original, the proved library and an unverified mark in one run
+
+  bench [--quick] [--seed N] [--svg FILE]
+
+  --quick      deliveries of 64 KiB and 1 MiB, hostile files of 1 MiB, few repetitions
+  --seed N     the seed of the deliveries (default 1)
+  --svg FILE   writes a plot of the time over the size of a delivery
+
+Everything lent is made and touched before it is timed. The three are timed in turn, in processor
+time of one thread, and medians are given; what the original allocates is dropped outside its time, and the copy of the tokens
+that its parser takes is not timed.
+";
+
+fn main() -> ExitCode {
+    let mut quick = false;
+    let mut seed = 1;
+    let mut svg = None;
+    let mut words = std::env::args().skip(1);
+    while let Some(word) = words.next() {
+        match word.as_str() {
+            "--quick" => quick = true,
+            "--seed" => match words.next().and_then(|word| word.parse().ok()) {
+                Some(number) => seed = number,
+                None => return usage(),
+            },
+            "--svg" => svg = words.next(),
+            "--help" => {
+                print!("{HELP}");
+                return ExitCode::SUCCESS;
+            }
+            _ => return usage(),
+        }
+    }
+    let effort = if quick {
+        Effort {
+            times: 5,
+            long: Duration::from_millis(100),
+        }
+    } else {
+        Effort {
+            times: 9,
+            long: Duration::from_secs(1),
+        }
+    };
+    let mut sizes = vec![64 << 10, 1 << 20];
+    if !quick {
+        sizes.extend([4 << 20, MAX_SOURCE]);
+    }
+    let deliveries: Vec<String> = sizes.iter().map(|&size| delivery(seed, size)).collect();
+    let measured: Vec<Measured> = deliveries
+        .iter()
+        .map(|src| measure("delivery", src, effort))
+        .collect();
+    let size = if quick { 1 << 20 } else { 4 << 20 };
+    let hostiles: Vec<Measured> = HOSTILE
+        .iter()
+        .map(|name| measure(name, &hostile(name, size), effort))
+        .collect();
+    println!(
+        "Seed {seed}. The mark is unverified Rust tuned by hand that puts down the same rows.\n"
+    );
+    let all = [&measured[..], &hostiles[..]].concat();
+    print!("{}", table::step("Reading", &all, |m| m.reading));
+    let parsed: Vec<Measured> = all
+        .iter()
+        .filter(|input| input.tokens >= table::FEW)
+        .cloned()
+        .collect();
+    print!("{}", table::step("Parsing", &parsed, |m| m.parsing));
+    let both = |m: &Measured| m.reading.plus(m.parsing);
+    print!("{}", table::step("Reading and parsing", &measured, both));
+    print!("{}", table::writing(&parsed));
+    let peaks: Vec<_> = measured
+        .iter()
+        .zip(&deliveries)
+        .map(|(input, src)| (input, original_peak(src)))
+        .collect();
+    print!("{}", table::memory(&peaks));
+    if let Some(file) = svg {
+        let Some(text) = plot::svg(&measured) else {
+            eprintln!("bench: nothing to plot");
+            return ExitCode::from(1);
+        };
+        if let Err(error) = std::fs::write(&file, text) {
+            eprintln!("bench: {file}: {error}");
+            return ExitCode::from(2);
+        }
+    }
+    ExitCode::SUCCESS
+}
+
+fn usage() -> ExitCode {
+    eprint!("{HELP}");
+    ExitCode::from(2)
+}

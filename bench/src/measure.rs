@@ -1,0 +1,192 @@
+//! Times of the original, the proved library and the mark on one input, taken in turn.
+
+use crate::{clock, mark};
+use compare::{Library, has};
+use oracle::cases::{Case, Functions};
+use oracle::original;
+use std::hint::black_box;
+use std::time::{Duration, Instant};
+
+/// Medians in seconds; None for what is not there.
+#[derive(Debug, Clone, Copy, Default)]
+pub struct Times {
+    pub original: Option<f64>,
+    pub ours: Option<f64>,
+    pub mark: Option<f64>,
+}
+
+impl Times {
+    pub fn plus(self, other: Self) -> Self {
+        let add = |a: Option<f64>, b: Option<f64>| Some(a? + b?);
+        Self {
+            original: add(self.original, other.original),
+            ours: add(self.ours, other.ours),
+            mark: add(self.mark, other.mark),
+        }
+    }
+}
+
+/// One input, with what was measured on it.
+#[derive(Debug, Clone)]
+pub struct Measured {
+    pub name: String,
+    pub bytes: usize,
+    pub tokens: usize,
+    pub nodes: usize,
+    pub reading: Times,
+    pub parsing: Times,
+    /// Writing the tree, and reading the text that was written, by the library alone.
+    pub writing: Option<Writing>,
+}
+
+#[derive(Debug, Clone, Copy)]
+pub struct Writing {
+    pub bytes: usize,
+    pub write: f64,
+    pub read_it: f64,
+}
+
+/// How often each is timed: at least this many times, and for at least so long in all.
+#[derive(Debug, Clone, Copy)]
+pub struct Effort {
+    pub times: usize,
+    pub long: Duration,
+}
+
+/// Whether the library has reading, parsing and writing.
+fn library() -> [bool; 3] {
+    let src = Vec::new();
+    let (tokens, tree) = (Vec::new(), Vec::new());
+    [
+        has(&Case::Read {
+            src: src.clone(),
+            lent: 0,
+        }),
+        has(&Case::Parse { tokens, lent: 0 }),
+        has(&Case::Write { tree, src, lent: 0 }),
+    ]
+}
+
+pub fn measure(name: &str, src: &str, effort: Effort) -> Measured {
+    let [reads, parses, writes] = library();
+    // Lent rows are made and touched before anything is timed.
+    let mut rows = vec![1u32; 6 * (src.len() + 1)];
+    let tokens = mark::read(src.as_bytes(), &mut rows)[1] as usize;
+    assert!(tokens > 0, "{name} is read");
+    rows.truncate(6 * tokens);
+    let reading = {
+        let mut out = vec![1u32; rows.len()];
+        let mut theirs = Vec::new();
+        let mut ours = Vec::new();
+        let mut marks = Vec::new();
+        repeat(effort, || {
+            if original::PRESENT {
+                let (time, tokens) = time(|| original::tokenize(black_box(src)));
+                drop(tokens);
+                theirs.push(time);
+            }
+            if reads {
+                ours.push(time(|| Library.read(black_box(src.as_bytes()), &mut out)).0);
+                assert!(out == rows);
+            }
+            marks.push(time(|| mark::read(black_box(src.as_bytes()), &mut out)).0);
+            assert!(out == rows);
+        });
+        medians(theirs, ours, marks)
+    };
+    let need = mark::parse(&rows, &mut [])[6] as usize;
+    let mut tree = vec![1u32; 7 * need];
+    mark::parse(&rows, &mut tree);
+    let parsing = {
+        let mut out = vec![1u32; tree.len()];
+        let mut theirs = Vec::new();
+        let mut ours = Vec::new();
+        let mut marks = Vec::new();
+        let tokens = original::tokenize(src);
+        repeat(effort, || {
+            if let Some(tokens) = &tokens {
+                let copy = tokens.copy();
+                let (time, tree) = time(|| original::parse_tokens(black_box(copy)));
+                drop(tree);
+                theirs.push(time);
+            }
+            if parses {
+                ours.push(time(|| Library.parse(black_box(&rows), &mut out)).0);
+                assert!(out == tree);
+            }
+            marks.push(time(|| mark::parse(black_box(&rows), &mut out)).0);
+            assert!(out == tree);
+        });
+        medians(theirs, ours, marks)
+    };
+    let writing = (reads && writes)
+        .then(|| writing(src, &tree, effort))
+        .flatten();
+    Measured {
+        name: name.to_string(),
+        bytes: src.len(),
+        tokens,
+        nodes: need,
+        reading,
+        parsing,
+        writing,
+    }
+}
+
+/// None where the text would be too long.
+fn writing(src: &str, tree: &[u32], effort: Effort) -> Option<Writing> {
+    let answer = Library.write(tree, src.as_bytes(), &mut []);
+    let length = if answer[0] == 42 {
+        answer[6] as usize
+    } else {
+        0
+    };
+    let mut text = vec![1; length];
+    if Library.write(tree, src.as_bytes(), &mut text)[0] != 0 {
+        return None;
+    }
+    let mut rows = vec![1u32; 6 * (length + 1)];
+    let count = Library.read(&text, &mut rows)[1] as usize;
+    rows.truncate(6 * count);
+    let written = text.clone();
+    let mut write = Vec::new();
+    let mut read = Vec::new();
+    repeat(effort, || {
+        write.push(time(|| Library.write(black_box(tree), src.as_bytes(), &mut text)).0);
+        read.push(time(|| Library.read(black_box(&written), &mut rows)).0);
+    });
+    Some(Writing {
+        bytes: length,
+        write: median(write)?,
+        read_it: median(read)?,
+    })
+}
+
+/// Seconds of processor time, so that a busy machine does not count.
+fn time<T>(work: impl FnOnce() -> T) -> (f64, T) {
+    let started = clock::seconds();
+    let result = black_box(work());
+    (clock::seconds() - started, result)
+}
+
+fn repeat(effort: Effort, mut round: impl FnMut()) {
+    let started = Instant::now();
+    let mut times = 0;
+    while times < effort.times || started.elapsed() < effort.long {
+        round();
+        times += 1;
+    }
+}
+
+fn medians(original: Vec<f64>, ours: Vec<f64>, mark: Vec<f64>) -> Times {
+    Times {
+        original: median(original),
+        ours: median(ours),
+        mark: median(mark),
+    }
+}
+
+fn median(mut times: Vec<f64>) -> Option<f64> {
+    times.sort_by(f64::total_cmp);
+    times.get(times.len() / 2).copied()
+}

@@ -1,0 +1,113 @@
+//! The measurements as tables in Markdown.
+
+use crate::measure::{Measured, Times};
+
+/// An input of fewer tokens says nothing on the time of one.
+pub const FEW: usize = 1000;
+
+fn megabytes(bytes: usize, time: Option<f64>) -> String {
+    time.map_or_else(
+        || "-".into(),
+        |time| format!("{:.0}", bytes as f64 / time / 1e6),
+    )
+}
+
+/// Nothing for an input of hardly any tokens.
+fn nanoseconds(tokens: usize, time: Option<f64>) -> String {
+    time.filter(|_| tokens >= FEW).map_or_else(
+        || "-".into(),
+        |time| format!("{:.1}", time / tokens as f64 * 1e9),
+    )
+}
+
+fn ratio(a: Option<f64>, b: Option<f64>) -> String {
+    match (a, b) {
+        (Some(a), Some(b)) => format!("{:.2}", a / b),
+        _ => "-".into(),
+    }
+}
+
+pub fn size(bytes: usize) -> String {
+    match bytes {
+        _ if bytes >= 1 << 20 => format!("{:.1} MiB", bytes as f64 / (1 << 20) as f64),
+        _ => format!("{:.0} KiB", bytes as f64 / 1024.0),
+    }
+}
+
+/// Speeds of one step, with ratios of medians.
+pub fn step(title: &str, measured: &[Measured], times: fn(&Measured) -> Times) -> String {
+    let mut text = format!(
+        "## {title}\n\n\
+         | input | size | tokens | original MB/s | ours MB/s | mark MB/s \
+         | original ns/token | ours ns/token | mark ns/token \
+         | times as fast as the original | time against the mark |\n\
+         |---|---|---|---|---|---|---|---|---|---|---|\n"
+    );
+    for input in measured {
+        let Times {
+            original,
+            ours,
+            mark,
+        } = times(input);
+        let cells = [
+            input.name.clone(),
+            size(input.bytes),
+            input.tokens.to_string(),
+            megabytes(input.bytes, original),
+            megabytes(input.bytes, ours),
+            megabytes(input.bytes, mark),
+            nanoseconds(input.tokens, original),
+            nanoseconds(input.tokens, ours),
+            nanoseconds(input.tokens, mark),
+            ratio(original, ours.or(mark)),
+            ratio(ours, mark),
+        ];
+        text.push_str(&format!("| {} |\n", cells.join(" | ")));
+    }
+    text.push('\n');
+    text
+}
+
+pub fn writing(measured: &[Measured]) -> String {
+    let mut text = String::from(
+        "## Writing\n\n\
+         | input | text | write MB/s | read that text MB/s | write against read, per byte |\n\
+         |---|---|---|---|---|\n",
+    );
+    for input in measured {
+        if let Some(writing) = input.writing {
+            let cells = [
+                input.name.clone(),
+                size(writing.bytes),
+                megabytes(writing.bytes, Some(writing.write)),
+                megabytes(writing.bytes, Some(writing.read_it)),
+                ratio(Some(writing.write), Some(writing.read_it)),
+            ];
+            text.push_str(&format!("| {} |\n", cells.join(" | ")));
+        }
+    }
+    text.push('\n');
+    text
+}
+
+/// Peak memory: what the original holds, and the rows lent to the library.
+pub fn memory(rows: &[(&Measured, Option<usize>)]) -> String {
+    let mut text = String::from(
+        "## Peak memory\n\n\
+         | input | size | original | ours: token and node rows | original against ours |\n\
+         |---|---|---|---|---|\n",
+    );
+    for (input, peak) in rows {
+        let ours = 24 * input.tokens + 28 * input.nodes;
+        let cells = [
+            input.name.clone(),
+            size(input.bytes),
+            peak.map_or_else(|| "-".into(), size),
+            size(ours),
+            ratio(peak.map(|peak| peak as f64), Some(ours as f64)),
+        ];
+        text.push_str(&format!("| {} |\n", cells.join(" | ")));
+    }
+    text.push('\n');
+    text
+}

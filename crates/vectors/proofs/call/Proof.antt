@@ -1,0 +1,87 @@
+-- `vectors::call` meets its contract: the lent part has as many bytes as were asked for.
+use mathlib.Core.Path.{sym}
+use lib.Seq.{length-take-le}
+use native.Mathlib.Omega.{arith}
+use borrow.Author.Needs.{needs}
+use Rattle.vectors.proofs.call.Statement.{statement}
+use Rattle.vectors.proofs.call.Tie as tie
+use Rattle.vectors.proofs.call.Reads as reads
+use Rattle.vectors.proofs.call.Lts as lts
+use Rattle.vectors.proofs.equal.Reads as equal-reads
+use Rattle.vectors.proofs.index.Reads as index-reads
+use Rattle.vectors.proofs.name.Reads as name-reads
+
+-- src/main.rt:89:9
+returns : tie.Need-returns
+returns c = search needs
+
+-- src/main.rt:92:21
+slice-relend-prefix-name : tie.Need-slice-relend-prefix-name
+slice-relend-prefix-name c = search needs
+
+-- src/main.rt:92:21
+slice-aggregate-name : tie.Need-slice-aggregate-name
+slice-aggregate-name c = sym (length-take-le _ _ (omega arith))
+
+-- src/main.rt:92:9
+name-requires : tie.Need-name-requires
+name-requires c κs = search needs
+
+-- src/main.rt:93:9
+same-length : tie.Need-same-length
+same-length c = search needs
+
+-- src/main.rt:93:9
+returns-2 : tie.Need-returns-2
+returns-2 c = search needs
+
+-- src/main.rt:96:22
+slice-relend-prefix-index : tie.Need-slice-relend-prefix-index
+slice-relend-prefix-index c = search needs
+
+-- src/main.rt:96:22
+slice-aggregate-index : tie.Need-slice-aggregate-index
+slice-aggregate-index c = sym (length-take-le _ _ (omega arith))
+
+-- src/main.rt:96:9
+index-requires : tie.Need-index-requires
+index-requires c κs = search needs
+
+-- src/main.rt:97:9
+same-length-2 : tie.Need-same-length-2
+same-length-2 c = search needs
+
+-- src/main.rt:97:9
+returns-3 : tie.Need-returns-3
+returns-3 c = search needs
+
+-- src/main.rt:100:9
+equal-requires : tie.Need-equal-requires
+equal-requires c κs = search needs
+
+-- src/main.rt:87:1
+returns-4 : tie.Need-returns-4
+returns-4 c = search needs
+
+-- src/main.rt:87:1
+returns-5 : tie.Need-returns-5
+returns-5 c = search needs
+
+pub call-spec : {M : Type 1} → statement M
+call-spec =
+    tie.close
+    (tie.spec
+    returns
+    slice-relend-prefix-name
+    slice-aggregate-name
+    name-requires
+    same-length
+    returns-2
+    slice-relend-prefix-index
+    slice-aggregate-index
+    index-requires
+    same-length-2
+    returns-3
+    equal-requires
+    returns-4
+    returns-5)

@@ -1,0 +1,76 @@
+-- `vectors::equal` meets its contract: the two parts of the input lie within it.
+use mathlib.Core.Path.{sym}
+use lib.Seq.{length-take-le}
+use native.Mathlib.Omega.{arith}
+use borrow.Author.Needs.{needs}
+use Rattle.vectors.proofs.equal.Statement.{statement}
+use Rattle.vectors.proofs.equal.Tie as tie
+use Rattle.vectors.proofs.equal.Reads as reads
+use Rattle.vectors.proofs.equal.Lts as lts
+use Rattle.io.proofs.write_all.Reads as write-all-reads
+use Rattle.refal5.proofs.refal5_names_equal.Reads as refal5-names-equal-reads
+
+-- src/main.rt:77:9
+returns : tie.Need-returns
+returns c = search needs
+
+-- src/main.rt:79:35
+slice-aggregate-refal5-names-equal : tie.Need-slice-aggregate-refal5-names-equal
+slice-aggregate-refal5-names-equal c = sym (length-take-le _ _ (omega arith))
+
+-- src/main.rt:79:49
+sub-refal5-names-equal : tie.Need-sub-refal5-names-equal
+sub-refal5-names-equal c = search needs
+
+-- src/main.rt:79:49
+part-refal5-names-equal-start : tie.Need-part-refal5-names-equal-start
+part-refal5-names-equal-start c = search needs
+
+-- src/main.rt:79:49
+part-refal5-names-equal-end : tie.Need-part-refal5-names-equal-end
+part-refal5-names-equal-end c = search needs
+
+-- src/main.rt:79:8
+refal5-names-equal-requires : tie.Need-refal5-names-equal-requires
+refal5-names-equal-requires c κs = search needs
+
+-- src/main.rt:80:38
+slice-aggregate-write-all : tie.Need-slice-aggregate-write-all
+slice-aggregate-write-all c = search needs
+
+-- src/main.rt:80:9
+write-all-requires : tie.Need-write-all-requires
+write-all-requires c κs = search needs
+
+-- src/main.rt:82:38
+slice-aggregate-write-all-2 : tie.Need-slice-aggregate-write-all-2
+slice-aggregate-write-all-2 c = search needs
+
+-- src/main.rt:82:9
+write-all-requires-2 : tie.Need-write-all-requires-2
+write-all-requires-2 c κs = search needs
+
+-- src/main.rt:75:1
+returns-2 : tie.Need-returns-2
+returns-2 c = search needs
+
+-- src/main.rt:75:1
+returns-3 : tie.Need-returns-3
+returns-3 c = search needs
+
+pub equal-spec : {M : Type 1} → statement M
+equal-spec =
+    tie.close
+    (tie.spec
+    returns
+    slice-aggregate-refal5-names-equal
+    sub-refal5-names-equal
+    part-refal5-names-equal-start
+    part-refal5-names-equal-end
+    refal5-names-equal-requires
+    slice-aggregate-write-all
+    write-all-requires
+    slice-aggregate-write-all-2
+    write-all-requires-2
+    returns-2
+    returns-3)

@@ -1,0 +1,126 @@
+// Replays a sample of the fixed lists (docs/VECTORS.md). Standard input holds records of 64 bytes: a letter for the call, the
+// lengths of its input and of what is lent in two decimal digits each, the input, points up to 63 bytes, a newline. For each
+// the seven words of the answer are written, then all that was lent for output, which held a5 in each byte before the call.
+use libc::STDOUT_FILENO;
+ghost use Prim.Native.Nat.{_≤_};
+
+// Two decimal digits; 0 for anything else.
+fn two(a: u8, b: u8) -> usize
+    ensures { λ r. ⌜ r ≤ 99 ⌝ }
+{
+    if a < 48 {
+        return 0;
+    }
+    if a > 57 {
+        return 0;
+    }
+    if b < 48 {
+        return 0;
+    }
+    if b > 57 {
+        return 0;
+    }
+    let tens = (a - 48) as usize;
+    let ones = (b - 48) as usize;
+    tens * 10 + ones
+}
+
+// One number and a space.
+fn put(n: u64) {
+    io::print_decimal(STDOUT_FILENO, n);
+    io::write_all(STDOUT_FILENO, &[b' ']);
+}
+
+fn put_answer(answer: &[u64; 7]) {
+    put(answer[0]);
+    put(answer[1]);
+    put(answer[2]);
+    put(answer[3]);
+    put(answer[4]);
+    put(answer[5]);
+    put(answer[6]);
+}
+
+// A byte as two digits.
+fn put_byte(byte: u8) {
+    io::print_hex(STDOUT_FILENO, byte as u64, 2);
+}
+
+// All bytes, two digits each, and a newline.
+fn put_bytes(bytes: &[u8]) {
+    let n = bytes.len();
+    let mut i = 0;
+    while i < n {
+        put_byte(bytes[i]);
+        i += 1;
+    }
+    io::write_all(STDOUT_FILENO, &[b'\n']);
+}
+
+fn name(input: &[u8], out: &mut [u8]) {
+    let mut answer = [0u64; 7];
+    refal5::refal5_canonical_name(input, out, &mut answer);
+    put_answer(&answer);
+    put_bytes(out);
+}
+
+fn index(input: &[u8], out: &mut [u8]) {
+    let mut answer = [0u64; 7];
+    refal5::refal5_canonical_index(input, out, &mut answer);
+    put_answer(&answer);
+    put_bytes(out);
+}
+
+// Whether the names before and after `at` are equal, as 1 or 0.
+fn equal(input: &[u8], at: usize) {
+    if at > input.len() {
+        return;
+    }
+    if refal5::refal5_names_equal(&input[..at], &input[at..]) {
+        io::write_all(STDOUT_FILENO, &[b'1', b'\n']);
+    } else {
+        io::write_all(STDOUT_FILENO, &[b'0', b'\n']);
+    }
+}
+
+// The call that the letter stands for, with as much of the space as is to be lent.
+fn call(letter: u8, input: &[u8], space: &mut [u8], lent: usize) {
+    if lent > space.len() {
+        return;
+    }
+    if letter == b'n' {
+        name(input, &mut space[..lent]);
+        return;
+    }
+    if letter == b'i' {
+        index(input, &mut space[..lent]);
+        return;
+    }
+    if letter == b'e' {
+        equal(input, lent);
+    }
+}
+
+// One record; false at the end of the input.
+fn record() -> bool {
+    let mut line = [0u8; 64];
+    if io::read_full(0, &mut line) < 64 {
+        return false;
+    }
+    let length = two(line[1], line[2]);
+    let lent = two(line[3], line[4]);
+    if length > 58 {
+        return false;
+    }
+    let end = length + 5;
+    let mut space = [165u8; 99];
+    call(line[0], &line[5..end], &mut space, lent);
+    true
+}
+
+fn main() {
+    let mut turns = u64::MAX;
+    while turns > 0 && record() {
+        turns -= 1;
+    }
+}
