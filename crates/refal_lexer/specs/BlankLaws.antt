@@ -1,29 +1,25 @@
 -- Laws of white space and comments: the ways out of their scans.
-use Prim.Native.Nat.{ℕ, zero, suc, _+_, _-_, _*_, _/_, _<_, _≤_}
-use borrow.Author.Tests.{le-leb, lt-leb, lt-ltb, le-ltb, eq-eqb, ne-eqb, eqb-true, leb-true, ltb-true, ltb-false}
+use Prim.Native.Nat.{ℕ, suc, _+_, _<_, _≤_}
+use borrow.Author.Tests.{lt-ltb, eq-eqb, ne-eqb}
 use native.Mathlib.Decide.{decLe}
-use native.Mathlib.Nat.{add-zero, zero-add, le-refl}
+use native.Mathlib.Nat.{add-zero}
 use native.Mathlib.Numerals.{add-one}
 use native.Mathlib.Omega.{arith}
-use mathlib.Core.List.{List, [], _∷_, _++_}
-use mathlib.Core.Bool.{Bool, true, false, not, _&&_, _||_, true≢false}
-use mathlib.Core.Path.{_≡_, refl, ap, ap₂, _∙_, sym, subst}
-use lib.Dec.{T, leb, ltb, eqb, eqb→eq}
-use lib.ListN.{length, drop, getD, replicate, drop-of-length-le, length-drop, length-append, List·getD-eq-default}
+use mathlib.Core.List.{List}
+use mathlib.Core.Bool.{Bool, true, false, not, _&&_}
+use mathlib.Core.Path.{_≡_, refl, ap, _∙_, sym, subst}
+use lib.Dec.{eqb}
+use lib.ListN.{length, drop, getD, drop-of-length-le, List·getD-eq-default}
 use lib.Seq.{drop-cons, drop-drop, getD-drop}
-use Rattle.refal_rows.specs.Tests.{each-below, below, and-left, and-right, range-lo, range-hi}
-use Rattle.refal_text.specs.Pick.{pick, split}
-use Rattle.refal_text.specs.Span.{span}
-use Rattle.refal_text.specs.SpanLaws.{span-some, span-le}
-use Rattle.refal_text.specs.Utf8.{decode, char, ill}
+use Rattle.refal_text.specs.Pick.{pick}
+use Rattle.refal_text.specs.Utf8.{decode, char}
 use Rattle.refal_text.specs.Utf8Laws.{decode-in, decode-ascii}
 use Rattle.refal_text.specs.White.{whiteSpace}
 use Rattle.refal_text.specs.declared.Char.{Char}
-use Rattle.refal_lexer.specs.Classes.{upper, digit, letter, nameByte, notNewline, blank, variable, single, classOf, cNone, cWhite, cQuote, cStar, cSlash, cDollar, cPlus, cWide, cMinus, cUpper, cDigit, cVariable, cOther}
-use Rattle.refal_lexer.specs.Within.{Within, in-is, is-in}
+use Rattle.refal_lexer.specs.Classes.{blank}
 use Rattle.refal_lexer.specs.declared.Scan.{Scan}
-use Rattle.refal_lexer.specs.declared.Scan.the-variants.{Blank, Token, Literal, Bad}
-use Rattle.refal_lexer.specs.Blanks.{lineAfter, whiteLen, starScan, closeFrom, slashScan, wideScan}
+use Rattle.refal_lexer.specs.declared.Scan.the-variants.{Blank, Bad}
+use Rattle.refal_lexer.specs.Blanks.{whiteLen, closeFrom, slashScan}
 use Rattle.refal_lexer.specs.ClassLaws.{blank-white}
 
 -- a byte that is not 0 is there

@@ -1,8 +1,8 @@
 -- White space and comments. `line` says whether only white space has passed since the last newline, or, with none, that the offset is 0.
-use Prim.Native.Nat.{ℕ, zero, suc, _+_}
-use mathlib.Core.Bool.{Bool, true, false, not, _&&_, _||_}
+use Prim.Native.Nat.{ℕ, _+_}
+use mathlib.Core.Bool.{Bool, false, not, _&&_, _||_}
 use mathlib.Core.List.{List, [], _∷_}
-use lib.Dec.{leb, eqb}
+use lib.Dec.{eqb}
 use lib.ListN.{drop, getD}
 use Rattle.refal_text.specs.Pick.{pick}
 use Rattle.refal_text.specs.Span.{span}
@@ -11,7 +11,7 @@ use Rattle.refal_text.specs.White.{whiteSpace}
 use Rattle.refal_text.specs.declared.Char.{Char}
 use Rattle.refal_lexer.specs.Classes.{notNewline}
 use Rattle.refal_lexer.specs.declared.Scan.{Scan}
-use Rattle.refal_lexer.specs.declared.Scan.the-variants.{Blank, Token, Literal, Bad}
+use Rattle.refal_lexer.specs.declared.Scan.the-variants.{Blank, Bad}
 
 -- `line` after a white-space character at `at` whose first byte is b: a newline starts a line; other white space leaves `line` as it is, but at offset 0
 abbrev pub lineAfter : ℕ → ℕ → Bool → Bool

@@ -1,6 +1,6 @@
 -- The classes of bytes. The class of a token's first byte decides how it is scanned.
 use Prim.Native.Nat.{ℕ}
-use mathlib.Core.Bool.{Bool, true, false, not, _&&_, _||_}
+use mathlib.Core.Bool.{Bool, not, _&&_, _||_}
 use lib.Dec.{leb, eqb}
 use Rattle.refal_text.specs.Pick.{pick}
 use Rattle.refal_text.specs.White.{whiteSpace}

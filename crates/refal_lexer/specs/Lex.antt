@@ -1,6 +1,6 @@
 -- The tokens of a source. `lex skip at line s` takes only the bytes s from offset `at` on, of which a token already took the first `skip`, and `line`.
 use Prim.Native.Nat.{ℕ, zero, suc, _-_}
-use mathlib.Core.Bool.{Bool, true, false}
+use mathlib.Core.Bool.{Bool, false}
 use mathlib.Core.List.{List, [], _∷_, _++_}
 use lib.ListN.{length}
 use Rattle.refal_ast.specs.Kinds.{tokEof}

@@ -1,39 +1,26 @@
 -- Laws of reading on: what a turn of the loop does, and what is left at its end.
-use Prim.Native.Nat.{ℕ, zero, suc, _+_, _-_, _*_, _/_, _<_, _≤_}
-use borrow.Author.Tests.{le-leb, lt-leb, lt-ltb, le-ltb, eq-eqb, ne-eqb, eqb-true, leb-true, ltb-true, ltb-false}
-use native.Mathlib.Decide.{decLe}
-use native.Mathlib.Nat.{add-zero, zero-add, le-refl}
+use Prim.Native.Nat.{ℕ, zero, suc, _+_, _-_, _<_, _≤_}
+use native.Mathlib.Nat.{add-zero, zero-add}
 use native.Mathlib.Numerals.{add-one}
 use native.Mathlib.Omega.{arith}
-use mathlib.Core.List.{List, [], _∷_, _++_}
-use mathlib.Core.Bool.{Bool, true, false, not, _&&_, _||_, true≢false}
-use mathlib.Core.Path.{_≡_, refl, ap, ap₂, _∙_, sym, subst}
-use lib.Dec.{T, leb, ltb, eqb, eqb→eq}
-use lib.ListN.{length, drop, getD, replicate, drop-of-length-le, length-drop, length-append, List·getD-eq-default}
-use lib.Seq.{drop-cons, drop-drop, getD-drop}
-use Rattle.refal_rows.specs.Tests.{each-below, below, and-left, and-right, range-lo, range-hi}
-use Rattle.refal_text.specs.Pick.{pick, split}
-use Rattle.refal_text.specs.Span.{span}
-use Rattle.refal_text.specs.SpanLaws.{span-some, span-le}
-use Rattle.refal_text.specs.Utf8.{decode, char, ill}
-use Rattle.refal_text.specs.Utf8Laws.{decode-in, decode-ascii}
-use Rattle.refal_text.specs.White.{whiteSpace}
-use Rattle.refal_text.specs.declared.Char.{Char}
-use Rattle.refal_lexer.specs.Classes.{upper, digit, letter, nameByte, notNewline, blank, variable, single, classOf, cNone, cWhite, cQuote, cStar, cSlash, cDollar, cPlus, cWide, cMinus, cUpper, cDigit, cVariable, cOther}
-use Rattle.refal_lexer.specs.Within.{Within, in-is, is-in}
+use mathlib.Core.List.{List, [], _∷_}
+use mathlib.Core.Bool.{Bool, true, false}
+use mathlib.Core.Path.{_≡_, refl, ap, _∙_, sym, subst}
+use lib.ListN.{length, drop, getD, drop-of-length-le, length-drop, length-append}
+use lib.Seq.{drop-cons, drop-drop}
+use Rattle.refal_lexer.specs.Classes.{blank}
 use Rattle.refal_ast.specs.Answers.{refusal}
 use Rattle.refal_ast.specs.Tokens.{Token, token, words}
 use Rattle.refal_ast.specs.declared.Answer.{Answer}
 use Rattle.refal_ast.specs.declared.Answer.the-variants.{Done, Refused}
 use Rattle.refal_rows.specs.Rows.{putRow}
-use Rattle.refal_lexer.specs.declared.Scan.{Scan}
 use Rattle.refal_lexer.specs.declared.Scan.the-variants as S
-use Rattle.refal_lexer.specs.Literals.{charTokens, litFrom}
+use Rattle.refal_lexer.specs.Literals.{charTokens}
 use Rattle.refal_lexer.specs.Blanks.{lineAfter, whiteLen}
-use Rattle.refal_lexer.specs.Scans.{scan, scanByte}
+use Rattle.refal_lexer.specs.Scans.{scan}
 use Rattle.refal_lexer.specs.ScanLaws.{scan-blank, scan-white}
 use Rattle.refal_lexer.specs.Puts.{putTokens, put-append}
-use Rattle.refal_lexer.specs.Lex.{Stop, fine, bad, Out, more, moreAll, stopBad, eofAt, after, lex, stopped, stopAnswer}
+use Rattle.refal_lexer.specs.Lex.{Stop, Out, more, moreAll, stopBad, eofAt, after, lex, stopped, stopAnswer}
 
 -- skipping k bytes is dropping k bytes
 pub lex-skip : (k at : ℕ) (line : Bool) (s : List ℕ) → k ≤ length s → lex k at line s ≡ lex 0 (at + k) line (drop k s)
@@ -43,7 +30,8 @@ lex-skip (suc k) at line [] h = absurd (omega arith)
 lex-skip (suc k) at line (b ∷ s) h = lex-skip k (suc at) line s (omega arith) ∙ ap (λ (j : ℕ). lex 0 j line (drop k s)) (omega arith)
 
 -- the byte at `at` decides
-lex-here : (s : List ℕ) (at : ℕ) (line : Bool) → at < length s → lex 0 at line (drop at s) ≡ after at (getD s at 0) (drop (suc at) s) (scan at line (drop at s)) (λ k l. lex k (suc at) l (drop (suc at) s))
+lex-here : (s : List ℕ) (at : ℕ) (line : Bool) → at < length s
+    → lex 0 at line (drop at s) ≡ after at (getD s at 0) (drop (suc at) s) (scan at line (drop at s)) (λ k l. lex k (suc at) l (drop (suc at) s))
 unfolding lex
 lex-here s at line h = rw (drop-cons s at 0 h)
 
@@ -104,12 +92,14 @@ leads-rows o p o₀ ts m m′ m₀ n k e f i h =
     record { stop = g .stop; count = omega (arith, g .count, length-append ts (p .tokens)); words = rw (f, i) (sym (put-append m n ts (p .tokens)) ∙ g .words) }
 
 -- the loop's two ends
-pub leads-bad : (o o₀ : Out) (m m₀ : List ℕ) (n number at end : ℕ) (a : Answer) → a ≡ Refused (refusal number 0 0 at end 0) → o ≡ stopBad number at end → Leads o o₀ m m₀ n → (a ≡ stopAnswer o₀) × (m ≡ putTokens m₀ 0 (o₀ .tokens))
+pub leads-bad : (o o₀ : Out) (m m₀ : List ℕ) (n number at end : ℕ) (a : Answer) → a ≡ Refused (refusal number 0 0 at end 0) → o ≡ stopBad number at end → Leads o o₀ m m₀ n
+    → (a ≡ stopAnswer o₀) × (m ≡ putTokens m₀ 0 (o₀ .tokens))
 leads-bad o o₀ m m₀ n number at end a b e h =
     let g : Leads (stopBad number at end) o₀ m m₀ n = leads-on o _ o₀ m m₀ n e h in
     (b ∙ ap (λ (x : Stop). stopped x (length (o₀ .tokens))) (g .stop), g .words)
 
-pub leads-done : (o o₀ : Out) (at : ℕ) (m m′ m₀ : List ℕ) (n : ℕ) → o ≡ eofAt at → m′ ≡ putRow 6 m n (words (token 17 0 0 0 at at)) → Leads o o₀ m m₀ n → (Done (n + 1) ≡ stopAnswer o₀) × (m′ ≡ putTokens m₀ 0 (o₀ .tokens))
+pub leads-done : (o o₀ : Out) (at : ℕ) (m m′ m₀ : List ℕ) (n : ℕ) → o ≡ eofAt at → m′ ≡ putRow 6 m n (words (token 17 0 0 0 at at)) → Leads o o₀ m m₀ n
+    → (Done (n + 1) ≡ stopAnswer o₀) × (m′ ≡ putTokens m₀ 0 (o₀ .tokens))
 leads-done o o₀ at m m′ m₀ n e f h =
     let g : Leads (eofAt at) o₀ m m₀ n = leads-on o _ o₀ m m₀ n e h in
     (ap Done (g .count) ∙ ap (λ (x : Stop). stopped x (length (o₀ .tokens))) (g .stop), f ∙ g .words)

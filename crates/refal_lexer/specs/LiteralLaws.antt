@@ -1,28 +1,22 @@
 -- Laws of literals: the ways out of their loops.
-use Prim.Native.Nat.{ℕ, zero, suc, _+_, _-_, _*_, _/_, _<_, _≤_}
-use borrow.Author.Tests.{le-leb, lt-leb, lt-ltb, le-ltb, eq-eqb, ne-eqb, eqb-true, leb-true, ltb-true, ltb-false}
-use native.Mathlib.Decide.{decLe}
-use native.Mathlib.Nat.{add-zero, zero-add, le-refl}
+use Prim.Native.Nat.{ℕ, zero, suc, _+_, _<_, _≤_}
+use borrow.Author.Tests.{eq-eqb, ne-eqb}
+use native.Mathlib.Nat.{add-zero}
 use native.Mathlib.Numerals.{add-one}
 use native.Mathlib.Omega.{arith}
-use mathlib.Core.List.{List, [], _∷_, _++_}
-use mathlib.Core.Bool.{Bool, true, false, not, _&&_, _||_, true≢false}
-use mathlib.Core.Path.{_≡_, refl, ap, ap₂, _∙_, sym, subst}
-use lib.Dec.{T, leb, ltb, eqb, eqb→eq}
-use lib.ListN.{length, drop, getD, replicate, drop-of-length-le, length-drop, length-append, List·getD-eq-default}
+use mathlib.Core.List.{List, [], _∷_}
+use mathlib.Core.Bool.{Bool, true, false}
+use mathlib.Core.Path.{_≡_, refl, ap, _∙_, sym, subst}
+use lib.Dec.{ltb, eqb}
+use lib.ListN.{length, drop, getD, drop-of-length-le, length-drop}
 use lib.Seq.{drop-cons, drop-drop, getD-drop}
-use Rattle.refal_rows.specs.Tests.{each-below, below, and-left, and-right, range-lo, range-hi}
 use Rattle.refal_text.specs.Pick.{pick, split}
-use Rattle.refal_text.specs.Span.{span}
-use Rattle.refal_text.specs.SpanLaws.{span-some, span-le}
 use Rattle.refal_text.specs.Utf8.{decode, char, ill}
-use Rattle.refal_text.specs.Utf8Laws.{decode-in, decode-ascii}
-use Rattle.refal_text.specs.White.{whiteSpace}
+use Rattle.refal_text.specs.Utf8Laws.{decode-in}
 use Rattle.refal_text.specs.declared.Char.{Char}
-use Rattle.refal_lexer.specs.Classes.{upper, digit, letter, nameByte, notNewline, blank, variable, single, classOf, cNone, cWhite, cQuote, cStar, cSlash, cDollar, cPlus, cWide, cMinus, cUpper, cDigit, cVariable, cOther}
-use Rattle.refal_lexer.specs.Within.{Within, in-is, is-in}
+use Rattle.refal_lexer.specs.Within.{Within}
 use Rattle.refal_lexer.specs.declared.Scan.{Scan}
-use Rattle.refal_lexer.specs.declared.Scan.the-variants.{Blank, Token, Literal, Bad}
+use Rattle.refal_lexer.specs.declared.Scan.the-variants.{Literal, Bad}
 use Rattle.refal_ast.specs.Tokens.{Token as Tok, token}
 use Rattle.refal_lexer.specs.BlankLaws.{nonzero-in}
 use Rattle.refal_lexer.specs.Literals.{some, litChar, closeScan, litStep, litFrom, charStep, charTokens}
@@ -154,7 +148,8 @@ chars-few q from to zero at n end (b ∷ s) e = go (litChar q (b ∷ s) .len) (�
     onward true x f = let z : _≡_ {A = ℕ} 0 1 = cc in absurd (omega arith)
     onward false x f = f
 
-    go : (k : ℕ) → ((j : ℕ) → On j ≡ Literal end → suc at + length (To j) < end) → litStep k at n b On ≡ Literal end → at + length (charStep k (token 6 (litChar q (b ∷ s) .code) 0 0 from to) To) < end
+    go : (k : ℕ) → ((j : ℕ) → On j ≡ Literal end → suc at + length (To j) < end) → litStep k at n b On ≡ Literal end
+        → at + length (charStep k (token 6 (litChar q (b ∷ s) .code) 0 0 from to) To) < end
     go zero ih f = let g = closed (ltb 255 n) (eqb n 0) f in omega arith
     go (suc k) ih f = let g = ih k (onward (eqb b 10) (On k) f) in omega arith
 

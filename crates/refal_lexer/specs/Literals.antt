@@ -1,8 +1,7 @@
 -- Literals in quotes q: the quote doubled is one quote character; the quote alone closes.
 use Prim.Native.Nat.{ℕ, zero, suc, _+_}
-use mathlib.Core.Bool.{Bool, true, false}
 use mathlib.Core.List.{List, [], _∷_}
-use lib.Dec.{leb, ltb, eqb}
+use lib.Dec.{ltb, eqb}
 use lib.ListN.{getD}
 use Rattle.refal_text.specs.Pick.{pick}
 use Rattle.refal_text.specs.Utf8.{decode, char, ill}
@@ -10,7 +9,7 @@ use Rattle.refal_text.specs.declared.Char.{Char}
 use Rattle.refal_ast.specs.Kinds.{tokChar}
 use Rattle.refal_ast.specs.Tokens.{Token, token}
 use Rattle.refal_lexer.specs.declared.Scan.{Scan}
-use Rattle.refal_lexer.specs.declared.Scan.the-variants.{Blank, Literal, Bad}
+use Rattle.refal_lexer.specs.declared.Scan.the-variants.{Literal, Bad}
 
 -- a byte that is no character counts as one
 abbrev pub some : Char → Char

@@ -1,16 +1,16 @@
 -- Laws of numbers.
-use Prim.Native.Nat.{ℕ, zero, suc, _+_, _-_, _*_, _<_, _≤_}
+use Prim.Native.Nat.{ℕ, suc, _+_, _-_, _*_, _<_, _≤_}
 use borrow.Author.Tests.{le-leb, lt-leb, eq-eqb, ne-eqb}
 use native.Mathlib.Decide.{decLe}
 use native.Mathlib.Nat.{add-zero, le-refl}
 use native.Mathlib.Numerals.{add-one}
 use native.Mathlib.Omega.{arith}
 use mathlib.Core.List.{List, [], _∷_}
-use mathlib.Core.Bool.{Bool, true, false, not, _&&_}
-use mathlib.Core.Path.{_≡_, refl, ap, ap₂, _∙_, sym, subst}
-use lib.Dec.{leb, ltb, eqb}
-use lib.ListN.{length, drop, getD, drop-of-length-le, length-drop, List·getD-eq-default}
-use lib.Seq.{drop-cons, drop-drop, getD-drop}
+use mathlib.Core.Bool.{Bool, true, false}
+use mathlib.Core.Path.{_≡_, refl, ap, ap₂, _∙_, sym}
+use lib.Dec.{leb, ltb}
+use lib.ListN.{length, drop, getD, drop-of-length-le}
+use lib.Seq.{drop-cons, drop-drop}
 use Rattle.refal_text.specs.Pick.{pick, split}
 use Rattle.refal_text.specs.Span.{span}
 use Rattle.refal_text.specs.SpanLaws.{span-some}
@@ -18,7 +18,7 @@ use Rattle.refal_lexer.specs.Classes.{digit}
 use Rattle.refal_lexer.specs.Numbers.{value, part, wholeScan, numberOf, numberScan}
 use Rattle.refal_lexer.specs.Within.{Within}
 use Rattle.refal_lexer.specs.declared.Scan.{Scan}
-use Rattle.refal_lexer.specs.declared.Scan.the-variants.{Blank, Token, Literal, Bad}
+use Rattle.refal_lexer.specs.declared.Scan.the-variants.{Token, Bad}
 
 -- what the code counts: past 4294967295 it stays where it is
 abbrev pub digitStep : ℕ → ℕ → ℕ
@@ -88,15 +88,21 @@ module _ (s : List ℕ) (at from a p : ℕ) (ea : a ≡ from + span digit (drop 
   point-is = ep ∙ ap₂ (λ (x : ℕ) (l : List ℕ). x + part 46 l) ea (sym digits-drop)
 
   point-drop : drop (span digit (drop from s) + part 46 (drop (span digit (drop from s)) (drop from s))) (drop from s) ≡ drop p s
-  point-drop = drop-drop (span digit (drop from s) + part 46 (drop (span digit (drop from s)) (drop from s))) from s ∙ ap (λ (j : ℕ). drop j s) (let z : from + (span digit (drop from s) + part 46 (drop (span digit (drop from s)) (drop from s))) ≡ p = omega (arith, point-is) in z)
+  point-drop = drop-drop (span digit (drop from s) + part 46 (drop (span digit (drop from s)) (drop from s))) from s
+      ∙ ap (λ (j : ℕ). drop j s) (let z : from + (span digit (drop from s) + part 46 (drop (span digit (drop from s)) (drop from s))) ≡ p = omega (arith, point-is) in z)
 
   number-is : (q : ℕ) → q ≡ p + part 69 (drop p s) → numberOf at from a (value 0 (drop from s)) p q ≡ numberScan at from (drop from s)
   number-is q eq =
-      let e₁ : q ≡ from + span digit (drop from s) + part 46 (drop (span digit (drop from s)) (drop from s)) + part 69 (drop (span digit (drop from s) + part 46 (drop (span digit (drop from s)) (drop from s))) (drop from s))
+      let e₁ : q ≡ from + span digit (drop from s) + part 46 (drop (span digit (drop from s)) (drop from s)) + part 69
+      (drop (span digit (drop from s) + part 46 (drop (span digit (drop from s)) (drop from s))) (drop from s))
       = eq ∙ ap₂ (λ (x : ℕ) (l : List ℕ). x + part 69 l) point-is (sym point-drop) in
       ap (λ (x : ℕ). numberOf at from a (value 0 (drop from s)) p x) e₁
-      ∙ ap (λ (x : ℕ). numberOf at from a (value 0 (drop from s)) x (from + span digit (drop from s) + part 46 (drop (span digit (drop from s)) (drop from s)) + part 69 (drop (span digit (drop from s) + part 46 (drop (span digit (drop from s)) (drop from s))) (drop from s)))) point-is
-      ∙ ap (λ (x : ℕ). numberOf at from x (value 0 (drop from s)) (from + span digit (drop from s) + part 46 (drop (span digit (drop from s)) (drop from s))) (from + span digit (drop from s) + part 46 (drop (span digit (drop from s)) (drop from s)) + part 69 (drop (span digit (drop from s) + part 46 (drop (span digit (drop from s)) (drop from s))) (drop from s)))) ea
+      ∙ ap (λ (x : ℕ). numberOf at from a (value 0 (drop from s)) x
+      (from + span digit (drop from s) + part 46 (drop (span digit (drop from s)) (drop from s)) + part 69
+      (drop (span digit (drop from s) + part 46 (drop (span digit (drop from s)) (drop from s))) (drop from s)))) point-is
+      ∙ ap (λ (x : ℕ). numberOf at from x (value 0 (drop from s)) (from + span digit (drop from s) + part 46 (drop (span digit (drop from s)) (drop from s)))
+      (from + span digit (drop from s) + part 46 (drop (span digit (drop from s)) (drop from s)) + part 69
+      (drop (span digit (drop from s) + part 46 (drop (span digit (drop from s)) (drop from s))) (drop from s)))) ea
 
   pub number-point : p ≡ a + 1 → Bad 16 p ≡ numberScan at from (drop from s)
   number-point z = sym (rw (eq-eqb _ _ z) refl) ∙ number-is (p + part 69 (drop p s)) refl
@@ -104,7 +110,8 @@ module _ (s : List ℕ) (at from a p : ℕ) (ea : a ≡ from + span digit (drop 
   pub number-e : (q : ℕ) → (p ≡ a + 1 → ⊥) → q ≡ p + part 69 (drop p s) → q ≡ p + 1 → Bad 17 q ≡ numberScan at from (drop from s)
   number-e q n eq z = sym (rw (ne-eqb _ _ n, eq-eqb _ _ z) refl) ∙ number-is q eq
 
-  pub number-whole : (q w : ℕ) (r : Scan) → (p ≡ a + 1 → ⊥) → q ≡ p + part 69 (drop p s) → (q ≡ p + 1 → ⊥) → q ≡ a → w ≡ worth 0 (drop from s) → r ≡ wholeScan at from a w → r ≡ numberScan at from (drop from s)
+  pub number-whole : (q w : ℕ) (r : Scan) → (p ≡ a + 1 → ⊥) → q ≡ p + part 69 (drop p s) → (q ≡ p + 1 → ⊥) → q ≡ a → w ≡ worth 0 (drop from s) → r ≡ wholeScan at from a w
+      → r ≡ numberScan at from (drop from s)
   number-whole q w r n eq n′ z f g =
       g
       ∙ ap (λ (t : Bool). pick (ltb at from) (Bad 18 a) (pick t (Token 5 0 at (a - at) a) (Bad 19 a))) (ap (λ (x : ℕ). leb x 4294967295) f ∙ worth-value 0 (drop from s))

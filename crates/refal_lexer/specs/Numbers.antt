@@ -1,6 +1,5 @@
 -- Numbers: digits, then `.` with digits, then `E` with digits, both optional. `at` is the sign's offset, or the first digit's; `from` the first digit's.
-use Prim.Native.Nat.{ℕ, zero, suc, _+_, _-_, _*_}
-use mathlib.Core.Bool.{Bool, true, false}
+use Prim.Native.Nat.{ℕ, suc, _+_, _-_, _*_}
 use mathlib.Core.List.{List, [], _∷_}
 use lib.Dec.{leb, ltb, eqb}
 use lib.ListN.{drop}
@@ -9,7 +8,7 @@ use Rattle.refal_text.specs.Span.{span}
 use Rattle.refal_ast.specs.Kinds.{tokNumber}
 use Rattle.refal_lexer.specs.Classes.{digit}
 use Rattle.refal_lexer.specs.declared.Scan.{Scan}
-use Rattle.refal_lexer.specs.declared.Scan.the-variants.{Blank, Token, Literal, Bad}
+use Rattle.refal_lexer.specs.declared.Scan.the-variants.{Token, Bad}
 
 -- what the digits at the front of s are worth, after digits that are worth v
 abbrev pub value : ℕ → List ℕ → ℕ

@@ -1,10 +1,9 @@
 -- Rows put one by one, as far as they fit: where there is room for all, the words begin with them and are otherwise as they were.
-use Prim.Native.Nat.{ℕ, zero, suc, _+_, _*_, _≤_}
+use Prim.Native.Nat.{ℕ, suc, _+_, _*_, _≤_}
 use native.Mathlib.Omega.{arith}
 use native.Mathlib.Nat.{add-zero}
-use native.Mathlib.Numerals.{add-one}
 use mathlib.Core.List.{List, [], _∷_, _++_, append-nil}
-use mathlib.Core.Path.{_≡_, refl, ap, _∙_, sym, subst}
+use mathlib.Core.Path.{_≡_, refl, _∙_, subst}
 use lib.ListN.{length, drop}
 use Rattle.refal_rows.specs.Rows.{putRow}
 use Rattle.refal_rows.specs.Writes.{Writes, none, then, row, whole, placed, sized, length-put}

@@ -1,30 +1,14 @@
 -- Laws of the answer: the ways out of `read`, and what each leaves in the words.
-use Prim.Native.Nat.{ℕ, zero, suc, _+_, _-_, _*_, _/_, _<_, _≤_}
-use borrow.Author.Tests.{le-leb, lt-leb, lt-ltb, le-ltb, eq-eqb, ne-eqb, eqb-true, leb-true, ltb-true, ltb-false}
-use native.Mathlib.Decide.{decLe}
-use native.Mathlib.Nat.{add-zero, zero-add, le-refl}
-use native.Mathlib.Numerals.{add-one}
+use Prim.Native.Nat.{ℕ, _*_, _/_, _<_, _≤_}
+use borrow.Author.Tests.{le-leb, lt-ltb, le-ltb}
 use native.Mathlib.Omega.{arith}
-use mathlib.Core.List.{List, [], _∷_, _++_}
-use mathlib.Core.Bool.{Bool, true, false, not, _&&_, _||_, true≢false}
-use mathlib.Core.Path.{_≡_, refl, ap, ap₂, _∙_, sym, subst}
-use lib.Dec.{T, leb, ltb, eqb, eqb→eq}
-use lib.ListN.{length, drop, getD, replicate, drop-of-length-le, length-drop, length-append, List·getD-eq-default}
-use lib.Seq.{drop-cons, drop-drop, getD-drop}
-use Rattle.refal_rows.specs.Tests.{each-below, below, and-left, and-right, range-lo, range-hi}
-use Rattle.refal_text.specs.Pick.{pick, split}
-use Rattle.refal_text.specs.Span.{span}
-use Rattle.refal_text.specs.SpanLaws.{span-some, span-le}
-use Rattle.refal_text.specs.Utf8.{decode, char, ill}
-use Rattle.refal_text.specs.Utf8Laws.{decode-in, decode-ascii}
-use Rattle.refal_text.specs.White.{whiteSpace}
-use Rattle.refal_text.specs.declared.Char.{Char}
-use Rattle.refal_lexer.specs.Classes.{upper, digit, letter, nameByte, notNewline, blank, variable, single, classOf, cNone, cWhite, cQuote, cStar, cSlash, cDollar, cPlus, cWide, cMinus, cUpper, cDigit, cVariable, cOther}
-use Rattle.refal_lexer.specs.Within.{Within, in-is, is-in}
-use native.Mathlib.Nat.{mul-zero}
+use mathlib.Core.List.{List, _++_}
+use mathlib.Core.Bool.{true}
+use mathlib.Core.Path.{_≡_, refl, ap, _∙_, sym}
+use lib.ListN.{length, drop, replicate}
 use Rattle.refal_text.specs.Utf8.{wellTo}
 use Rattle.refal_ast.specs.Answers.{refusal}
-use Rattle.refal_ast.specs.Tokens.{Token, flat}
+use Rattle.refal_ast.specs.Tokens.{flat}
 use Rattle.refal_ast.specs.declared.Answer.{Answer}
 use Rattle.refal_ast.specs.declared.Refusal.{Refusal}
 use Rattle.refal_ast.specs.declared.Answer.the-variants.{Done, Refused}
@@ -32,7 +16,8 @@ use Rattle.refal_lexer.specs.Lex.{Stop, fine, bad, Out, lex, stopped, st
 use Rattle.refal_lexer.specs.Puts.{putTokens, put-flat}
 use Rattle.refal_lexer.specs.Read.{fitted, readAnswer, kept, readRows}
 
-pub read-refused : (s m m′ : List ℕ) (r : Refusal) (a : Answer) → a ≡ Refused r → readAnswer s (length m) ≡ Refused r → m′ ≡ replicate (length m) 0 → (a ≡ readAnswer s (length m)) × (m′ ≡ readRows s m)
+pub read-refused : (s m m′ : List ℕ) (r : Refusal) (a : Answer) → a ≡ Refused r → readAnswer s (length m) ≡ Refused r → m′ ≡ replicate (length m) 0
+    → (a ≡ readAnswer s (length m)) × (m′ ≡ readRows s m)
 read-refused s m m′ r a b e f = (b ∙ sym e, f ∙ sym (ap (λ (x : Answer). kept x (lex 0 0 true s .tokens) m) e))
 
 -- the number of tokens is what a good end answers
@@ -43,7 +28,8 @@ count-is n o e = go (o .stop) e
     go fine f = cc
     go (bad number from to) f = let z : _≡_ {A = ℕ} 0 1 = cc in absurd (omega arith)
 
-pub read-done : (s m m′ : List ℕ) (n : ℕ) → Done n ≡ stopAnswer (lex 0 0 true s) → readAnswer s (length m) ≡ fitted (Done n) (length m / 6) → n ≤ length m / 6 → m′ ≡ putTokens m 0 (lex 0 0 true s .tokens) → (Done n ≡ readAnswer s (length m)) × (m′ ≡ readRows s m)
+pub read-done : (s m m′ : List ℕ) (n : ℕ) → Done n ≡ stopAnswer (lex 0 0 true s) → readAnswer s (length m) ≡ fitted (Done n) (length m / 6) → n ≤ length m / 6
+    → m′ ≡ putTokens m 0 (lex 0 0 true s .tokens) → (Done n ≡ readAnswer s (length m)) × (m′ ≡ readRows s m)
 read-done s m m′ n d e l f =
     let c : length (lex 0 0 true s .tokens) ≡ n = count-is n (lex 0 0 true s) d in
     let g : 6 * length (lex 0 0 true s .tokens) ≤ length m = omega arith in

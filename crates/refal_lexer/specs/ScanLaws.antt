@@ -1,29 +1,24 @@
 -- Laws of scans: the class that the code found picks the scan.
-use Prim.Native.Nat.{ℕ, zero, suc, _+_, _-_, _*_, _/_, _<_, _≤_}
-use borrow.Author.Tests.{le-leb, lt-leb, lt-ltb, le-ltb, eq-eqb, ne-eqb, eqb-true, leb-true, ltb-true, ltb-false}
+use Prim.Native.Nat.{ℕ, suc, _+_, _<_, _≤_}
+use borrow.Author.Tests.{le-leb, lt-leb, lt-ltb, eq-eqb, ne-eqb}
 use native.Mathlib.Decide.{decLe}
-use native.Mathlib.Nat.{add-zero, zero-add, le-refl}
 use native.Mathlib.Numerals.{add-one}
 use native.Mathlib.Omega.{arith}
-use mathlib.Core.List.{List, [], _∷_, _++_}
-use mathlib.Core.Bool.{Bool, true, false, not, _&&_, _||_, true≢false}
-use mathlib.Core.Path.{_≡_, refl, ap, ap₂, _∙_, sym, subst}
-use lib.Dec.{T, leb, ltb, eqb, eqb→eq}
-use lib.ListN.{length, drop, getD, replicate, drop-of-length-le, length-drop, length-append, List·getD-eq-default}
-use lib.Seq.{drop-cons, drop-drop, getD-drop}
-use Rattle.refal_rows.specs.Tests.{each-below, below, and-left, and-right, range-lo, range-hi}
-use Rattle.refal_text.specs.Pick.{pick, split}
-use Rattle.refal_text.specs.Span.{span}
-use Rattle.refal_text.specs.SpanLaws.{span-some, span-le}
-use Rattle.refal_text.specs.Utf8.{decode, char, ill}
-use Rattle.refal_text.specs.Utf8Laws.{decode-in, decode-ascii}
+use mathlib.Core.List.{List, _∷_}
+use mathlib.Core.Bool.{Bool, true, false, _&&_, true≢false}
+use mathlib.Core.Path.{_≡_, refl, ap, _∙_, sym}
+use lib.Dec.{leb}
+use lib.ListN.{length, drop, getD}
+use lib.Seq.{drop-cons}
+use Rattle.refal_text.specs.Pick.{pick}
+use Rattle.refal_text.specs.Utf8.{decode, char}
+use Rattle.refal_text.specs.Utf8Laws.{decode-ascii}
 use Rattle.refal_text.specs.White.{whiteSpace}
 use Rattle.refal_text.specs.declared.Char.{Char}
-use Rattle.refal_lexer.specs.Classes.{upper, digit, letter, nameByte, notNewline, blank, variable, single, classOf, cNone, cWhite, cQuote, cStar, cSlash, cDollar, cPlus, cWide, cMinus, cUpper, cDigit, cVariable, cOther}
-use Rattle.refal_lexer.specs.Within.{Within, in-is, is-in}
+use Rattle.refal_lexer.specs.Classes.{digit, blank, classOf}
 use Rattle.refal_lexer.specs.declared.Scan.{Scan}
-use Rattle.refal_lexer.specs.declared.Scan.the-variants.{Blank, Token, Literal, Bad}
-use Rattle.refal_lexer.specs.Blanks.{lineAfter, starScan, slashScan, wideScan, whiteLen}
+use Rattle.refal_lexer.specs.declared.Scan.the-variants.{Blank, Token, Bad}
+use Rattle.refal_lexer.specs.Blanks.{lineAfter, wideScan, whiteLen}
 use Rattle.refal_lexer.specs.BlankLaws.{nonzero-in, next-is}
 use Rattle.refal_lexer.specs.ClassLaws.{blank-class}
 use Rattle.refal_lexer.specs.Words.{otherScan}
@@ -53,7 +48,8 @@ module _ (s : List ℕ) (k at x : ℕ) (e : x ≡ getD s (at + 1) 0) where
 pub scan-drop : (s : List ℕ) (at : ℕ) (line : Bool) → at < length s → scan at line (drop at s) ≡ scanByte at line (getD s at 0) (drop (at + 1) s)
 scan-drop s at line h = rw (drop-cons s at 0 h, add-one at)
 
-pub scan-class : (s : List ℕ) (at : ℕ) (line : Bool) (k x : ℕ) → at < length s → k ≡ classOf (getD s at 0) → k ≡ x → scanClass x at line (getD s at 0) (drop (at + 1) s) ≡ scan at line (drop at s)
+pub scan-class : (s : List ℕ) (at : ℕ) (line : Bool) (k x : ℕ) → at < length s → k ≡ classOf (getD s at 0) → k ≡ x
+    → scanClass x at line (getD s at 0) (drop (at + 1) s) ≡ scan at line (drop at s)
 scan-class s at line k x h e f = sym (scan-drop s at line h ∙ ap (λ (c : ℕ). scanClass c at line (getD s at 0) (drop (at + 1) s)) (sym e ∙ f))
 
 pub rare-class : (k x at : ℕ) (line : Bool) (b : ℕ) (s : List ℕ) → k ≡ x → rareClass x at line b s ≡ rareClass k at line b s
@@ -77,7 +73,8 @@ module _ (k at : ℕ) (line : Bool) (b : ℕ) (s : List ℕ) where
   pub class-single : leb 7 k && leb k 16 ≡ true → (w : ℕ) → w ≡ k → Token w 0 0 0 (at + 1) ≡ scanClass k at line b s
   class-single t w e = rw e (sym (rw t refl))
 
-  pub class-rare : (r : Scan) → leb 7 k && leb k 16 ≡ false → (k ≡ 2 → ⊥) → (k ≡ 3 → ⊥) → (k ≡ 21 → ⊥) → (k ≡ 22 → ⊥) → (k ≡ 23 → ⊥) → r ≡ rareClass k at line b s → r ≡ scanClass k at line b s
+  pub class-rare : (r : Scan) → leb 7 k && leb k 16 ≡ false → (k ≡ 2 → ⊥) → (k ≡ 3 → ⊥) → (k ≡ 21 → ⊥) → (k ≡ 22 → ⊥) → (k ≡ 23 → ⊥) → r ≡ rareClass k at line b s
+      → r ≡ scanClass k at line b s
   class-rare r t n₂ n₃ n₁ n₄ n₅ e = e ∙ sym (rw (t, ne-eqb _ _ n₂, ne-eqb _ _ n₃, ne-eqb _ _ n₁, ne-eqb _ _ n₄, ne-eqb _ _ n₅) refl)
 
 -- ---- white space is skipped

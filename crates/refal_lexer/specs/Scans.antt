@@ -1,6 +1,6 @@
 -- What stands at the front of the bytes, whose offset is `at`: the class of the first byte, b, decides; s is what stands behind it.
 use Prim.Native.Nat.{ℕ, _+_}
-use mathlib.Core.Bool.{Bool, true, false, _&&_}
+use mathlib.Core.Bool.{Bool, _&&_}
 use mathlib.Core.List.{List, [], _∷_}
 use lib.Dec.{leb, eqb}
 use lib.ListN.{getD}
@@ -12,7 +12,7 @@ use Rattle.refal_lexer.specs.Words.{nameScan, otherScan, variableScan, d
 use Rattle.refal_lexer.specs.Numbers.{numberScan}
 use Rattle.refal_lexer.specs.Literals.{litFrom}
 use Rattle.refal_lexer.specs.declared.Scan.{Scan}
-use Rattle.refal_lexer.specs.declared.Scan.the-variants.{Blank, Token, Literal, Bad}
+use Rattle.refal_lexer.specs.declared.Scan.the-variants.{Blank, Token, Bad}
 
 -- a sign of class k starts a number before a digit; else `-` starts a name, and `+` nothing
 abbrev pub signScan : ℕ → ℕ → List ℕ → Scan

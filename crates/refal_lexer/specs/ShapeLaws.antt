@@ -1,36 +1,28 @@
 -- What a scan can answer: a token whose fields are lawful, and a literal only from a quote.
-use Prim.Native.Nat.{ℕ, zero, suc, _+_, _-_, _*_, _/_, _<_, _≤_}
-use borrow.Author.Tests.{le-leb, lt-leb, lt-ltb, le-ltb, eq-eqb, ne-eqb, eqb-true, leb-true, ltb-true, ltb-false}
-use native.Mathlib.Decide.{decLe}
-use native.Mathlib.Nat.{add-zero, zero-add, le-refl}
-use native.Mathlib.Numerals.{add-one}
+use Prim.Native.Nat.{ℕ, zero, suc, _+_, _<_}
 use native.Mathlib.Omega.{arith}
-use mathlib.Core.List.{List, [], _∷_, _++_}
-use mathlib.Core.Bool.{Bool, true, false, not, _&&_, _||_, true≢false}
-use mathlib.Core.Path.{_≡_, refl, ap, ap₂, _∙_, sym, subst}
-use lib.Dec.{T, leb, ltb, eqb, eqb→eq}
-use lib.ListN.{length, drop, getD, replicate, drop-of-length-le, length-drop, length-append, List·getD-eq-default}
-use lib.Seq.{drop-cons, drop-drop, getD-drop}
-use Rattle.refal_rows.specs.Tests.{each-below, below, and-left, and-right, range-lo, range-hi}
-use Rattle.refal_text.specs.Pick.{pick, split}
+use mathlib.Core.List.{List, [], _∷_}
+use mathlib.Core.Bool.{Bool, true, false, _&&_, _||_, true≢false}
+use mathlib.Core.Path.{_≡_, _∙_, sym, subst}
+use lib.Dec.{leb, ltb, eqb}
+use lib.ListN.{length, drop, getD}
+use Rattle.refal_text.specs.Pick.{split}
 use Rattle.refal_text.specs.Span.{span}
-use Rattle.refal_text.specs.SpanLaws.{span-some, span-le}
-use Rattle.refal_text.specs.Utf8.{decode, char, ill}
-use Rattle.refal_text.specs.Utf8Laws.{decode-in, decode-ascii}
+use Rattle.refal_text.specs.Utf8.{decode}
 use Rattle.refal_text.specs.White.{whiteSpace}
 use Rattle.refal_text.specs.declared.Char.{Char}
-use Rattle.refal_lexer.specs.Classes.{upper, digit, letter, nameByte, notNewline, blank, variable, single, classOf, cNone, cWhite, cQuote, cStar, cSlash, cDollar, cPlus, cWide, cMinus, cUpper, cDigit, cVariable, cOther}
-use Rattle.refal_lexer.specs.Within.{Within, in-is, is-in}
+use Rattle.refal_lexer.specs.Classes.{upper, digit, letter, nameByte, variable, classOf, cMinus}
 use Rattle.refal_lexer.specs.declared.Scan.{Scan}
 use Rattle.refal_lexer.specs.declared.Scan.the-variants.{Blank, Token, Literal, Bad}
 use Rattle.refal_text.specs.Encode.{Scalar}
-use Rattle.refal_lexer.specs.Blanks.{starScan, closeFrom, slashScan, wideScan, lineAfter}
-use Rattle.refal_lexer.specs.Words.{nameOf, otherScan, indexOf, variableScan, entryWord, externWord, directiveOf}
+use Rattle.refal_lexer.specs.Blanks.{starScan, closeFrom, slashScan, wideScan}
+use Rattle.refal_lexer.specs.Words.{nameOf, indexOf, variableScan, entryWord, externWord, directiveOf}
 use Rattle.refal_lexer.specs.Numbers.{value, part, numberOf, numberScan}
-use Rattle.refal_lexer.specs.Literals.{litChar, closeScan, litStep, litFrom, charTokens}
+use Rattle.refal_lexer.specs.Literals.{litFrom, charTokens}
 use Rattle.refal_lexer.specs.LiteralLaws.{chars-few}
-use Rattle.refal_lexer.specs.ClassLaws.{ClassIs, class-view, is-wide, is-white, is-quote, is-star, is-slash, is-dollar, is-plus, is-minus, is-upper, is-digit, is-variable, is-other, is-single, is-none}
-use Rattle.refal_lexer.specs.Scans.{signScan, rareClass, scanClass, scanByte, scan}
+use Rattle.refal_lexer.specs.ClassLaws.{ClassIs, class-view, is-wide, is-white, is-quote, is-star, is-slash, is-dollar, is-plus, is-minus}
+use Rattle.refal_lexer.specs.ClassLaws.{is-upper, is-digit, is-variable, is-other, is-single, is-none}
+use Rattle.refal_lexer.specs.Scans.{signScan, scanClass, scanByte, scan}
 use Rattle.refal_lexer.specs.ScanLaws.{scan-drop}
 
 -- a token row's kind, detail, text start and text length: the unused are 0, a Variable's detail is its letter, a Char's a scalar value
@@ -127,7 +119,8 @@ pub literal-from : (at : ℕ) (line : Bool) (b : ℕ) (s : List ℕ) (end : ℕ)
 literal-from at line b s end e = lit-of b at s (scanByte at line b s) end (found at line b s) e
 
 -- a literal has fewer characters than bytes
-pub literal-few : (s : List ℕ) (at : ℕ) (line : Bool) (end : ℕ) → at < length s → scan at line (drop at s) ≡ Literal end → at + 1 + length (charTokens (getD s at 0) at end 0 (drop (at + 1) s)) < end
+pub literal-few : (s : List ℕ) (at : ℕ) (line : Bool) (end : ℕ) → at < length s → scan at line (drop at s) ≡ Literal end
+    → at + 1 + length (charTokens (getD s at 0) at end 0 (drop (at + 1) s)) < end
 literal-few s at line end h e = chars-few (getD s at 0) at end 0 (at + 1) 0 end (drop (at + 1) s) (literal-from at line (getD s at 0) (drop (at + 1) s) end (sym (scan-drop s at line h) ∙ e))
 
 -- a literal's quote
@@ -140,4 +133,5 @@ some-quote zero h = absurd (true≢false (sym h))
 some-quote (suc b) h = omega arith
 
 pub literal-quote : (s : List ℕ) (at : ℕ) (line : Bool) (end : ℕ) → at < length s → scan at line (drop at s) ≡ Literal end → 0 < getD s at 0
-literal-quote s at line end h e = some-quote (getD s at 0) (quote-of (getD s at 0) at (drop (at + 1) s) _ end (found at line (getD s at 0) (drop (at + 1) s)) (sym (scan-drop s at line h) ∙ e))
+literal-quote s at line end h e = some-quote (getD s at 0)
+    (quote-of (getD s at 0) at (drop (at + 1) s) _ end (found at line (getD s at 0) (drop (at + 1) s)) (sym (scan-drop s at line h) ∙ e))

@@ -1,5 +1,5 @@
 -- Names, variables and directives. Each scan starts at offset `at`; s is what stands behind its first byte.
-use Prim.Native.Nat.{ℕ, zero, suc, _+_}
+use Prim.Native.Nat.{ℕ, suc, _+_}
 use mathlib.Core.Bool.{Bool, true, false, _&&_, _||_}
 use mathlib.Core.List.{List, [], _∷_}
 use lib.Dec.{leb, eqb}
@@ -9,7 +9,7 @@ use Rattle.refal_text.specs.Span.{span}
 use Rattle.refal_ast.specs.Kinds.{tokEntry, tokExtern, tokIdentifier, tokVariable}
 use Rattle.refal_lexer.specs.Classes.{nameByte, upper, digit, letter}
 use Rattle.refal_lexer.specs.declared.Scan.{Scan}
-use Rattle.refal_lexer.specs.declared.Scan.the-variants.{Blank, Token, Literal, Bad}
+use Rattle.refal_lexer.specs.declared.Scan.the-variants.{Token, Bad}
 
 -- a name that starts with A to Z, of n bytes more
 abbrev pub nameOf : ℕ → ℕ → Scan

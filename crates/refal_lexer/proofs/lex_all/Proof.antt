@@ -1,10 +1,10 @@
 -- `refal_lexer::lex_all` meets its contract: each turn is one scan.
-use Prim.Native.Nat.{ℕ, _+_, _-_, _≤_, _<_}
+use Prim.Native.Nat.{_+_, _-_, _≤_}
 use native.Mathlib.Omega.{arith}
-use mathlib.Core.Path.{_≡_, refl, sym, ap, _∙_}
-use lib.ListN.{length, drop, getD, replicate}
+use mathlib.Core.Path.{_≡_, refl, sym, _∙_}
+use lib.ListN.{length, drop, getD}
 use mathlib.Core.Bool.{true}
-use Rattle.refal_lexer.specs.Within.{Within, in-is}
+use Rattle.refal_lexer.specs.Within.{in-is}
 use Rattle.refal_lexer.specs.Literals.{charTokens}
 use Rattle.refal_lexer.specs.Lex.{lex}
 use Rattle.refal_lexer.specs.LexLaws.{Leads, leads-start, leads-on, leads-row, leads-rows, leads-bad, leads-done, lex-blank, lex-token, lex-literal, lex-bad, lex-end}
@@ -49,7 +49,8 @@ loop-less c = let w = in-is _ _ _ _ (c .before .before .s .given .1) (c .before 
 
 -- src/lib.rt:67:5
 loop-again : tie.Need-loop-again Inv-loop μ-loop
-loop-again c = let w = in-is _ _ _ _ (c .before .before .s .given .1) (c .before .before .before .before .scan-at .ensures .1) in (c .skip-white .ensures .2, omega arith, c .before .before .before .before .before .before .loop .inv .2, leads-on _ _ _ _ _ _ (lex-blank _ _ _ (c .before .before .before .before .before .loop-test .taken) _ _ (sym (c .before .before .before .before .scan-at .ensures .0) ∙ c .before .before .s .given .1) (w .0) (w .1) ∙ sym (c .skip-white .ensures .0)) (c .before .before .before .before .before .before .loop .inv .3))
+loop-again c = let w = in-is _ _ _ _ (c .before .before .s .given .1) (c .before .before .before .before .scan-at .ensures .1) in
+    (c .skip-white .ensures .2, omega arith, c .before .before .before .before .before .before .loop .inv .2, leads-on _ _ _ _ _ _ (lex-blank _ _ _ (c .before .before .before .before .before .loop-test .taken) _ _ (sym (c .before .before .before .before .scan-at .ensures .0) ∙ c .before .before .s .given .1) (w .0) (w .1) ∙ sym (c .skip-white .ensures .0)) (c .before .before .before .before .before .before .loop .inv .3))
 
 -- src/lib.rt:76:17
 enum-known-s-2 : tie.Need-enum-known-s-2 Inv-loop μ-loop
@@ -89,7 +90,14 @@ loop-less-2 c = let w = in-is _ _ _ _ (c .before .before .before .before .before
 
 -- src/lib.rt:67:5
 loop-again-2 : tie.Need-loop-again-2 Inv-loop μ-loop
-loop-again-2 c = let w = in-is _ _ _ _ (c .before .before .before .before .before .before .s2 .given .1) (c .before .before .before .before .before .before .before .before .scan-at .ensures .1) in (c .skip-ascii .ensures .2, omega arith, c .before .before .before .put6 .kept .0 ∙ c .before .before .before .before .before .before .before .before .before .before .loop .inv .2, leads-on _ _ _ _ _ _ (sym (c .skip-ascii .ensures .0)) (leads-row _ _ _ _ _ _ _ _ (lex-token _ _ _ (c .before .before .before .before .before .before .before .before .before .loop-test .taken) _ _ _ _ _ (sym (c .before .before .before .before .before .before .before .before .scan-at .ensures .0) ∙ c .before .before .before .before .before .before .s2 .given .1) (w .0) (w .1)) (c .before .before .before .put6 .ensures) (c .before .before .before .before .before .before .before .before .before .before .loop .inv .3)))
+loop-again-2 c = let w = in-is _ _ _ _ (c .before .before .before .before .before .before .s2 .given .1) (c .before .before .before .before .before .before .before .before .scan-at .ensures .1) in (
+  c .skip-ascii .ensures .2,
+  omega arith,
+  c .before .before .before .put6 .kept .0
+      ∙ c .before .before .before .before .before .before .before .before .before .before .loop .inv .2,
+  leads-on _ _ _ _ _ _ (sym (c .skip-ascii .ensures .0))
+      (leads-row _ _ _ _ _ _ _ _ (lex-token _ _ _ (c .before .before .before .before .before .before .before .before .before .loop-test .taken) _ _ _ _ _ (sym (c .before .before .before .before .before .before .before .before .scan-at .ensures .0) ∙ c .before .before .before .before .before .before .s2 .given .1) (w .0) (w .1)) (c .before .before .before .put6 .ensures) (c .before .before .before .before .before .before .before .before .before .before .loop .inv .3)),
+)
 
 -- src/lib.rt:97:29
 enum-known-s-3 : tie.Need-enum-known-s-3 Inv-loop μ-loop
@@ -109,7 +117,16 @@ loop-less-3 c = let w = in-is _ _ _ _ (c .before .before .before .before .before
 
 -- src/lib.rt:67:5
 loop-again-3 : tie.Need-loop-again-3 Inv-loop μ-loop
-loop-again-3 c = let w = in-is _ _ _ _ (c .before .before .before .before .before .before .s3 .given .1) (c .before .before .before .before .before .before .before .before .scan-at .ensures .1) in let f = literal-few _ _ _ _ (c .before .before .before .before .before .before .before .before .before .loop-test .taken) (sym (c .before .before .before .before .before .before .before .before .scan-at .ensures .0) ∙ c .before .before .before .before .before .before .s3 .given .1) in let g = c .before .before .before .before .before .before .before .before .before .before .loop in let end = c .before .before .before .before .before .before .s3 .given .0 .0 in let s = c .before .before .before .before .before .before .before .before .before .before .before .before .before .args .src .now in (w .1, omega (arith, c .before .before .put-chars .ensures .0), c .before .before .put-chars .kept .1 .1 .1 .1 .0 ∙ c .before .before .before .before .before .before .before .before .before .before .loop .inv .2, leads-rows _ _ _ (charTokens (getD s (g .at) 0) (g .at) end 0 (drop (g .at + 1) s)) _ _ _ _ _ (lex-literal _ _ _ (c .before .before .before .before .before .before .before .before .before .loop-test .taken) _ (sym (c .before .before .before .before .before .before .before .before .scan-at .ensures .0) ∙ c .before .before .before .before .before .before .s3 .given .1) (w .0) (w .1)) (c .before .before .put-chars .ensures .1) (c .before .before .put-chars .ensures .0) (c .before .before .before .before .before .before .before .before .before .before .loop .inv .3))
+loop-again-3 c = let w = in-is _ _ _ _ (c .before .before .before .before .before .before .s3 .given .1) (c .before .before .before .before .before .before .before .before .scan-at .ensures .1) in
+    let f = literal-few _ _ _ _ (c .before .before .before .before .before .before .before .before .before .loop-test .taken) (sym (c .before .before .before .before .before .before .before .before .scan-at .ensures .0) ∙ c .before .before .before .before .before .before .s3 .given .1) in let g = c .before .before .before .before .before .before .before .before .before .before .loop in let end = c .before .before .before .before .before .before .s3 .given .0 .0 in
+    let s = c .before .before .before .before .before .before .before .before .before .before .before .before .before .args .src .now in (
+      w .1,
+      omega (arith, c .before .before .put-chars .ensures .0),
+      c .before .before .put-chars .kept .1 .1 .1 .1 .0
+          ∙ c .before .before .before .before .before .before .before .before .before .before .loop .inv .2,
+      leads-rows _ _ _ (charTokens (getD s (g .at) 0) (g .at) end 0 (drop (g .at + 1) s)) _ _ _ _ _ (lex-literal _ _ _ (c .before .before .before .before .before .before .before .before .before .loop-test .taken) _ (sym (c .before .before .before .before .before .before .before .before .scan-at .ensures .0)
+          ∙ c .before .before .before .before .before .before .s3 .given .1) (w .0) (w .1)) (c .before .before .put-chars .ensures .1) (c .before .before .put-chars .ensures .0) (c .before .before .before .before .before .before .before .before .before .before .loop .inv .3),
+    )
 
 -- src/lib.rt:103:25
 enum-known-s-4 : tie.Need-enum-known-s-4 Inv-loop μ-loop

@@ -1,9 +1,7 @@
 -- `refal_lexer::read` meets its contract: 1, 2, what stops the reading, 25.
-use Prim.Native.Nat.{ℕ, _+_, _-_, _≤_, _<_}
-use native.Mathlib.Omega.{arith}
-use mathlib.Core.Path.{_≡_, refl, sym, ap, _∙_}
-use lib.ListN.{length, drop, getD, replicate}
-use borrow.Author.Tests.{le-leb, lt-leb}
+use mathlib.Core.Path.{sym, ap, _∙_}
+use lib.ListN.{length, replicate}
+use borrow.Author.Tests.{lt-leb}
 use Rattle.refal_lexer.specs.ReadLaws.{read-refused, read-done, answer-long, answer-ill, answer-lexed}
 use borrow.Author.Needs.{needs}
 use Rattle.refal_lexer.proofs.read.Statement.{statement}
@@ -73,7 +71,9 @@ same-length-3 c = search needs
 
 -- src/lib.rt:131:9
 returns-3 : tie.Need-returns-3
-returns-3 c = let a = c .before .before .before .before .before .before .before .before .before .before .before .before .before .before .before .args in let e = answer-lexed (a .src .now) (length (a .rows .now)) _ _ _ (c .before .before .before .before .before .before .before .before .before .before .before .before .if1 .left) (c .before .before .before .before .before .before .before .before .before .before .before .first-ill .ensures .0) (c .before .before .before .before .before .before .before .before .before .before .if2 .left) (c .before .before .before .before .before .before .before .before .lex-all .ensures .0) (c .before .before .before .before .enum-told .given .1) in read-refused (a .src .now) (a .rows .now) _ _ _ (c .before .before .before .before .enum-told .given .1) e (c .before .before .clear3 .ensures ∙ ap (λ k. replicate k 0) (c .before .before .before .before .before .before .before .before .lex-all .kept .1 .0))
+returns-3 c = let a = c .before .before .before .before .before .before .before .before .before .before .before .before .before .before .before .args in
+    let e = answer-lexed (a .src .now) (length (a .rows .now)) _ _ _ (c .before .before .before .before .before .before .before .before .before .before .before .before .if1 .left) (c .before .before .before .before .before .before .before .before .before .before .before .first-ill .ensures .0) (c .before .before .before .before .before .before .before .before .before .before .if2 .left)
+    (c .before .before .before .before .before .before .before .before .lex-all .ensures .0) (c .before .before .before .before .enum-told .given .1) in read-refused (a .src .now) (a .rows .now) _ _ _ (c .before .before .before .before .enum-told .given .1) e (c .before .before .clear3 .ensures ∙ ap (λ k. replicate k 0) (c .before .before .before .before .before .before .before .before .lex-all .kept .1 .0))
 
 -- src/lib.rt:134:9
 same-length-4 : tie.Need-same-length-4
@@ -81,7 +81,9 @@ same-length-4 c = search needs
 
 -- src/lib.rt:134:9
 returns-4 : tie.Need-returns-4
-returns-4 c = let a = c .before .before .before .before .before .before .before .before .before .before .before .before .before .args in let e = answer-lexed (a .src .now) (length (a .rows .now)) _ _ _ (c .before .before .before .before .before .before .before .before .before .before .if1 .left) (c .before .before .before .before .before .before .before .before .before .first-ill .ensures .0) (c .before .before .before .before .before .before .before .before .if2 .left) (c .before .before .before .before .before .before .lex-all .ensures .0) (c .before .before .a .given .1) in read-done (a .src .now) (a .rows .now) _ _ (sym (c .before .before .a .given .1) ∙ c .before .before .before .before .before .before .lex-all .ensures .0) e (c .if3 .taken) (c .before .before .before .before .before .before .lex-all .ensures .1)
+returns-4 c = let a = c .before .before .before .before .before .before .before .before .before .before .before .before .before .args in
+    let e = answer-lexed (a .src .now) (length (a .rows .now)) _ _ _ (c .before .before .before .before .before .before .before .before .before .before .if1 .left) (c .before .before .before .before .before .before .before .before .before .first-ill .ensures .0) (c .before .before .before .before .before .before .before .before .if2 .left) (c .before .before .before .before .before .before .lex-all .ensures .0) (c .before .before .a .given .1) in
+    read-done (a .src .now) (a .rows .now) _ _ (sym (c .before .before .a .given .1) ∙ c .before .before .before .before .before .before .lex-all .ensures .0) e (c .if3 .taken) (c .before .before .before .before .before .before .lex-all .ensures .1)
 
 -- src/lib.rt:136:5
 clear-requires-4 : tie.Need-clear-requires-4
@@ -97,7 +99,10 @@ same-length-5 c = search needs
 
 -- src/lib.rt:114:1
 returns-5 : tie.Need-returns-5
-returns-5 c = let a = c .before .before .before .before .before .before .before .before .before .before .before .before .before .before .before .before .before .before .args in let e = answer-lexed (a .src .now) (length (a .rows .now)) _ _ _ (c .before .before .before .before .before .before .before .before .before .before .before .before .before .before .before .if1 .left) (c .before .before .before .before .before .before .before .before .before .before .before .before .before .before .first-ill .ensures .0) (c .before .before .before .before .before .before .before .before .before .before .before .before .before .if2 .left) (c .before .before .before .before .before .before .before .before .before .before .before .lex-all .ensures .0) (c .before .before .before .before .before .before .before .a .given .1) in read-refused (a .src .now) (a .rows .now) _ _ _ (c .refused3 .ensures) (e ∙ rw (lt-leb _ _ (c .before .before .before .before .before .if3 .left))) (c .before .before .before .clear4 .ensures ∙ ap (λ k. replicate k 0) (c .before .before .before .before .before .before .before .before .before .before .before .lex-all .kept .1 .0))
+returns-5 c = let a = c .before .before .before .before .before .before .before .before .before .before .before .before .before .before .before .before .before .before .args in
+    let e = answer-lexed (a .src .now) (length (a .rows .now)) _ _ _ (c .before .before .before .before .before .before .before .before .before .before .before .before .before .before .before .if1 .left) (c .before .before .before .before .before .before .before .before .before .before .before .before .before .before .first-ill .ensures .0) (c .before .before .before .before .before .before .before .before .before .before .before .before .before .if2 .left)
+    (c .before .before .before .before .before .before .before .before .before .before .before .lex-all .ensures .0) (c .before .before .before .before .before .before .before .a .given .1) in
+    read-refused (a .src .now) (a .rows .now) _ _ _ (c .refused3 .ensures) (e ∙ rw (lt-leb _ _ (c .before .before .before .before .before .if3 .left))) (c .before .before .before .clear4 .ensures ∙ ap (λ k. replicate k 0) (c .before .before .before .before .before .before .before .before .before .before .before .lex-all .kept .1 .0))
 
 pub read-spec : {M : Type 1} → statement M
 read-spec =

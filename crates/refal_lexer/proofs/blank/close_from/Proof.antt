@@ -1,8 +1,8 @@
 -- `refal_lexer::blank::close_from` meets its contract: a body's byte closes or goes on.
-use Prim.Native.Nat.{ℕ, _+_, _-_, _≤_, _<_}
+use Prim.Native.Nat.{_+_, _-_, _≤_}
 use native.Mathlib.Omega.{arith}
-use mathlib.Core.Path.{_≡_, refl, sym, ap, _∙_}
-use lib.ListN.{length, drop, getD}
+use mathlib.Core.Path.{_≡_, refl, _∙_}
+use lib.ListN.{length, drop}
 use mathlib.Core.Bool.{false}
 use Rattle.refal_lexer.specs.Blanks.{closeFrom}
 use Rattle.refal_lexer.specs.BlankLaws.{close-end, close-stop, close-step}

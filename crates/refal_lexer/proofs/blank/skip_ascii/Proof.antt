@@ -1,11 +1,11 @@
 -- `refal_lexer::blank::skip_ascii` meets its contract: a white byte is a blank scan.
-use Prim.Native.Nat.{ℕ, _+_, _-_, _≤_, _<_}
+use Prim.Native.Nat.{_+_, _-_, _≤_}
 use native.Mathlib.Omega.{arith}
 use mathlib.Core.Path.{_≡_, refl, sym, ap, _∙_}
-use lib.ListN.{length, drop, getD}
+use lib.ListN.{length, drop}
 use mathlib.Core.Bool.{Bool}
-use borrow.Author.Tests.{not-true, not-false}
-use Rattle.refal_lexer.specs.Lex.{Out, lex}
+use borrow.Author.Tests.{not-false}
+use Rattle.refal_lexer.specs.Lex.{lex}
 use Rattle.refal_lexer.specs.LexLaws.{lex-ascii}
 use borrow.Author.Needs.{needs}
 use Rattle.refal_lexer.proofs.blank.skip_ascii.Statement.{statement}
@@ -51,7 +51,12 @@ loop-less c = search needs
 
 -- src/blank.rt:54:5
 loop-again : tie.Need-loop-again Inv-loop μ-loop
-loop-again c = (ap (λ (x : Bool). lex 0 (c .before .before .before .before .before .loop .i + 1) x (drop (c .before .before .before .before .before .loop .i + 1) (c .before .before .before .before .before .before .before .args .src .now))) (c .line-after .ensures) ∙ lex-ascii _ _ _ (c .before .before .before .before .loop-test .taken) (sym (c .before .before .is-blank .ensures) ∙ not-false _ (c .before .if1 .left)) ∙ c .before .before .before .before .before .loop .inv .0, omega arith, omega arith)
+loop-again c = (
+  ap (λ (x : Bool). lex 0 (c .before .before .before .before .before .loop .i + 1) x (drop (c .before .before .before .before .before .loop .i + 1) (c .before .before .before .before .before .before .before .args .src .now))) (c .line-after .ensures) ∙ lex-ascii _ _ _ (c .before .before .before .before .loop-test .taken) (sym (c .before .before .is-blank .ensures) ∙ not-false _ (c .before .if1 .left))
+      ∙ c .before .before .before .before .before .loop .inv .0,
+  omega arith,
+  omega arith,
+)
 
 -- src/blank.rt:48:1
 returns-2 : tie.Need-returns-2 Inv-loop μ-loop

@@ -1,10 +1,10 @@
 -- `refal_lexer::blank::skip_white` meets its contract: a white character is a blank scan.
-use Prim.Native.Nat.{ℕ, _+_, _-_, _≤_, _<_}
+use Prim.Native.Nat.{_+_, _-_, _≤_}
 use native.Mathlib.Omega.{arith}
-use mathlib.Core.Path.{_≡_, refl, sym, ap, _∙_}
-use lib.ListN.{length, drop, getD}
+use mathlib.Core.Path.{_≡_, refl, ap, _∙_}
+use lib.ListN.{length, drop}
 use mathlib.Core.Bool.{Bool}
-use Rattle.refal_lexer.specs.Lex.{Out, lex}
+use Rattle.refal_lexer.specs.Lex.{lex}
 use Rattle.refal_lexer.specs.LexLaws.{lex-white}
 use borrow.Author.Needs.{needs}
 use Rattle.refal_lexer.proofs.blank.skip_white.Statement.{statement}
@@ -50,7 +50,12 @@ loop-less c = search needs
 
 -- src/blank.rt:73:5
 loop-again : tie.Need-loop-again Inv-loop μ-loop
-loop-again c = (ap (λ (x : Bool). lex 0 (c .before .before .before .before .before .loop .i + c .before .before .before .white-len .result) x (drop (c .before .before .before .before .before .loop .i + c .before .before .before .white-len .result) (c .before .before .before .before .before .before .before .args .src .now))) (c .line-after .ensures) ∙ lex-white _ _ _ (c .before .before .before .before .loop-test .taken) _ (c .before .before .before .white-len .ensures .0) (c .before .before .if1 .left) (c .before .before .before .white-len .ensures .1) ∙ c .before .before .before .before .before .loop .inv .0, omega arith, c .before .before .before .white-len .ensures .1)
+loop-again c = (
+  ap (λ (x : Bool). lex 0 (c .before .before .before .before .before .loop .i + c .before .before .before .white-len .result) x (drop (c .before .before .before .before .before .loop .i + c .before .before .before .white-len .result) (c .before .before .before .before .before .before .before .args .src .now))) (c .line-after .ensures)
+      ∙ lex-white _ _ _ (c .before .before .before .before .loop-test .taken) _ (c .before .before .before .white-len .ensures .0) (c .before .before .if1 .left) (c .before .before .before .white-len .ensures .1) ∙ c .before .before .before .before .before .loop .inv .0,
+  omega arith,
+  c .before .before .before .white-len .ensures .1,
+)
 
 -- src/blank.rt:67:1
 returns-2 : tie.Need-returns-2 Inv-loop μ-loop

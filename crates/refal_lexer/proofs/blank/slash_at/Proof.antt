@@ -1,8 +1,5 @@
 -- `refal_lexer::blank::slash_at` meets its contract: a comment, or unexpected.
-use Prim.Native.Nat.{ℕ, _+_, _-_, _≤_, _<_}
 use native.Mathlib.Omega.{arith}
-use mathlib.Core.Path.{_≡_, refl, sym, ap, _∙_}
-use lib.ListN.{length, drop, getD}
 use Rattle.refal_lexer.specs.BlankLaws.{slash-star, slash-bad, slash-in}
 use borrow.Author.Needs.{needs}
 use Rattle.refal_lexer.proofs.blank.slash_at.Statement.{statement}

@@ -1,8 +1,5 @@
 -- `refal_lexer::blank::star_at` meets its contract: a comment at a line's start only.
-use Prim.Native.Nat.{ℕ, _+_, _-_, _≤_, _<_}
 use native.Mathlib.Omega.{arith}
-use mathlib.Core.Path.{_≡_, refl, sym, ap, _∙_}
-use lib.ListN.{length, drop, getD}
 use borrow.Author.Needs.{needs}
 use Rattle.refal_lexer.proofs.blank.star_at.Statement.{statement}
 use Rattle.refal_lexer.proofs.blank.star_at.Tie as tie

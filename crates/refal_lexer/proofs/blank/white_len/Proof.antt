@@ -1,8 +1,6 @@
 -- `refal_lexer::blank::white_len` meets its contract: one byte below 128, else the character's length.
-use Prim.Native.Nat.{ℕ, _+_, _-_, _≤_, _<_}
-use native.Mathlib.Omega.{arith}
-use mathlib.Core.Path.{_≡_, refl, sym, ap, _∙_}
-use lib.ListN.{length, drop, getD}
+use mathlib.Core.Path.{sym, _∙_}
+use lib.ListN.{length}
 use Rattle.refal_lexer.specs.BlankLaws.{white-one, white-none, white-wide, white-not}
 use borrow.Author.Needs.{needs}
 use Rattle.refal_lexer.proofs.blank.white_len.Statement.{statement}

@@ -1,8 +1,5 @@
 -- `refal_lexer::blank::wide_at` meets its contract: white space, or unexpected, whole.
-use Prim.Native.Nat.{ℕ, _+_, _-_, _≤_, _<_}
 use native.Mathlib.Omega.{arith}
-use mathlib.Core.Path.{_≡_, refl, sym, ap, _∙_}
-use lib.ListN.{length, drop, getD}
 use borrow.Author.Tests.{eq-eqb, ne-eqb}
 use Rattle.refal_text.specs.Utf8Laws.{step-in}
 use borrow.Author.Needs.{needs}

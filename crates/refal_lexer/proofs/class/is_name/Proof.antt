@@ -1,8 +1,5 @@
 -- `refal_lexer::class::is_name` meets its contract: the classes from 20 on.
-use Prim.Native.Nat.{ℕ, _+_, _-_, _≤_, _<_}
-use native.Mathlib.Omega.{arith}
-use mathlib.Core.Path.{_≡_, refl, sym, ap, _∙_}
-use lib.ListN.{length, drop, getD}
+use mathlib.Core.Path.{ap, _∙_}
 use lib.Dec.{leb}
 use Rattle.refal_lexer.specs.ClassLaws.{name-class}
 use borrow.Author.Needs.{needs}

@@ -1,8 +1,8 @@
 -- `refal_lexer::dispatch::rare_at` meets its contract: the class picks the scan.
-use Prim.Native.Nat.{ℕ, _+_, _-_, _≤_, _<_}
+use Prim.Native.Nat.{_+_}
 use native.Mathlib.Omega.{arith}
-use mathlib.Core.Path.{_≡_, refl, sym, ap, _∙_}
-use lib.ListN.{length, drop, getD}
+use mathlib.Core.Path.{refl, _∙_}
+use lib.ListN.{drop}
 use Rattle.refal_lexer.specs.ScanLaws.{rare-class, rare-sign, rare-wide, rare-none}
 use borrow.Author.Needs.{needs}
 use Rattle.refal_lexer.proofs.dispatch.rare_at.Statement.{statement}

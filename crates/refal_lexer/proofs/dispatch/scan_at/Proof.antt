@@ -1,8 +1,8 @@
 -- `refal_lexer::dispatch::scan_at` meets its contract: the class picks the scan.
-use Prim.Native.Nat.{ℕ, _+_, _-_, _≤_, _<_}
+use Prim.Native.Nat.{_+_}
 use native.Mathlib.Omega.{arith}
-use mathlib.Core.Path.{_≡_, refl, sym, ap, _∙_}
-use lib.ListN.{length, drop, getD}
+use mathlib.Core.Path.{refl, sym, ap, _∙_}
+use lib.ListN.{drop, getD}
 use Rattle.refal_lexer.specs.declared.Scan.the-variants.{Blank}
 use Rattle.refal_lexer.specs.ClassLaws.{class-digit, class-quote}
 use Rattle.refal_lexer.specs.ScanLaws.{scan-class, scan-digit, class-single, class-rare}
@@ -90,7 +90,11 @@ returns-6 c = let a = c .before .before .before .before .before .before .args in
 
 -- src/dispatch.rt:54:1
 returns-7 : tie.Need-returns-7
-returns-7 c = let a = c .before .before .before .before .before .before .args in let n = c .before .match .rest in (class-rare (c .before .before .before .class-of .result) (a .at) (a .line) (getD (a .src .now) (a .at) 0) (drop (a .at + 1) (a .src .now)) _ (c .before .before .if1 .left) (n .0 .0 .0 .0 .1) (n .0 .0 .0 .1) (n .0 .0 .1) (n .0 .1) (n .1) (c .rare-at .ensures .0) ∙ scan-class (a .src .now) (a .at) (a .line) (c .before .before .before .class-of .result) _ (c .before .before .before .before .before .before .pre) (c .before .before .before .class-of .ensures) refl, c .rare-at .ensures .1)
+returns-7 c = let a = c .before .before .before .before .before .before .args in let n = c .before .match .rest in (
+  class-rare (c .before .before .before .class-of .result) (a .at) (a .line) (getD (a .src .now) (a .at) 0) (drop (a .at + 1) (a .src .now)) _ (c .before .before .if1 .left) (n .0 .0 .0 .0 .1) (n .0 .0 .0 .1) (n .0 .0 .1) (n .0 .1) (n .1) (c .rare-at .ensures .0)
+      ∙ scan-class (a .src .now) (a .at) (a .line) (c .before .before .before .class-of .result) _ (c .before .before .before .before .before .before .pre) (c .before .before .before .class-of .ensures) refl,
+  c .rare-at .ensures .1,
+)
 
 pub scan-at-spec : {M : Type 1} → statement M
 scan-at-spec =

@@ -1,8 +1,6 @@
 -- `refal_lexer::dispatch::sign_at` meets its contract: a number before a digit only.
-use Prim.Native.Nat.{ℕ, _+_, _-_, _≤_, _<_}
 use native.Mathlib.Omega.{arith}
-use mathlib.Core.Path.{_≡_, refl, sym, ap, _∙_}
-use lib.ListN.{length, drop, getD}
+use mathlib.Core.Path.{sym, _∙_}
 use Rattle.refal_lexer.specs.ScanLaws.{sign-number, sign-name, sign-bad, sign-in}
 use borrow.Author.Needs.{needs}
 use Rattle.refal_lexer.proofs.dispatch.sign_at.Statement.{statement}

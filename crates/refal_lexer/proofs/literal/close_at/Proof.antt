@@ -1,6 +1,5 @@
 -- `refal_lexer::literal::close_at` meets its contract: 20 before 21.
 use borrow.Author.Tests.{lt-ltb, le-ltb, eq-eqb, ne-eqb}
-use borrow.Author.Needs.{needs}
 use Rattle.refal_lexer.proofs.literal.close_at.Statement.{statement}
 use Rattle.refal_lexer.proofs.literal.close_at.Tie as tie
 use Rattle.refal_lexer.proofs.literal.close_at.Reads as reads

@@ -1,8 +1,4 @@
 -- `refal_lexer::literal::lit_char` meets its contract: the close, a doubled quote, or a character.
-use Prim.Native.Nat.{ℕ, _+_, _-_, _≤_, _<_}
-use native.Mathlib.Omega.{arith}
-use mathlib.Core.Path.{_≡_, refl, sym, ap, _∙_}
-use lib.ListN.{length, drop, getD}
 use Rattle.refal_lexer.specs.LiteralLaws.{char-double, char-close, char-byte, char-whole}
 use borrow.Author.Needs.{needs}
 use Rattle.refal_lexer.proofs.literal.lit_char.Statement.{statement}

@@ -1,9 +1,9 @@
 -- `refal_lexer::literal::literal_at` meets its contract: a character a turn.
-use Prim.Native.Nat.{ℕ, _+_, _-_, _≤_, _<_}
+use Prim.Native.Nat.{_+_, _-_, _≤_, _<_}
 use native.Mathlib.Omega.{arith}
-use mathlib.Core.Path.{_≡_, refl, sym, ap, _∙_}
-use lib.ListN.{length, drop, getD}
-use Rattle.refal_lexer.specs.Within.{Within, is-in}
+use mathlib.Core.Path.{_≡_, refl, sym, _∙_}
+use lib.ListN.{length, drop}
+use Rattle.refal_lexer.specs.Within.{is-in}
 use Rattle.refal_lexer.specs.Literals.{litFrom}
 use Rattle.refal_lexer.specs.LiteralLaws.{lit-end, lit-close, lit-newline, lit-step, close-in}
 use borrow.Author.Needs.{needs}
@@ -42,7 +42,8 @@ close-at-requires c κs = search needs
 
 -- src/literal.rt:61:13
 returns : tie.Need-returns Inv-loop μ-loop
-returns c = let h : c .before .before .before .before .before .before .args .at < c .before .before .before .before .loop .i + 1 = omega arith in let k : c .before .before .before .before .loop .i + 1 ≤ length (c .before .before .before .before .before .before .args .src .now) = omega arith in (lit-close _ _ _ _ _ (c .before .before .before .loop-test .taken) (c .before .before .lit-char .ensures .0) _ (c .before .if1 .taken) (c .close-at .ensures) ∙ c .before .before .before .before .loop .inv .3, is-in _ _ _ _ (c .close-at .ensures) (close-in _ _ _ (c .before .before .before .before .loop .n) h k))
+returns c = let h : c .before .before .before .before .before .before .args .at < c .before .before .before .before .loop .i + 1 = omega arith in let k : c .before .before .before .before .loop .i + 1 ≤ length (c .before .before .before .before .before .before .args .src .now) = omega arith in
+    (lit-close _ _ _ _ _ (c .before .before .before .loop-test .taken) (c .before .before .lit-char .ensures .0) _ (c .before .if1 .taken) (c .close-at .ensures) ∙ c .before .before .before .before .loop .inv .3, is-in _ _ _ _ (c .close-at .ensures) (close-in _ _ _ (c .before .before .before .before .loop .n) h k))
 
 -- src/literal.rt:63:12
 shared-slice-read-if2 : tie.Need-shared-slice-read-if2 Inv-loop μ-loop

@@ -1,8 +1,8 @@
 -- `refal_lexer::literal::put_chars` meets its contract: a row a turn.
-use Prim.Native.Nat.{ℕ, _+_, _-_, _≤_, _<_}
+use Prim.Native.Nat.{_+_, _-_, _≤_, _<_}
 use native.Mathlib.Omega.{arith}
-use mathlib.Core.Path.{_≡_, refl, sym, ap, _∙_}
-use lib.ListN.{length, drop, getD}
+use mathlib.Core.Path.{_≡_, refl, _∙_}
+use lib.ListN.{length, drop}
 use Rattle.refal_lexer.specs.Literals.{charTokens}
 use Rattle.refal_lexer.specs.LiteralLaws.{chars-end, chars-close, chars-step, Fills, fills-start, fills-row, fills-end}
 use borrow.Author.Needs.{needs}
@@ -65,7 +65,15 @@ loop-less c = omega arith
 
 -- src/literal.rt:80:5
 loop-again : tie.Need-loop-again Inv-loop μ-loop
-loop-again c = (omega arith, c .before .before .before .before .before .lit-char .ensures .1, omega arith, c .before .before .put6 .kept .0 ∙ c .before .before .before .before .before .before .before .loop .inv .3, fills-row _ _ _ _ _ _ _ _ _ (chars-step _ _ _ _ _ _ (c .before .before .before .before .before .before .loop-test .taken) (c .before .before .before .before .before .lit-char .ensures .0) (c .before .before .before .before .if1 .left) (c .before .before .before .before .before .lit-char .ensures .1)) (c .before .before .put6 .ensures) (c .before .before .before .before .before .before .before .loop .inv .4))
+loop-again c = (
+  omega arith,
+  c .before .before .before .before .before .lit-char .ensures .1,
+  omega arith,
+  c .before .before .put6 .kept .0
+      ∙ c .before .before .before .before .before .before .before .loop .inv .3,
+  fills-row _ _ _ _ _ _ _ _ _ (chars-step _ _ _ _ _ _ (c .before .before .before .before .before .before .loop-test .taken) (c .before .before .before .before .before .lit-char .ensures .0) (c .before .before .before .before .if1 .left) (c .before .before .before .before .before .lit-char .ensures .1)) (c .before .before .put6 .ensures)
+      (c .before .before .before .before .before .before .before .loop .inv .4),
+)
 
 -- src/literal.rt:73:1
 same-length-2 : tie.Need-same-length-2 Inv-loop μ-loop

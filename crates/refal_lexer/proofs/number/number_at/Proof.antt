@@ -1,9 +1,8 @@
 -- `refal_lexer::number::number_at` meets its contract: 16, 17, then digits alone, then a real number.
-use Prim.Native.Nat.{ℕ, _+_, _-_, _≤_, _<_}
+use Prim.Native.Nat.{_≤_, _<_}
 use native.Mathlib.Omega.{arith}
-use mathlib.Core.Path.{_≡_, refl, sym, ap, _∙_}
-use lib.ListN.{length, drop, getD}
-use Rattle.refal_lexer.specs.Within.{Within, is-in}
+use lib.ListN.{length}
+use Rattle.refal_lexer.specs.Within.{is-in}
 use Rattle.refal_lexer.specs.NumberLaws.{number-point, number-e, number-whole, number-real, number-past, whole-in}
 use borrow.Author.Needs.{needs}
 use Rattle.refal_lexer.proofs.number.number_at.Statement.{statement}
@@ -48,7 +47,12 @@ whole-at-requires c κs = search needs
 
 -- src/number.rt:105:9
 returns-3 : tie.Need-returns-3
-returns-3 c = let p = number-past _ _ _ (c .before .before .before .before .before .before .before .before .pre .1) (c .before .before .before .before .before .before .before .before .pre .2) (c .before .before .before .before .before .before .whole-end .ensures .0) in let l : c .before .before .before .before .before .before .before .before .args .at < c .before .before .before .before .before .before .whole-end .result .end = omega arith in let h : c .before .before .before .before .before .before .whole-end .result .end ≤ length (c .before .before .before .before .before .before .before .before .args .src .now) = omega arith in (number-whole _ _ _ _ _ (c .before .before .before .before .before .before .whole-end .ensures .0) (c .before .before .before .before .before .part-end .ensures .0) _ _ _ (c .before .before .before .before .if1 .left) (c .before .before .before .part-end2 .ensures .0) (c .before .before .if2 .left) (c .before .if3 .taken) (c .before .before .before .before .before .before .whole-end .ensures .2) (c .whole-at .ensures), is-in _ _ _ _ (c .whole-at .ensures) (whole-in _ _ _ (c .before .before .before .before .before .before .whole-end .result .worth) _ l h))
+returns-3 c = let p = number-past _ _ _ (c .before .before .before .before .before .before .before .before .pre .1) (c .before .before .before .before .before .before .before .before .pre .2) (c .before .before .before .before .before .before .whole-end .ensures .0) in let l : c .before .before .before .before .before .before .before .before .args .at < c .before .before .before .before .before .before .whole-end .result .end = omega arith in
+    let h : c .before .before .before .before .before .before .whole-end .result .end ≤ length (c .before .before .before .before .before .before .before .before .args .src .now) = omega arith in (
+      number-whole _ _ _ _ _ (c .before .before .before .before .before .before .whole-end .ensures .0) (c .before .before .before .before .before .part-end .ensures .0) _ _ _ (c .before .before .before .before .if1 .left) (c .before .before .before .part-end2 .ensures .0) (c .before .before .if2 .left) (c .before .if3 .taken) (c .before .before .before .before .before .before .whole-end .ensures .2) (c .whole-at .ensures),
+      is-in _ _ _ _ (c .whole-at .ensures)
+          (whole-in _ _ _ (c .before .before .before .before .before .before .whole-end .result .worth) _ l h),
+    )
 
 -- src/number.rt:107:15
 sub-len : tie.Need-sub-len
@@ -56,7 +60,8 @@ sub-len c = search needs
 
 -- src/number.rt:88:1
 returns-4 : tie.Need-returns-4
-returns-4 c = let p = number-past _ _ _ (c .before .before .before .before .before .before .before .pre .1) (c .before .before .before .before .before .before .before .pre .2) (c .before .before .before .before .before .whole-end .ensures .0) in (number-real _ _ _ _ _ (c .before .before .before .before .before .whole-end .ensures .0) (c .before .before .before .before .part-end .ensures .0) _ (c .before .before .before .if1 .left) (c .before .before .part-end2 .ensures .0) (c .before .if2 .left) (c .if3 .left), omega arith)
+returns-4 c = let p = number-past _ _ _ (c .before .before .before .before .before .before .before .pre .1) (c .before .before .before .before .before .before .before .pre .2) (c .before .before .before .before .before .whole-end .ensures .0) in
+    (number-real _ _ _ _ _ (c .before .before .before .before .before .whole-end .ensures .0) (c .before .before .before .before .part-end .ensures .0) _ (c .before .before .before .if1 .left) (c .before .before .part-end2 .ensures .0) (c .before .if2 .left) (c .if3 .left), omega arith)
 
 pub number-at-spec : {M : Type 1} → statement M
 number-at-spec =

@@ -1,8 +1,6 @@
 -- `refal_lexer::number::part_end` meets its contract: a mark and its digits, or nothing.
-use Prim.Native.Nat.{ℕ, _+_, _-_, _≤_, _<_}
 use native.Mathlib.Omega.{arith}
-use mathlib.Core.Path.{_≡_, refl, sym, ap, _∙_}
-use lib.ListN.{length, drop, getD}
+use mathlib.Core.Path.{sym, _∙_}
 use Rattle.refal_lexer.specs.BlankLaws.{nonzero-in}
 use Rattle.refal_lexer.specs.NumberLaws.{part-here, part-none}
 use borrow.Author.Needs.{needs}

@@ -1,10 +1,9 @@
 -- `refal_lexer::number::whole_end` meets its contract: a digit a turn.
-use Prim.Native.Nat.{ℕ, _+_, _-_, _≤_, _<_}
+use Prim.Native.Nat.{ℕ, _+_, _-_, _≤_}
 use native.Mathlib.Omega.{arith}
 use mathlib.Core.Path.{_≡_, refl, sym, ap, _∙_}
-use lib.ListN.{length, drop, getD}
+use lib.ListN.{length, drop}
 use borrow.Author.Tests.{not-true, not-false}
-use mathlib.Core.Bool.{not}
 use Rattle.refal_rows.specs.Tests.{range-lo}
 use Rattle.refal_text.specs.Span.{span}
 use Rattle.refal_text.specs.SpanLaws.{span-end, span-stop, span-step}
@@ -54,7 +53,8 @@ loop-less c = search needs
 
 -- src/number.rt:42:5
 loop-again : tie.Need-loop-again Inv-loop μ-loop
-loop-again c = let d = sym (c .before .before .is-digit .ensures) ∙ not-false _ (c .before .if1 .left) in (omega arith, span-step digit _ _ (c .before .before .before .before .loop-test .taken) d ∙ c .before .before .before .before .before .loop .inv .1, ap (λ (x : ℕ). worth x (drop (c .before .before .before .before .before .loop .i + 1) (c .before .before .before .before .before .before .before .args .src .now))) (c .add-digit .ensures) ∙ worth-step _ _ _ (c .before .before .before .before .loop-test .taken) d ∙ c .before .before .before .before .before .loop .inv .2)
+loop-again c = let d = sym (c .before .before .is-digit .ensures) ∙ not-false _ (c .before .if1 .left) in
+    (omega arith, span-step digit _ _ (c .before .before .before .before .loop-test .taken) d ∙ c .before .before .before .before .before .loop .inv .1, ap (λ (x : ℕ). worth x (drop (c .before .before .before .before .before .loop .i + 1) (c .before .before .before .before .before .before .before .args .src .now))) (c .add-digit .ensures) ∙ worth-step _ _ _ (c .before .before .before .before .loop-test .taken) d ∙ c .before .before .before .before .before .loop .inv .2)
 
 -- src/number.rt:36:1
 returns-2 : tie.Need-returns-2 Inv-loop μ-loop

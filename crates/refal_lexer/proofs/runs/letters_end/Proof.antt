@@ -1,10 +1,9 @@
 -- `refal_lexer::runs::letters_end` meets its contract: a byte a turn.
-use Prim.Native.Nat.{ℕ, _+_, _-_, _≤_, _<_}
+use Prim.Native.Nat.{_+_, _-_, _≤_}
 use native.Mathlib.Omega.{arith}
-use mathlib.Core.Path.{_≡_, refl, sym, ap, _∙_}
-use lib.ListN.{length, drop, getD}
-use borrow.Author.Tests.{not-true, not-false, eq-eqb, ne-eqb}
-use mathlib.Core.Bool.{not}
+use mathlib.Core.Path.{_≡_, refl, sym, _∙_}
+use lib.ListN.{length, drop}
+use borrow.Author.Tests.{not-true, not-false}
 use Rattle.refal_text.specs.Span.{span}
 use Rattle.refal_text.specs.SpanLaws.{span-end, span-stop, span-step}
 use Rattle.refal_lexer.specs.Classes.{letter}

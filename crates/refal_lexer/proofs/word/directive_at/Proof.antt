@@ -1,8 +1,7 @@
 -- `refal_lexer::word::directive_at` meets its contract: ENTRY, one of three, or unknown.
-use Prim.Native.Nat.{ℕ, _+_, _-_, _≤_, _<_}
+use Prim.Native.Nat.{_+_}
 use native.Mathlib.Omega.{arith}
-use mathlib.Core.Path.{_≡_, refl, sym, ap, _∙_}
-use lib.ListN.{length, drop, getD}
+use lib.ListN.{drop}
 use Rattle.refal_lexer.specs.WordLaws.{directive-entry, directive-extern, directive-bad}
 use borrow.Author.Needs.{needs}
 use Rattle.refal_lexer.proofs.word.directive_at.Statement.{statement}

@@ -1,8 +1,5 @@
 -- `refal_lexer::word::index_at` meets its contract: 12, 13 or the index.
-use Prim.Native.Nat.{ℕ, _+_, _-_, _≤_, _<_}
 use native.Mathlib.Omega.{arith}
-use mathlib.Core.Path.{_≡_, refl, sym, ap, _∙_}
-use lib.ListN.{length, drop, getD}
 use Rattle.refal_lexer.specs.WordLaws.{index-none, index-fits, index-long}
 use borrow.Author.Needs.{needs}
 use Rattle.refal_lexer.proofs.word.index_at.Statement.{statement}

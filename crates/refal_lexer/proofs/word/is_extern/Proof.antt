@@ -1,8 +1,4 @@
 -- `refal_lexer::word::is_extern` meets its contract: one of three words.
-use Prim.Native.Nat.{ℕ, _+_, _-_, _≤_, _<_}
-use native.Mathlib.Omega.{arith}
-use mathlib.Core.Path.{_≡_, refl, sym, ap, _∙_}
-use lib.ListN.{length, drop, getD}
 use borrow.Author.Needs.{needs}
 use Rattle.refal_lexer.proofs.word.is_extern.Statement.{statement}
 use Rattle.refal_lexer.proofs.word.is_extern.Tie as tie

@@ -1,8 +1,5 @@
 -- `refal_lexer::word::is_word` meets its contract: the length, then the bytes.
-use Prim.Native.Nat.{ℕ, _+_, _-_, _≤_, _<_}
-use native.Mathlib.Omega.{arith}
-use mathlib.Core.Path.{_≡_, refl, sym, ap, _∙_}
-use lib.ListN.{length, drop, getD}
+use lib.ListN.{length}
 use borrow.Author.Needs.{needs}
 use Rattle.refal_lexer.proofs.word.is_word.Statement.{statement}
 use Rattle.refal_lexer.proofs.word.is_word.Tie as tie

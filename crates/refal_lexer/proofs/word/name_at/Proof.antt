@@ -1,8 +1,5 @@
 -- `refal_lexer::word::name_at` meets its contract: at most 15 bytes.
-use Prim.Native.Nat.{ℕ, _+_, _-_, _≤_, _<_}
 use native.Mathlib.Omega.{arith}
-use mathlib.Core.Path.{_≡_, refl, sym, ap, _∙_}
-use lib.ListN.{length, drop, getD}
 use Rattle.refal_lexer.specs.WordLaws.{name-fits, name-long}
 use borrow.Author.Needs.{needs}
 use Rattle.refal_lexer.proofs.word.name_at.Statement.{statement}

@@ -1,8 +1,8 @@
 -- `refal_lexer::word::starts` meets its contract: a byte of the word a turn.
-use Prim.Native.Nat.{ℕ, _+_, _-_, _≤_, _<_}
+use Prim.Native.Nat.{_-_, _≤_}
 use native.Mathlib.Omega.{arith}
-use mathlib.Core.Path.{_≡_, refl, sym, ap, _∙_}
-use lib.ListN.{length, drop, getD}
+use mathlib.Core.Path.{_≡_, refl, sym, _∙_}
+use lib.ListN.{length, drop}
 use borrow.Author.Tests.{eq-eqb, ne-eqb}
 use Rattle.refal_lexer.specs.Words.{prefix}
 use Rattle.refal_lexer.specs.WordLaws.{prefix-end, prefix-short, prefix-step, prefix-stop}

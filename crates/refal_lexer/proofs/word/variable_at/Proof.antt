@@ -1,10 +1,7 @@
 -- `refal_lexer::word::variable_at` meets its contract: a point, one character, or a name.
-use Prim.Native.Nat.{ℕ, _+_, _-_, _≤_, _<_}
+use Prim.Native.Nat.{_+_, _≤_}
 use native.Mathlib.Omega.{arith}
-use mathlib.Core.Path.{_≡_, refl, sym, ap, _∙_}
-use lib.ListN.{length, drop, getD}
-use mathlib.Core.Bool.{_||_}
-use Rattle.refal_lexer.specs.Classes.{upper, digit}
+use lib.ListN.{length}
 use Rattle.refal_lexer.specs.WordLaws.{variable-dot, variable-one, variable-other, dot-in, one-in}
 use borrow.Author.Needs.{needs}
 use Rattle.refal_lexer.proofs.word.variable_at.Statement.{statement}
@@ -52,7 +49,9 @@ wide-requires c κs = search needs
 
 -- src/word.rt:78:9
 returns-2 : tie.Need-returns-2
-returns-2 c = let t = rw (c .before .before .before .is-upper .ensures, c .before .before .is-digit .ensures) at (c .before .if2 .taken) in let l : c .before .before .before .before .before .before .before .args .at + 2 ≤ length (c .before .before .before .before .before .before .before .args .src .now) = one-in (c .before .before .before .before .before .before .before .args .src .now) (c .before .before .before .before .before .before .before .args .at) (c .before .before .before .before .before .before .before .args .b) _ (c .before .before .before .before .before .byte .ensures) t in (variable-one (c .before .before .before .before .before .before .before .args .src .now) (c .before .before .before .before .before .before .before .args .at) (c .before .before .before .before .before .before .before .args .b) _ (c .before .before .before .before .before .byte .ensures) _ (c .wide .ensures) (c .before .before .before .before .if1 .left) t, omega arith)
+returns-2 c = let t = rw (c .before .before .before .is-upper .ensures, c .before .before .is-digit .ensures) at (c .before .if2 .taken) in
+    let l : c .before .before .before .before .before .before .before .args .at + 2 ≤ length (c .before .before .before .before .before .before .before .args .src .now) = one-in (c .before .before .before .before .before .before .before .args .src .now) (c .before .before .before .before .before .before .before .args .at) (c .before .before .before .before .before .before .before .args .b) _ (c .before .before .before .before .before .byte .ensures) t in
+    (variable-one (c .before .before .before .before .before .before .before .args .src .now) (c .before .before .before .before .before .before .before .args .at) (c .before .before .before .before .before .before .before .args .b) _ (c .before .before .before .before .before .byte .ensures) _ (c .wide .ensures) (c .before .before .before .before .if1 .left) t, omega arith)
 
 -- src/word.rt:86:5
 other-at-requires : tie.Need-other-at-requires
@@ -60,7 +59,8 @@ other-at-requires c κs = search needs
 
 -- src/word.rt:66:1
 returns-3 : tie.Need-returns-3
-returns-3 c = let t = rw (c .before .before .before .is-upper .ensures, c .before .before .is-digit .ensures) at (c .before .if2 .left) in (variable-other (c .before .before .before .before .before .before .before .args .src .now) (c .before .before .before .before .before .before .before .args .at) (c .before .before .before .before .before .before .before .args .b) _ (c .before .before .before .before .before .byte .ensures) _ (c .before .before .before .before .if1 .left) t (c .other-at .ensures .0), c .other-at .ensures .1)
+returns-3 c = let t = rw (c .before .before .before .is-upper .ensures, c .before .before .is-digit .ensures) at (c .before .if2 .left) in
+    (variable-other (c .before .before .before .before .before .before .before .args .src .now) (c .before .before .before .before .before .before .before .args .at) (c .before .before .before .before .before .before .before .args .b) _ (c .before .before .before .before .before .byte .ensures) _ (c .before .before .before .before .if1 .left) t (c .other-at .ensures .0), c .other-at .ensures .1)
 
 pub variable-at-spec : {M : Type 1} → statement M
 variable-at-spec =
