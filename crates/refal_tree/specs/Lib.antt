@@ -10,3 +10,4 @@ pub mod TypedRules
 pub mod Views
 pub mod Sound
 pub mod Lawful
+pub mod Ranges
