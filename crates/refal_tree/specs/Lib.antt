@@ -11,3 +11,5 @@ pub mod Views
 pub mod Sound
 pub mod Lawful
 pub mod Ranges
+pub mod Tables
+pub mod Whole

@@ -96,6 +96,7 @@ forest-cons r n x m A B a e = go (forestOf (rowWords r x ++ (A ++ B)) n) refl
         ∙ ap (λ (y : List ℕ). forestOf (rowWords r x ++ (encG f (n + 1) ++ y)) n) v
         ∙ ap (λ (y : ℕ). forestOf (rowWords r y ++ (encG f (n + 1) ++ encG g y)) n) t
         ∙ forest-enc (tree r f g) n
+
     go : (o : Option Forest) → forestOf (rowWords r x ++ (A ++ B)) n ≡ o → o ≡ joined r (forestOf A (n + 1)) (forestOf B x)
     go none q = both (forestOf A (n + 1)) (forestOf B x) refl refl q
     go (some h) q =
@@ -118,8 +119,8 @@ forest-out r n x m W l bad = go (forestOf (rowWords r x ++ W) n) refl
         let S = split r n x W h (enc-forest (rowWords r x ++ W) n h q) in
         let e = S .next in
         let k : 7 * m ≡ 7 * sizeG (S .kids) + 7 * sizeG (S .rest) =
-            sym l ∙ ap length (S .words) ∙ length-append (encG (S .kids) (n + 1)) (encG (S .rest) x)
-            ∙ ap (λ (y : ℕ). y + length (encG (S .rest) x)) (length-enc (S .kids) (n + 1)) ∙ ap (λ (y : ℕ). 7 * sizeG (S .kids) + y) (length-enc (S .rest) x) in
+        sym l ∙ ap length (S .words) ∙ length-append (encG (S .kids) (n + 1)) (encG (S .rest) x)
+        ∙ ap (λ (y : ℕ). y + length (encG (S .rest) x)) (length-enc (S .kids) (n + 1)) ∙ ap (λ (y : ℕ). 7 * sizeG (S .kids) + y) (length-enc (S .rest) x) in
         absurd (bad (omega arith) (omega arith))
 
 -- ---- ranges
@@ -194,3 +195,32 @@ ok-end w i j st left e = ap (okIn st left) (forest-end w i j e)
 
 pub ok-bad : (w : List ℕ) (i j st left : ℕ) → 7 * j ≤ length w → i < j → (i < nextAt w i → nextAt w i ≤ j → ⊥) → okAt w i j st left ≡ false
 ok-bad w i j st left l h bad = ap (okIn st left) (forest-bad w i j l h bad)
+
+-- a turn of the check at row i, of the kind k and with the next row x
+module _ (w : List ℕ) (i j st left k x : ℕ) (kind : k ≡ getD w (7 * i) 0) (next : x ≡ nextAt w i) (long : 7 * j ≤ length w) (lo : i < x) (hi : x ≤ j) where
+  turn : okAt w i j st left ≡ rowOk st left (rowAt w i) && (okAt w (i + 1) x (inside k) (below st k left) && okAt w x j (after st k) left)
+  turn =
+      let K : ℕ = getD w (7 * i) 0 in
+      ok-turn w i j st left long (subst (λ (y : ℕ). i < y) next lo) (subst (λ (y : ℕ). y ≤ j) next hi)
+      ∙ ap (λ (y : ℕ). rowOk st left (rowAt w i) && (okAt w (i + 1) y (inside K) (below st K left) && okAt w y j (after st K) left)) (sym next)
+      ∙ ap (λ (y : ℕ). rowOk st left (rowAt w i) && (okAt w (i + 1) x (inside y) (below st y left) && okAt w x j (after st y) left)) (sym kind)
+
+  pub stop-row : rowOk st left (rowAt w i) ≡ false → okAt w i j st left ≡ false
+  stop-row h = turn ∙ ap (λ (b : Bool). b && (okAt w (i + 1) x (inside k) (below st k left) && okAt w x j (after st k) left)) h
+
+  pub stop-kids : okAt w (i + 1) x (inside k) (below st k left) ≡ false → okAt w i j st left ≡ false
+  stop-kids h =
+      turn
+      ∙ ap (λ (b : Bool). rowOk st left (rowAt w i) && (b && okAt w x j (after st k) left)) h
+      ∙ and-false (rowOk st left (rowAt w i))
+
+  pub go-on : rowOk st left (rowAt w i) ≡ true → okAt w (i + 1) x (inside k) (below st k left) ≡ true → okAt w i j st left ≡ okAt w x j (after st k) left
+  go-on h h' =
+      turn
+      ∙ ap (λ (b : Bool). b && (okAt w (i + 1) x (inside k) (below st k left) && okAt w x j (after st k) left)) h
+      ∙ ap (λ (b : Bool). b && okAt w x j (after st k) left) h'
+
+-- what a check of the children found, from a state and levels that are those inside the row
+pub kids-are : (w : List ℕ) (i x st left k s l : ℕ) (b : Bool) → b ≡ okAt w (i + 1) x s l → s ≡ inside k → l ≡ below st k left → okAt w (i + 1) x (inside k) (below st k left) ≡ b
+kids-are w i x st left k s l b e es el =
+    sym (e ∙ ap (λ (y : ℕ). okAt w (i + 1) x y l) es ∙ ap (λ (y : ℕ). okAt w (i + 1) x (inside k) y) el)
