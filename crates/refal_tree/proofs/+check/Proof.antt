@@ -156,7 +156,15 @@ check-returns-3 : (t : ℕ) → check-lts.Need-returns-3 (
   ends-reads.Asked,
   ends-reads.Learnt,
 ) (check-at t) check.Post check-Inv-loop check-μ-loop
-check-returns-3 t c = let a = c .before .before .before .before .before .before .before .before .args in sym (c .before .before .before .before .before .before .loop .inv .2 ∙ stop-row (a .tree .now) (c .before .before .before .before .before .before .loop .i) (a .to) (c .before .before .before .before .before .before .loop .st) (a .left) _ (c .before .before .before .before .next .result) refl (c .before .before .before .before .next .ensures) (c .before .before .before .before .before .before .before .before .pre .1 .1) (omega arith) (omega arith) (sym (c .before .row-ok .ensures) ∙ not-true _ (c .if3 .taken)))
+check-returns-3 t c = let w = c .before .before .before .before .before .before .before .before .args .tree .now in
+    let i = c .before .before .before .before .before .before .loop .i in
+    let to = c .before .before .before .before .before .before .before .before .args .to in
+    let st = c .before .before .before .before .before .before .loop .st in
+    let left = c .before .before .before .before .before .before .before .before .args .left in
+    let x = c .before .before .before .before .next .result in
+    sym (c .before .before .before .before .before .before .loop .inv .2
+    ∙ stop-row w i to st left _ x refl (c .before .before .before .before .next .ensures) (c .before .before .before .before .before .before .before .before .pre .1 .1) (omega arith) (omega arith)
+    (sym (c .before .row-ok .ensures) ∙ not-true _ (c .if3 .taken)))
 
 check-kind-requires : (t : ℕ) → check-lts.Need-kind-requires (
   next-reads.Asked,
@@ -256,7 +264,9 @@ check-check-requires : (t : ℕ) → check-lts.Need-check-requires (
   ends-reads.Asked,
   ends-reads.Learnt,
 ) (check-at t) check.Post check-Inv-loop check-μ-loop
-check-check-requires t c κs = let a = c .before .before .before .before .before .before .before .before .before .before .before .args in let b = below-le (c .before .before .before .before .before .before .before .before .before .loop .st) (c .before .before .kind .result) (a .left) in let e = c .below .ensures in (omega arith, (omega arith, omega arith, omega arith))
+check-check-requires t c κs = let b = below-le (c .before .before .before .before .before .before .before .before .before .loop .st) (c .before .before .kind .result) (c .before .before .before .before .before .before .before .before .before .before .before .args .left) in
+    let e = c .below .ensures in
+    (omega arith, (omega arith, omega arith, omega arith))
 
 check-returns-4 : (t : ℕ) → check-lts.Need-returns-4 (
   next-reads.Asked,
@@ -276,10 +286,17 @@ check-returns-4 : (t : ℕ) → check-lts.Need-returns-4 (
   ends-reads.Asked,
   ends-reads.Learnt,
 ) (check-at t) check.Post check-Inv-loop check-μ-loop
-check-returns-4 t c = let a = c .before .before .before .before .before .before .before .before .before .before .before .before .before .args in
+check-returns-4 t c = let w = c .before .before .before .before .before .before .before .before .before .before .before .before .before .args .tree .now in
+    let i = c .before .before .before .before .before .before .before .before .before .before .before .loop .i in
+    let to = c .before .before .before .before .before .before .before .before .before .before .before .before .before .args .to in
+    let st = c .before .before .before .before .before .before .before .before .before .before .before .loop .st in
+    let left = c .before .before .before .before .before .before .before .before .before .before .before .before .before .args .left in
+    let k = c .before .before .before .before .kind .result in
+    let x = c .before .before .before .before .before .before .before .before .before .next .result in
     sym (c .before .before .before .before .before .before .before .before .before .before .before .loop .inv .2
-    ∙ stop-kids (a .tree .now) (c .before .before .before .before .before .before .before .before .before .before .before .loop .i) (a .to) (c .before .before .before .before .before .before .before .before .before .before .before .loop .st) (a .left) (c .before .before .before .before .kind .result) (c .before .before .before .before .before .before .before .before .before .next .result) (c .before .before .before .before .kind .ensures) (c .before .before .before .before .before .before .before .before .before .next .ensures) (c .before .before .before .before .before .before .before .before .before .before .before .before .before .pre .1 .1) (omega arith) (omega arith)
-    (kids-are (a .tree .now) (c .before .before .before .before .before .before .before .before .before .before .before .loop .i) (c .before .before .before .before .before .before .before .before .before .next .result) (c .before .before .before .before .before .before .before .before .before .before .before .loop .st) (a .left) (c .before .before .before .before .kind .result) (c .before .before .before .inside .result) (c .before .before .below .result) (c .before .check .result) (c .before .check .ensures) (c .before .before .before .inside .ensures) (c .before .before .below .ensures)
+    ∙ stop-kids w i to st left k x (c .before .before .before .before .kind .ensures) (c .before .before .before .before .before .before .before .before .before .next .ensures) (c .before .before .before .before .before .before .before .before .before .before .before .before .before .pre .1 .1) (omega arith) (omega arith)
+    (kids-are w i x st left k (c .before .before .before .inside .result) (c .before .before .below .result) (c .before .check .result)
+    (c .before .check .ensures) (c .before .before .before .inside .ensures) (c .before .before .below .ensures)
     ∙ not-true _ (c .if4 .taken)))
 
 check-after-requires : (t : ℕ) → check-lts.Need-after-requires (
@@ -340,16 +357,23 @@ check-loop-again : (t : ℕ) → check-lts.Need-loop-again (
   ends-reads.Asked,
   ends-reads.Learnt,
 ) (check-at t) check.Post check-Inv-loop check-μ-loop
-check-loop-again t c = let a = c .before .before .before .before .before .before .before .before .before .before .before .before .before .before .args in (
-  omega arith,
-  omega arith,
-  c .before .before .before .before .before .before .before .before .before .before .before .before .loop .inv .2
-      ∙ go-on (a .tree .now) (c .before .before .before .before .before .before .before .before .before .before .before .before .loop .i) (a .to) (c .before .before .before .before .before .before .before .before .before .before .before .before .loop .st) (a .left) (c .before .before .before .before .before .kind .result) (c .before .before .before .before .before .before .before .before .before .before .next .result) (c .before .before .before .before .before .kind .ensures) (c .before .before .before .before .before .before .before .before .before .before .next .ensures) (c .before .before .before .before .before .before .before .before .before .before .before .before .before .before .pre .1 .1) (omega arith) (omega arith)
-      (sym (c .before .before .before .before .before .before .before .row-ok .ensures) ∙ not-false _ (c .before .before .before .before .before .before .if3 .left))
-      (kids-are (a .tree .now) (c .before .before .before .before .before .before .before .before .before .before .before .before .loop .i) (c .before .before .before .before .before .before .before .before .before .before .next .result) (c .before .before .before .before .before .before .before .before .before .before .before .before .loop .st) (a .left) (c .before .before .before .before .before .kind .result) (c .before .before .before .before .inside .result) (c .before .before .before .below .result) (c .before .before .check .result) (c .before .before .check .ensures) (c .before .before .before .before .inside .ensures) (c .before .before .before .below .ensures)
-      ∙ not-false _ (c .before .if4 .left))
-      ∙ ap (λ (y : ℕ). okAt (a .tree .now) (c .before .before .before .before .before .before .before .before .before .before .next .result) (a .to) y (a .left)) (sym (c .after .ensures)),
-)
+check-loop-again t c = let w = c .before .before .before .before .before .before .before .before .before .before .before .before .before .before .args .tree .now in
+    let i = c .before .before .before .before .before .before .before .before .before .before .before .before .loop .i in
+    let to = c .before .before .before .before .before .before .before .before .before .before .before .before .before .before .args .to in
+    let st = c .before .before .before .before .before .before .before .before .before .before .before .before .loop .st in
+    let left = c .before .before .before .before .before .before .before .before .before .before .before .before .before .before .args .left in
+    let k = c .before .before .before .before .before .kind .result in
+    let x = c .before .before .before .before .before .before .before .before .before .before .next .result in (
+      omega arith,
+      omega arith,
+      c .before .before .before .before .before .before .before .before .before .before .before .before .loop .inv .2
+          ∙ go-on w i to st left k x (c .before .before .before .before .before .kind .ensures) (c .before .before .before .before .before .before .before .before .before .before .next .ensures) (c .before .before .before .before .before .before .before .before .before .before .before .before .before .before .pre .1 .1) (omega arith) (omega arith)
+          (sym (c .before .before .before .before .before .before .before .row-ok .ensures) ∙ not-false _ (c .before .before .before .before .before .before .if3 .left))
+          (kids-are w i x st left k (c .before .before .before .before .inside .result) (c .before .before .before .below .result) (c .before .before .check .result)
+          (c .before .before .check .ensures) (c .before .before .before .before .inside .ensures) (c .before .before .before .below .ensures)
+          ∙ not-false _ (c .before .if4 .left))
+          ∙ ap (λ (y : ℕ). okAt w x to y left) (sym (c .after .ensures)),
+    )
 
 check-ends-requires : (t : ℕ) → check-lts.Need-ends-requires (
   next-reads.Asked,
@@ -389,7 +413,10 @@ check-returns-5 : (t : ℕ) → check-lts.Need-returns-5 (
   ends-reads.Asked,
   ends-reads.Learnt,
 ) (check-at t) check.Post check-Inv-loop check-μ-loop
-check-returns-5 t c = let a = c .before .before .before .before .args in c .ends .ensures ∙ sym (ok-end (a .tree .now) (c .before .before .loop .i) (a .to) (c .before .before .loop .st) (a .left) (omega arith)) ∙ sym (c .before .before .loop .inv .2)
+check-returns-5 t c = let w = c .before .before .before .before .args .tree .now in
+    c .ends .ensures
+    ∙ sym (ok-end w (c .before .before .loop .i) (c .before .before .before .before .args .to) (c .before .before .loop .st) (c .before .before .before .before .args .left) (omega arith))
+    ∙ sym (c .before .before .loop .inv .2)
 
 pub +check-spec : {M : Type 1} → statement M
 +check-spec = close μ-check λ t. check-lts.spec (
