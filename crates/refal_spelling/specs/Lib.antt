@@ -1,2 +1,4 @@
--- Definitions: Spell.
+-- Definitions: Spell, Spells, Good.
 pub mod Spell
+pub mod Spells
+pub mod Good
