@@ -38,7 +38,7 @@ pub data Good : Spelled → Type 0 where
   entry : Good (spelled tokEntry 0 [])
   extern : Good (spelled tokExtern 0 [])
   identifier : (b : ℕ) (s : List ℕ) → upper b ≡ true → Every nameByte s → suc (length s) ≤ 15 → Good (spelled tokIdentifier 0 (b ∷ s))
-  variableOf : (v b : ℕ) (s : List ℕ) → variable v ≡ true → Every nameByte (b ∷ s) → suc (length s) ≤ 15 → Good (spelled tokVariable v (b ∷ s))
+  variableOf : (v : ℕ) (w : List ℕ) → variable v ≡ true → Every nameByte w → 1 ≤ length w → length w ≤ 15 → Good (spelled tokVariable v w)
   number : (w : List ℕ) → Number w → Good (spelled tokNumber 0 w)
   character : (x : ℕ) → Scalar x → (x ≡ 10 → ⊥) → Good (spelled tokChar x [])
   mark : (k : ℕ) → tokLBrace ≤ k → k ≤ tokSemicolon → Good (spelled k 0 [])

@@ -1,4 +1,8 @@
--- Definitions: Spell, Spells, Good.
+-- Definitions: Spell, Spells, Good. Laws: Runs, NumberWords, Sees.
 pub mod Spell
 pub mod Spells
 pub mod Good
+pub mod Runs
+pub mod NumberWords
+pub mod Sees
+pub mod ReadsGood
