@@ -6,3 +6,5 @@ pub mod Runs
 pub mod NumberWords
 pub mod Sees
 pub mod ReadsGood
+pub mod ScanWords
+pub mod SpellsLaws
