@@ -2,9 +2,12 @@
 pub mod Spell
 pub mod Spells
 pub mod Good
+pub mod Places
 pub mod Runs
 pub mod NumberWords
 pub mod Sees
 pub mod ReadsGood
 pub mod ScanWords
+pub mod CharWords
+pub mod TextReads
 pub mod SpellsLaws

@@ -79,6 +79,10 @@ scan-index at line v w r u a lo hi e =
     ∙ rw (span-every nameByte w r a (span-ends nameByte r refl e), ne-eqb (length w) 0 (λ z. absurd (omega arith)), le-leb _ _ hi, k) refl
 
 -- ---- numbers
+pub number-some : (w : List ℕ) → Number w → 1 ≤ length w
+number-some w (macrodigit b s d a h) = omega arith
+number-some w (real sign b s ps qs g d a hp hq h) = let l = length-append sign (b ∷ s ++ (ps ++ qs)) in omega arith
+
 sign-scan : (at : ℕ) (line : Bool) (sign : List ℕ) (b : ℕ) (s : List ℕ) → Sign sign → digit b ≡ true → scan at line (sign ++ (b ∷ s)) ≡ numberScan at (at + length sign) (b ∷ s)
 sign-scan at line sign b s unsigned d = by-class 22 at line b s (class-of-digit b d) ∙ ap (λ (k : ℕ). numberScan at k (b ∷ s)) (sym (add-zero at))
 sign-scan at line sign b s plus d = rw d refl

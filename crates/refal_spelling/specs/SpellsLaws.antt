@@ -23,7 +23,7 @@ use Rattle.refal_spelling.specs.Spell.{Spelled, spelled}
 use Rattle.refal_spelling.specs.Spells.{tokenTo, spells, spellsIndex, isIndex}
 use Rattle.refal_spelling.specs.Good.{Every, none, also, Number, macrodigit, real, Good, identifier, variableOf, number, mark}
 use Rattle.refal_spelling.specs.Runs.{Ends, at-end, every-span, span-every}
-use Rattle.refal_spelling.specs.ScanWords.{scan-identifier, scan-number}
+use Rattle.refal_spelling.specs.ScanWords.{number-some, scan-identifier, scan-number}
 use Rattle.refal_spelling.specs.Sees.{Sees, a-blank, a-bad, a-literal, a-plain, a-word, sees}
 
 -- ---- from the test to the good word
@@ -79,10 +79,6 @@ worded-identifier = record { plain = no-plain; other = λ e. omega arith; detail
     same : (d : ℕ) (w : List ℕ) → Good (spelled tokIdentifier d w) → Good (spelled tokIdentifier 0 w)
     same d w (identifier b s u a h) = identifier b s u a h
     same d w (mark k l h) = absurd (omega arith)
-
-number-some : (w : List ℕ) → Number w → 1 ≤ length w
-number-some w (macrodigit b s d a h) = omega arith
-number-some w (real sign b s ps qs g d a hp hq h) = let l = length-append sign (b ∷ s ++ (ps ++ qs)) in omega arith
 
 worded-number : Worded tokNumber
 worded-number = record { plain = no-plain; other = λ e. omega arith; detail = same }
