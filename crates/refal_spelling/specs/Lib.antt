@@ -10,4 +10,6 @@ pub mod ReadsGood
 pub mod ScanWords
 pub mod CharWords
 pub mod TextReads
+pub mod TextViews
+pub mod TextWell
 pub mod SpellsLaws

@@ -75,12 +75,12 @@ mark-class k lo hi = go (ltb k 7) refl (each-below mark-test 17 tt k (omega arit
     go true e h = let z : k < 7 = ltb-true _ _ e in absurd (omega arith)
     go false e h = eqb→eq _ _ h
 
-mark-spelling : (k : ℕ) → 7 ≤ k → spelling (spelled k 0 []) ≡ markByte k ∷ []
+pub mark-spelling : (k : ℕ) → 7 ≤ k → spelling (spelled k 0 []) ≡ markByte k ∷ []
 unfolding spelling
 mark-spelling k lo =
     simp (ne-eqb k 1 (λ e. absurd (omega arith)), ne-eqb k 2 (λ e. absurd (omega arith)), ne-eqb k 3 (λ e. absurd (omega arith)), ne-eqb k 4 (λ e. absurd (omega arith)), ne-eqb k 5 (λ e. absurd (omega arith)), ne-eqb k 6 (λ e. absurd (omega arith)))
 
-mark-token : (at k : ℕ) → 7 ≤ k → tokenAt at (spelled k 0 []) ≡ token k 0 0 0 at (at + 1)
+pub mark-token : (at k : ℕ) → 7 ≤ k → tokenAt at (spelled k 0 []) ≡ token k 0 0 0 at (at + 1)
 unfolding tokenAt
 mark-token at k lo =
     rw (mark-spelling k lo, ne-eqb k 3 (λ e. absurd (omega arith)), ne-eqb k 4 (λ e. absurd (omega arith)), ne-eqb k 5 (λ e. absurd (omega arith))) refl
@@ -106,7 +106,7 @@ reads-one t (mark k lo hi) at line r =
 more-all : (t : Token) (ts : List Token) (o : Out) → more t (moreAll ts o) ≡ moreAll (t ∷ ts) o
 more-all t ts o = refl
 
-spaced : (t : Spelled) (ts : List Spelled) (r : List ℕ) → text (t ∷ ts) ++ r ≡ spelling t ++ (32 ∷ (text ts ++ r))
+pub spaced : (t : Spelled) (ts : List Spelled) (r : List ℕ) → text (t ∷ ts) ++ r ≡ spelling t ++ (32 ∷ (text ts ++ r))
 unfolding text
 spaced t ts r = append-assoc (spelling t ++ (32 ∷ [])) (text ts) r ∙ append-assoc (spelling t) (32 ∷ []) (text ts ++ r)
 
