@@ -15,30 +15,23 @@ use Rattle.refal_text.specs.EncodeLaws.{Decoded, d-ill, d-ascii, d-wide, decode
 use Rattle.refal_text.specs.Utf8.{decode, char, ill}
 use Rattle.refal_text.specs.declared.Char.{Char}
 use Rattle.refal_ast.specs.Kinds.{tokChar, tokEof}
+use Rattle.refal_ast.specs.Check.{usesText}
 use Rattle.refal_ast.specs.Tokens.{Token, token}
-use Rattle.refal_ast.specs.Flatten.{flatOf, flatsOf}
+use Rattle.refal_ast.specs.Flatten.{flatToken, flatOf, flatsOf}
 use Rattle.refal_lexer.specs.Literals.{some, litChar, closeScan, litStep, litFrom, charStep, charTokens}
 use Rattle.refal_lexer.specs.Scans.{scanByte}
 use Rattle.refal_lexer.specs.Lex.{Stop, fine, bad, Out, lex, after}
 use Rattle.refal_lexer.specs.declared.Scan.{Scan}
 use Rattle.refal_lexer.specs.declared.Scan.the-variants as S
-use Rattle.refal_spelling.specs.Spell.{Spelled, spelled, textAt, view, views}
-use Rattle.refal_spelling.specs.Good.{Good, character, AllGood, no-more, and-more}
+use Rattle.refal_spelling.specs.Spell.{spelled, textAt}
+use Rattle.refal_spelling.specs.Good.{Good, character}
+use Rattle.refal_spelling.specs.Sound.{Sound, AllSound, sound-none, sound-more}
 use Rattle.refal_spelling.specs.Sees.{Sees, a-blank, a-bad, a-literal, a-plain, a-word, sees}
-
--- a token of a source: its text stands in the source, and it is spelled well
-pub record Sound (src : List ℕ) (t : Token) : Type 0 where
-  pub inside : t .start + t .len ≤ length src
-  pub good : Good (view src (flatOf t))
-
-pub data AllSound (src : List ℕ) : List Token → Type 0 where
-  sound-none : AllSound src []
-  sound-more : {t : Token} {ts : List Token} → Sound src t → AllSound src ts → AllSound src (t ∷ ts)
 
 -- sound tokens, then Eof
 pub data Reading (src : List ℕ) : List Token → Type 0 where
   ends : (at : ℕ) → Reading src (token tokEof 0 0 0 at at ∷ [])
-  goes : {t : Token} {ts : List Token} → Sound src t → Reading src ts → Reading src (t ∷ ts)
+  goes : {t : Token} {ts : List Token} → Sound src (flatOf t) → Reading src ts → Reading src (t ∷ ts)
 
 -- ---- a token
 -- a word w behind the bytes pre
@@ -54,12 +47,16 @@ text-in src at b s pre w rest e f =
     let l₄ = length-append w rest in
     omega arith
 
-sound-token : (src : List ℕ) (at b : ℕ) (s : List ℕ) (kind detail start len end : ℕ) → drop at src ≡ b ∷ s → Sees at b s (S.Token kind detail start len end) → Sound src (token kind detail start len at end)
-sound-token src at b s kind detail start len end e (a-plain g) = record { inside = omega arith; good = g }
-sound-token src at b s kind detail start len end e (a-word pre w rest f p l m n g) =
-    subst (λ (x : ℕ). Sound src (token kind detail x len at end)) (sym p)
-    (subst (λ (x : ℕ). Sound src (token kind detail (at + length pre) x at end)) (sym l)
-    (record { inside = text-in src at b s pre w rest e f; good = subst (λ (x : List ℕ). Good (spelled kind detail x)) (sym (text-is src at b s pre w rest e f)) g }))
+or-true : (t : Bool) → t || true ≡ true
+or-true true = refl
+or-true false = refl
+
+sound-token : (src : List ℕ) (at b : ℕ) (s : List ℕ) (kind detail start len end : ℕ) → drop at src ≡ b ∷ s → Sees at b s (S.Token kind detail start len end) → Sound src (flatToken kind detail start len)
+sound-token src at b s kind detail start len end e (a-plain g) = record { inside = omega arith; unused = or-true (usesText kind); good = g }
+sound-token src at b s kind detail start len end e (a-word pre w rest f p l m n u g) =
+    subst (λ (x : ℕ). Sound src (flatToken kind detail x len)) (sym p)
+    (subst (λ (x : ℕ). Sound src (flatToken kind detail (at + length pre) x)) (sym l)
+    (record { inside = text-in src at b s pre w rest e f; unused = rw u refl; good = subst (λ (x : List ℕ). Good (spelled kind detail x)) (sym (text-is src at b s pre w rest e f)) g }))
 
 -- ---- a literal's characters
 ascii-good : (x : ℕ) → x < 128 → (x ≡ 10 → ⊥) → Good (spelled tokChar x [])
@@ -92,7 +89,7 @@ lit-good q b s g e =
 not-literal : (n e f : ℕ) → S.Bad n e ≡ S.Literal f → ⊥
 not-literal n e f h = let z : _≡_ {A = ℕ} 0 1 = cc in omega arith
 
-all-chars : (src : List ℕ) (q : ℕ) → Good (spelled tokChar q []) → (s : List ℕ) (k at n from end : ℕ) → litFrom q k at n s ≡ S.Literal end → AllSound src (charTokens q from end k s)
+all-chars : (src : List ℕ) (q : ℕ) → Good (spelled tokChar q []) → (s : List ℕ) (k at n from end : ℕ) → litFrom q k at n s ≡ S.Literal end → AllSound src (flatsOf (charTokens q from end k s))
 unfolding litFrom charTokens
 all-chars src q g [] k at n from end h = sound-none
 all-chars src q g (b ∷ s) (suc k) at n from end h = all-chars src q g s k (suc at) n from end h
@@ -104,17 +101,17 @@ all-chars src q g (b ∷ s) zero at n from end h = go (litChar q (b ∷ s) .len)
     To : ℕ → List Token
     To k = charTokens q from end k s
 
-    go : (m : ℕ) → ((k : ℕ) → On k ≡ S.Literal end → AllSound src (To k)) → litStep m at n b On ≡ S.Literal end → AllSound src (charStep m (token tokChar (litChar q (b ∷ s) .code) 0 0 from end) To)
+    go : (m : ℕ) → ((k : ℕ) → On k ≡ S.Literal end → AllSound src (flatsOf (To k))) → litStep m at n b On ≡ S.Literal end → AllSound src (flatsOf (charStep m (token tokChar (litChar q (b ∷ s) .code) 0 0 from end) To))
     go zero ih f = sound-none
-    go (suc m) ih f = split P (eqb b 10) (S.Bad 22 (at + 1)) (On m) (λ _ e. absurd (not-literal _ _ _ e)) (λ t e. sound-more (record { inside = omega arith; good = lit-good q b s g t }) (ih m e)) f
+    go (suc m) ih f = split P (eqb b 10) (S.Bad 22 (at + 1)) (On m) (λ _ e. absurd (not-literal _ _ _ e)) (λ t e. sound-more (record { inside = omega arith; unused = refl; good = lit-good q b s g t }) (ih m e)) f
       where
         P : Scan → Type 0
-        P r = r ≡ S.Literal end → AllSound src (token tokChar (litChar q (b ∷ s) .code) 0 0 from end ∷ To m)
+        P r = r ≡ S.Literal end → AllSound src (flatsOf (token tokChar (litChar q (b ∷ s) .code) 0 0 from end ∷ To m))
 
 -- ---- the whole reading
-reading-append : (src : List ℕ) (ts us : List Token) → AllSound src ts → Reading src us → Reading src (ts ++ us)
-reading-append src ts us sound-none g = g
-reading-append src ts us (sound-more h a) g = goes h (reading-append src _ us a g)
+reading-append : (src : List ℕ) (ts us : List Token) → AllSound src (flatsOf ts) → Reading src us → Reading src (ts ++ us)
+reading-append src [] us a g = g
+reading-append src (t ∷ ts) us (sound-more h a) g = goes h (reading-append src ts us a g)
 
 of-literal : (at b : ℕ) (s : List ℕ) (e : ℕ) → Sees at b s (S.Literal e) → (eqb b 39 || eqb b 34 ≡ true) × (litFrom b 0 (at + 1) 0 s ≡ S.Literal e)
 of-literal at b s e (a-literal q h) = (q, h)
@@ -146,17 +143,13 @@ pub record Read (src : List ℕ) (all : List Token) : Type 0 where
   pub ts : List Token
   pub at : ℕ
   pub is : all ≡ ts ++ (token tokEof 0 0 0 at at ∷ [])
-  pub sound : AllSound src ts
+  pub sound : AllSound src (flatsOf ts)
 
-pub parted : (src : List ℕ) (all : List Token) → Reading src all → Read src all
+parted : (src : List ℕ) (all : List Token) → Reading src all → Read src all
 parted src all (ends at) = record { ts = []; at = at; is = refl; sound = sound-none }
 parted src all (goes {t = t} {ts = us} h g) =
     let r = parted src us g in
     record { ts = t ∷ r .ts; at = r .at; is = ap (λ (l : List Token). t ∷ l) (r .is); sound = sound-more h (r .sound) }
-
-pub sound-good : (src : List ℕ) (ts : List Token) → AllSound src ts → AllGood (views src (flatsOf ts))
-sound-good src ts sound-none = no-more
-sound-good src ts (sound-more {ts = us} h a) = and-more (h .good) (sound-good src us a)
 
 pub reads-sound : (src : List ℕ) → lex 0 0 true src .stop ≡ fine → Read src (lex 0 0 true src .tokens)
 reads-sound src h = parted src _ (reading src src 0 0 true refl h)

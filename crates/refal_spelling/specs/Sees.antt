@@ -14,6 +14,7 @@ use Rattle.refal_text.specs.Span.{span}
 use Rattle.refal_text.specs.Utf8.{decode}
 use Rattle.refal_text.specs.White.{whiteSpace}
 use Rattle.refal_ast.specs.Kinds.{tokEntry, tokExtern, tokIdentifier, tokVariable, tokNumber}
+use Rattle.refal_ast.specs.Check.{usesText}
 use Rattle.refal_lexer.specs.Classes.{upper, digit, letter, nameByte, variable, classOf, cMinus}
 use Rattle.refal_lexer.specs.ClassLaws.{ClassIs, is-wide, is-white, is-quote, is-star, is-slash, is-dollar, is-plus, is-minus, is-upper, is-digit, is-variable, is-other, is-single, is-none, class-view}
 use Rattle.refal_lexer.specs.Blanks.{closeFrom, slashScan}
@@ -35,7 +36,7 @@ pub data Sees (at b : ℕ) (s : List ℕ) : Scan → Type 0 where
   a-literal : {e : ℕ} → eqb b 39 || eqb b 34 ≡ true → litFrom b 0 (at + 1) 0 s ≡ Literal e → Sees at b s (Literal e)
   a-plain : {kind e : ℕ} → Good (spelled kind 0 []) → Sees at b s (Token kind 0 0 0 e)
   a-word : {kind detail start len e : ℕ} (pre w rest : List ℕ) → b ∷ s ≡ pre ++ (w ++ rest) → start ≡ at + length pre → len ≡ length w → e ≡ start + len
-      → ((kind ≡ tokVariable → ⊥) → pre ≡ []) → Good (spelled kind detail w) → Sees at b s (Token kind detail start len e)
+      → ((kind ≡ tokVariable → ⊥) → pre ≡ []) → usesText kind ≡ true → Good (spelled kind detail w) → Sees at b s (Token kind detail start len e)
 
 -- ---- comments and literals
 data BlankOrBad : Scan → Type 0 where
@@ -76,7 +77,7 @@ sees-name at b s u =
     let l : length (take n s) ≡ n = length-span nameByte s in
     split (Sees at b s) (leb (suc n) 15) _ _ (λ h.
     let k : suc n ≤ 15 = leb-true _ _ h in
-    a-word {start = at} {len = suc n} {e = at + 1 + n} [] (b ∷ take n s) (drop n s) (ap (λ (t : List ℕ). b ∷ t) (sym (take-append-drop n s))) (sym (add-zero at)) (ap suc (sym l)) (omega arith) (λ _. refl)
+    a-word {start = at} {len = suc n} {e = at + 1 + n} [] (b ∷ take n s) (drop n s) (ap (λ (t : List ℕ). b ∷ t) (sym (take-append-drop n s))) (sym (add-zero at)) (ap suc (sym l)) (omega arith) (λ _. refl) refl
     (identifier b (take n s) u (every-span nameByte s) (omega arith))) (λ _. a-bad)
 
 sees-index : (at b : ℕ) (s : List ℕ) → variable b ≡ true → Sees at b (46 ∷ s) (indexScan at b s)
@@ -87,7 +88,7 @@ sees-index at b s h =
     split (Sees at b (46 ∷ s)) (leb n 15) _ _ (λ k.
     let i : n ≤ 15 = leb-true _ _ k in
     let j : n ≡ 0 → ⊥ = eqb-false n 0 z in
-    a-word {start = at + 2} {len = n} {e = at + 2 + n} (b ∷ 46 ∷ []) (take n s) (drop n s) (ap (λ (t : List ℕ). b ∷ 46 ∷ t) (sym (take-append-drop n s))) refl (sym l) refl (λ no. absurd (no refl))
+    a-word {start = at + 2} {len = n} {e = at + 2 + n} (b ∷ 46 ∷ []) (take n s) (drop n s) (ap (λ (t : List ℕ). b ∷ 46 ∷ t) (sym (take-append-drop n s))) refl (sym l) refl (λ c. absurd (c refl)) refl
     (variableOf b (take n s) h (every-span nameByte s) (omega arith) (omega arith))) (λ _. a-bad))
 
 or-name : (c : ℕ) → upper c || digit c ≡ true → nameByte c ≡ true
@@ -104,7 +105,7 @@ sees-variable at b [] h = a-bad
 sees-variable at b (c ∷ s) h =
     split (Sees at b (c ∷ s)) (eqb c 46) _ _ (λ e. subst (λ (x : ℕ). Sees at b (x ∷ s) (indexScan at b s)) (sym (eqb-true _ _ e)) (sees-index at b s h)) (λ _.
     split (Sees at b (c ∷ s)) (upper c || digit c) _ _ (λ e.
-    a-word {start = at + 1} {len = 1} {e = at + 2} (b ∷ []) (c ∷ []) s refl refl refl (omega arith) (λ no. absurd (no refl)) (variableOf b (c ∷ []) h (also c [] (or-name c e) none) (omega arith) (omega arith))) (λ _. a-bad))
+    a-word {start = at + 1} {len = 1} {e = at + 2} (b ∷ []) (c ∷ []) s refl refl refl (omega arith) (λ c. absurd (c refl)) refl (variableOf b (c ∷ []) h (also c [] (or-name c e) none) (omega arith) (omega arith))) (λ _. a-bad))
 
 sees-directive : (at b : ℕ) (s : List ℕ) → Sees at b s (directiveScan at s)
 sees-directive at b s =
@@ -114,7 +115,7 @@ sees-directive at b s =
 -- ---- numbers
 of-number : (at b : ℕ) (s : List ℕ) (r : Scan) → SeesNumber at (b ∷ s) r → Sees at b s r
 of-number at b s r no-number = a-bad
-of-number at b s r (a-number {len} {end} w rest f l e h) = a-word {start = at} {len = len} {e = end} [] w rest f (sym (add-zero at)) l (omega arith) (λ _. refl) (number w h)
+of-number at b s r (a-number {len} {end} w rest f l e h) = a-word {start = at} {len = len} {e = end} [] w rest f (sym (add-zero at)) l (omega arith) (λ _. refl) refl (number w h)
 
 sees-sign : (k at b : ℕ) (s : List ℕ) → Sign (b ∷ []) → Sees at b s (signScan k at s)
 sees-sign k at b [] g = split (Sees at b []) (eqb k cMinus) _ _ (λ _. a-bad) (λ _. a-bad)

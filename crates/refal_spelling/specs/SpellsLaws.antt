@@ -58,11 +58,11 @@ good-of kind b s k r (a-literal q e) h = no-token h
 good-of kind b s k r (a-plain {kind = j} {e = e} g) h =
     let i : j ≡ kind = eqb-true _ _ (and-left (eqb j kind) (eqb e (suc (length s))) h) in
     absurd (k .plain (subst (λ (x : ℕ). Good (spelled x 0 [])) i g))
-good-of kind b s k r (a-word {kind = j} {detail = d} {start = st} {len = n} {e = e} pre w rest f p l m c g) h =
+good-of kind b s k r (a-word {kind = j} {detail = d} {start = st} {len = n} {e = e} pre w rest f p l m c u g) h =
     let i : j ≡ kind = eqb-true _ _ (and-left (eqb j kind) (eqb e (suc (length s))) h) in
     let o : e ≡ suc (length s) = eqb-true _ _ (and-right (eqb j kind) (eqb e (suc (length s))) h) in
-    let u : pre ≡ [] = c (λ z. k .other (sym i ∙ z)) in
-    let v : w ≡ b ∷ s = whole b s pre w rest f u (omega arith) in
+    let o′ : pre ≡ [] = c (λ z. k .other (sym i ∙ z)) in
+    let v : w ≡ b ∷ s = whole b s pre w rest f o′ (omega arith) in
     k .detail d (b ∷ s) (subst (λ (x : List ℕ). Good (spelled kind d x)) v (subst (λ (x : ℕ). Good (spelled x d w)) i g))
 
 spells-worded : (kind : ℕ) → Worded kind → (w : List ℕ) → spells kind w ≡ true → Good (spelled kind 0 w)
