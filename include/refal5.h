@@ -27,6 +27,10 @@ void refal5_canonical_index(const uint8_t *name, size_t n, uint8_t *out, size_t 
 /* Whether two names are equal: their canonical forms are. */
 bool refal5_names_equal(const uint8_t *a, size_t n, const uint8_t *b, size_t m);
 
+/* Reading: src as tokens. A row of rows has six words (kind, detail, text start, text length, span start, span end); m counts
+ * words, and a row is put down only whole. A source of n bytes has at most n + 1 tokens. Refusals 1, 2, 10 to 25. */
+void refal5_read(const uint8_t *src, size_t n, uint32_t *rows, size_t m, uint64_t answer[7]);
+
 #ifdef __cplusplus
 }
 #endif
