@@ -1,24 +1,23 @@
 -- A Char alone in apostrophes, with a space behind it, is scanned as a literal of that one character.
-use Prim.Native.Nat.{ℕ, zero, suc, _+_, _-_, _<_, _≤_}
+use Prim.Native.Nat.{ℕ, suc, _+_, _≤_}
 use native.Mathlib.Omega.{arith}
 use borrow.Author.Tests.{eqb-true, eqb-false, ne-eqb}
-use mathlib.Core.Bool.{Bool, true, false}
+use mathlib.Core.Bool.{Bool, false}
 use mathlib.Core.List.{List, [], _∷_, _++_, append-assoc}
 use mathlib.Core.Path.{_≡_, refl, ap, sym, subst, _∙_}
 use lib.Dec.{eqb}
-use lib.ListN.{length, drop, getD, length-append}
+use lib.ListN.{length, length-append}
 use lib.Seq.{drop-append-seam}
-use Rattle.refal_text.specs.Pick.{pick, split}
+use Rattle.refal_text.specs.Pick.{split}
 use Rattle.refal_text.specs.Encode.{encode, Scalar}
 use Rattle.refal_text.specs.EncodeLaws.{Enc, enc-ascii, enc-wide, encoded, decode-encode}
-use Rattle.refal_text.specs.Utf8.{decode, char, ill}
+use Rattle.refal_text.specs.Utf8.{decode, char}
 use Rattle.refal_text.specs.declared.Char.{Char}
 use Rattle.refal_ast.specs.Kinds.{tokChar}
 use Rattle.refal_ast.specs.Tokens.{Token, token}
-use Rattle.refal_lexer.specs.Literals.{some, litChar, closeScan, litStep, litFrom, charStep, charTokens}
+use Rattle.refal_lexer.specs.Literals.{litChar, litStep, litFrom, charStep, charTokens}
 use Rattle.refal_lexer.specs.LiteralLaws.{lit-skip, chars-skip}
 use Rattle.refal_lexer.specs.Scans.{scanByte}
-use Rattle.refal_lexer.specs.declared.Scan.{Scan}
 use Rattle.refal_lexer.specs.declared.Scan.the-variants as S
 use Rattle.refal_spelling.specs.Spell.{body}
 
@@ -73,7 +72,8 @@ module _ (x b : ℕ) (bs r : List ℕ) (v : BodyIs x b bs) where
   unfolding charTokens
   chars-body from to =
       ap (λ (c : Char). charStep (c .len) (token tokChar (c .code) 0 0 from to) (λ k. charTokens 39 from to k (bs ++ (39 ∷ 32 ∷ r)))) (v .reads r)
-      ∙ ap (λ (ts : List Token). token tokChar x 0 0 from to ∷ ts) (chars-skip 39 from to (length bs) (bs ++ (39 ∷ 32 ∷ r)) fits ∙ ap (charTokens 39 from to 0) (drop-append-seam bs (39 ∷ 32 ∷ r)) ∙ chars-close from to)
+      ∙ ap (λ (ts : List Token). token tokChar x 0 0 from to ∷ ts)
+      (chars-skip 39 from to (length bs) (bs ++ (39 ∷ 32 ∷ r)) fits ∙ ap (charTokens 39 from to 0) (drop-append-seam bs (39 ∷ 32 ∷ r)) ∙ chars-close from to)
 
 -- what stands behind the opening apostrophe
 abbrev pub Closed : ℕ → List ℕ → Type 0

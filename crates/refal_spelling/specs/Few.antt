@@ -3,12 +3,11 @@ use Prim.Native.Nat.{ℕ, zero, suc, _+_, _-_, _<_, _≤_}
 use native.Mathlib.Omega.{arith}
 use native.Mathlib.Nat.{le-refl}
 use mathlib.Core.Bool.{Bool, true, false}
-use mathlib.Core.List.{List, [], _∷_, _++_}
-use mathlib.Core.Path.{_≡_, refl}
+use mathlib.Core.List.{List, [], _∷_}
 use lib.ListN.{length, length-append}
 use Rattle.refal_ast.specs.Kinds.{tokChar}
 use Rattle.refal_ast.specs.Tokens.{Token, token}
-use Rattle.refal_lexer.specs.Literals.{litChar, litFrom, charStep, charTokens}
+use Rattle.refal_lexer.specs.Literals.{litChar, charStep, charTokens}
 use Rattle.refal_lexer.specs.LiteralLaws.{chars-few}
 use Rattle.refal_lexer.specs.Scans.{scanByte}
 use Rattle.refal_lexer.specs.Lex.{Out, lex, after}
@@ -22,14 +21,16 @@ chars-bytes q from to k [] = le-refl 0
 chars-bytes q from to (suc k) (b ∷ s) = let ih = chars-bytes q from to k s in omega arith
 chars-bytes q from to zero (b ∷ s) = go (litChar q (b ∷ s) .len) (λ k. chars-bytes q from to k s)
   where
-    go : (m : ℕ) → ((k : ℕ) → length (charTokens q from to k s) ≤ length s) → length (charStep m (token tokChar (litChar q (b ∷ s) .code) 0 0 from to) (λ k. charTokens q from to k s)) ≤ suc (length s)
+    go : (m : ℕ) → ((k : ℕ) → length (charTokens q from to k s) ≤ length s)
+        → length (charStep m (token tokChar (litChar q (b ∷ s) .code) 0 0 from to) (λ k. charTokens q from to k s)) ≤ suc (length s)
     go zero ih = omega arith
     go (suc m) ih = let h = ih m in omega arith
 
 few-literal : (at b : ℕ) (s : List ℕ) (end : ℕ) → Sees at b s (S.Literal end) → at + 1 + length (charTokens b at end 0 s) < end
 few-literal at b s end (a-literal q e) = chars-few b at end 0 (at + 1) 0 end s e
 
-few-after : (at b : ℕ) (s : List ℕ) (r : Scan) → Sees at b s r → (f : ℕ → Bool → Out) → ((k : ℕ) (l : Bool) → length (f k l .tokens) ≤ length s - k + 1) → length (after at b s r f .tokens) ≤ suc (length s) - 0 + 1
+few-after : (at b : ℕ) (s : List ℕ) (r : Scan) → Sees at b s r → (f : ℕ → Bool → Out) → ((k : ℕ) (l : Bool) → length (f k l .tokens) ≤ length s - k + 1)
+    → length (after at b s r f .tokens) ≤ suc (length s) - 0 + 1
 few-after at b s (S.Blank end l) v f ih = let h = ih (end - suc at) l in omega arith
 few-after at b s (S.Token kind detail start len end) v f ih = let h = ih (end - suc at) false in omega arith
 few-after at b s (S.Literal end) v f ih =

@@ -1,5 +1,6 @@
 -- Definitions: Spell (spellings), Spells (the test of 41), Good (the spellings that reading gives), Places (of tokens in a text), Sound.
--- Laws of words: Runs, NumberWords, ScanWords, CharWords, Sees, SpellsLaws. Of reading: ReadsGood, Answered, Few, Passes. Of texts: TextReads, TextViews, TextWell, RoundTrip.
+-- Laws of words: Runs, NumberWords, ScanWords, CharWords, Sees, SpellsLaws. Of reading: ReadsGood, Answered, Few, Passes.
+-- Laws of texts: TextReads, TextViews, TextWell. The theorems: RoundTrip; that the test of 41 is exact: Given.
 pub mod Spell
 pub mod Spells
 pub mod Good
@@ -19,3 +20,4 @@ pub mod TextReads
 pub mod TextViews
 pub mod TextWell
 pub mod RoundTrip
+pub mod Given

@@ -1,10 +1,10 @@
 -- Numbers: a good word with its end behind it is scanned whole, and what is scanned as a number is a good word.
-use Prim.Native.Nat.{ℕ, zero, suc, _+_, _-_, _*_, _<_, _≤_}
+use Prim.Native.Nat.{ℕ, suc, _+_, _-_, _≤_}
 use native.Mathlib.Omega.{arith}
-use native.Mathlib.Nat.{add-zero, zero-add}
-use borrow.Author.Tests.{leb-true, ltb-false, ltb-true, eqb-true, eqb-false, eq-eqb, ne-eqb, lt-leb, le-leb, lt-ltb, le-ltb}
-use mathlib.Core.Bool.{Bool, true, false, true≢false}
-use mathlib.Core.List.{List, [], _∷_, _++_, append-assoc, append-nil}
+use native.Mathlib.Nat.{add-zero}
+use borrow.Author.Tests.{leb-true, ltb-false, eqb-true, eqb-false, eq-eqb, ne-eqb, le-leb, le-ltb}
+use mathlib.Core.Bool.{Bool, true, false}
+use mathlib.Core.List.{List, [], _∷_, _++_, append-assoc}
 use mathlib.Core.Path.{_≡_, refl, ap, ap₂, sym, subst, _∙_}
 use lib.Dec.{leb, ltb, eqb}
 use lib.ListN.{length, take, drop, length-append, take-append-drop}
@@ -13,10 +13,10 @@ use Rattle.refal_text.specs.Pick.{pick, split}
 use Rattle.refal_text.specs.Span.{span}
 use Rattle.refal_ast.specs.Kinds.{tokNumber}
 use Rattle.refal_lexer.specs.Classes.{digit}
-use Rattle.refal_lexer.specs.Numbers.{value, part, wholeScan, numberOf, numberScan}
+use Rattle.refal_lexer.specs.Numbers.{value, part, numberOf, numberScan}
 use Rattle.refal_lexer.specs.declared.Scan.{Scan}
-use Rattle.refal_lexer.specs.declared.Scan.the-variants.{Blank, Token, Literal, Bad}
-use Rattle.refal_spelling.specs.Good.{Every, none, also, Sign, unsigned, plus, minus, Part, absent, digits, Number, macrodigit, real}
+use Rattle.refal_lexer.specs.declared.Scan.the-variants.{Token, Bad}
+use Rattle.refal_spelling.specs.Good.{Every, also, Sign, unsigned, Part, absent, digits, Number, macrodigit, real}
 use Rattle.refal_spelling.specs.Runs.{Ends, at-end, at-space, span-ends, every-span, length-span, span-every, value-every, value-span}
 
 -- ---- from a good word to its scan
@@ -28,14 +28,18 @@ scan-parts at from s n p q v e₁ e₂ e₃ e₄ = rw (e₁, e₂, e₃, e₄) r
 number-whole : (at n v : ℕ) → v ≤ 4294967295 → numberOf at at (at + n) v (at + n + 0) (at + n + 0 + 0) ≡ Token tokNumber 0 at n (at + n)
 number-whole at n v h =
     let z : at + n - at ≡ n = omega arith in
-    rw (ne-eqb (at + n + 0) (at + n + 1) (λ e. absurd (omega arith)), ne-eqb (at + n + 0 + 0) (at + n + 0 + 1) (λ e. absurd (omega arith)), eq-eqb (at + n + 0 + 0) (at + n) (omega arith), le-ltb at at (omega arith), le-leb _ _ h, z)
+    let n₁ = ne-eqb (at + n + 0) (at + n + 1) (λ e. absurd (omega arith)) in
+    let n₂ = ne-eqb (at + n + 0 + 0) (at + n + 0 + 1) (λ e. absurd (omega arith)) in
+    rw (n₁, n₂, eq-eqb (at + n + 0 + 0) (at + n) (omega arith), le-ltb at at (omega arith), le-leb _ _ h, z)
     refl
 
 number-real : (at from n v p q m : ℕ) → (p ≡ 1 → ⊥) → (q ≡ 1 → ⊥) → 1 ≤ p + q → from + n + p + q ≡ at + m
     → numberOf at from (from + n) v (from + n + p) (from + n + p + q) ≡ Token tokNumber 0 at m (at + m)
 number-real at from n v p q m np nq h e =
     let z : from + n + p + q - at ≡ m = omega arith in
-    rw (ne-eqb (from + n + p) (from + n + 1) (λ i. np (omega arith)), ne-eqb (from + n + p + q) (from + n + p + 1) (λ i. nq (omega arith)), ne-eqb (from + n + p + q) (from + n) (λ i. absurd (omega arith)), z, e)
+    let n₁ = ne-eqb (from + n + p) (from + n + 1) (λ i. np (omega arith)) in
+    let n₂ = ne-eqb (from + n + p + q) (from + n + p + 1) (λ i. nq (omega arith)) in
+    rw (n₁, n₂, ne-eqb (from + n + p + q) (from + n) (λ i. absurd (omega arith)), z, e)
     refl
 
 -- what a part leaves behind it begins with no digit, and not with the next mark
@@ -225,4 +229,5 @@ module _ (at from : ℕ) (sign : List ℕ) (g : Signed at from sign) (b : ℕ) (
   pub sees-number : SeesNumber at (sign ++ (b ∷ s)) (numberScan at from (b ∷ s))
   sees-number =
       let k : drop (n + p) (b ∷ s) ≡ drop p (drop n (b ∷ s)) = sym (drop-drop p n (b ∷ s)) in
-      subst (λ (m : ℕ). SeesNumber at (sign ++ (b ∷ s)) (numberOf at from (from + n) (value 0 (b ∷ s)) (from + n + p) m)) (ap (λ (l : List ℕ). from + n + p + part 69 l) (sym k)) (sees-of (from + n + p + q) refl)
+      subst (λ (m : ℕ). SeesNumber at (sign ++ (b ∷ s)) (numberOf at from (from + n) (value 0 (b ∷ s)) (from + n + p) m))
+      (ap (λ (l : List ℕ). from + n + p + part 69 l) (sym k)) (sees-of (from + n + p + q) refl)

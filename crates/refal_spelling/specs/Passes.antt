@@ -1,24 +1,23 @@
 -- The rows that reading gives pass parsing's check 30.
-use Prim.Native.Nat.{ℕ, zero, suc, _+_, _*_, _%_, _≤_}
+use Prim.Native.Nat.{ℕ, _+_, _*_, _%_, _≤_}
 use native.Mathlib.Omega.{arith}
-use borrow.Author.Tests.{le-leb, lt-leb, ne-eqb, eq-eqb}
-use mathlib.Core.Bool.{Bool, true, false, not, _&&_, _||_}
+use borrow.Author.Tests.{le-leb, lt-leb, eq-eqb}
+use mathlib.Core.Bool.{true, _&&_, _||_}
 use mathlib.Core.List.{List, [], _∷_, _++_}
-use mathlib.Core.Path.{_≡_, refl, ap, sym, subst, _∙_}
-use lib.Dec.{leb, eqb}
+use mathlib.Core.Path.{_≡_, refl, ap, sym, _∙_}
+use lib.Dec.{eqb}
 use lib.ListN.{length}
-use Rattle.refal_text.specs.Encode.{Scalar}
 use Rattle.refal_ast.specs.Kinds.{tokEof}
 use Rattle.refal_ast.specs.Check.{scalar, usesText, goodToken, okTokens, wellFormed}
 use Rattle.refal_ast.specs.Tokens.{Token, token, flat, tokensOf, tokens-flat, length-flat}
 use Rattle.refal_ast.specs.Flatten.{flatsOf}
-use Rattle.refal_lexer.specs.Classes.{variable}
-use Rattle.refal_lexer.specs.Lex.{Out, fine, lex}
+use Rattle.refal_lexer.specs.Lex.{fine, lex}
 use Rattle.refal_spelling.specs.Spell.{Spelled}
 use Rattle.refal_spelling.specs.Good.{Good, entry, extern, identifier, variableOf, number, character, mark}
-use Rattle.refal_spelling.specs.Sound.{Sound, AllSound, sound-none, sound-more}
+use Rattle.refal_spelling.specs.Sound.{AllSound, sound-more}
 use Rattle.refal_spelling.specs.ScanWords.{variable-low}
-use Rattle.refal_spelling.specs.ReadsGood.{Read, reads-sound}
+use Rattle.refal_spelling.specs.ReadsGood.{reads-sound}
+use Rattle.refal_spelling.specs.TextReads.{mark-not}
 use Rattle.refal_spelling.specs.Few.{few-tokens}
 
 low-scalar : (x : ℕ) → x ≤ 1000 → scalar x ≡ true
@@ -33,10 +32,10 @@ passes t (variableOf v w u a lo hi) start len from to h = let l = variable-low v
 passes t (number w n) start len from to h = refl
 passes t (character x sc n) start len from to h = rw (le-leb x 1114111 (sc .top), sc .plain) h
 passes t (mark k lo hi) start len from to h =
-    let n₃ = ne-eqb k 3 (λ e. absurd (omega arith)) in
-    let n₄ = ne-eqb k 4 (λ e. absurd (omega arith)) in
-    let n₅ = ne-eqb k 5 (λ e. absurd (omega arith)) in
-    let n₆ = ne-eqb k 6 (λ e. absurd (omega arith)) in
+    let n₃ = mark-not k 3 lo (omega arith) in
+    let n₄ = mark-not k 4 lo (omega arith) in
+    let n₅ = mark-not k 5 lo (omega arith) in
+    let n₆ = mark-not k 6 lo (omega arith) in
     let g : usesText k || (eqb start 0 && eqb len 0) ≡ eqb start 0 && eqb len 0 = rw (n₃, n₄, n₅) refl in
     rw (le-leb 1 k (omega arith), le-leb k 16 hi, n₃, n₄, n₅, n₆) (sym g ∙ h)
 

@@ -3,30 +3,29 @@ use Prim.Native.Nat.{ℕ, zero, suc, _+_, _-_, _<_, _≤_}
 use native.Mathlib.Omega.{arith}
 use native.Mathlib.Numerals.{add-one}
 use borrow.Author.Tests.{eqb-true, eqb-false, lt-leb}
-use mathlib.Core.Bool.{Bool, true, false, _||_, true≢false}
+use mathlib.Core.Bool.{Bool, true, false, _||_}
 use mathlib.Core.List.{List, [], _∷_, _++_}
 use mathlib.Core.Path.{_≡_, refl, ap, sym, subst, _∙_}
-use lib.Dec.{leb, ltb, eqb}
+use lib.Dec.{eqb}
 use lib.ListN.{length, take, drop, getD, length-append, length-drop}
 use lib.Seq.{drop-drop, take-append-seam, drop-append-seam}
-use Rattle.refal_text.specs.Pick.{pick, split}
-use Rattle.refal_text.specs.Encode.{Scalar}
+use Rattle.refal_text.specs.Pick.{split}
 use Rattle.refal_text.specs.EncodeLaws.{Decoded, d-ill, d-ascii, d-wide, decode-view}
-use Rattle.refal_text.specs.Utf8.{decode, char, ill}
+use Rattle.refal_text.specs.Utf8.{decode}
 use Rattle.refal_text.specs.declared.Char.{Char}
 use Rattle.refal_ast.specs.Kinds.{tokChar, tokEof}
 use Rattle.refal_ast.specs.Check.{usesText}
 use Rattle.refal_ast.specs.Tokens.{Token, token}
 use Rattle.refal_ast.specs.Flatten.{flatToken, flatOf, flatsOf}
-use Rattle.refal_lexer.specs.Literals.{some, litChar, closeScan, litStep, litFrom, charStep, charTokens}
+use Rattle.refal_lexer.specs.Literals.{litChar, litStep, litFrom, charStep, charTokens}
 use Rattle.refal_lexer.specs.Scans.{scanByte}
-use Rattle.refal_lexer.specs.Lex.{Stop, fine, bad, Out, lex, after}
+use Rattle.refal_lexer.specs.Lex.{fine, bad, Out, lex, after}
 use Rattle.refal_lexer.specs.declared.Scan.{Scan}
 use Rattle.refal_lexer.specs.declared.Scan.the-variants as S
 use Rattle.refal_spelling.specs.Spell.{spelled, textAt}
 use Rattle.refal_spelling.specs.Good.{Good, character}
 use Rattle.refal_spelling.specs.Sound.{Sound, AllSound, sound-none, sound-more}
-use Rattle.refal_spelling.specs.Sees.{Sees, a-blank, a-bad, a-literal, a-plain, a-word, sees}
+use Rattle.refal_spelling.specs.Sees.{Sees, a-literal, a-plain, a-word, sees}
 
 -- sound tokens, then Eof
 pub data Reading (src : List ℕ) : List Token → Type 0 where
@@ -51,7 +50,8 @@ or-true : (t : Bool) → t || true ≡ true
 or-true true = refl
 or-true false = refl
 
-sound-token : (src : List ℕ) (at b : ℕ) (s : List ℕ) (kind detail start len end : ℕ) → drop at src ≡ b ∷ s → Sees at b s (S.Token kind detail start len end) → Sound src (flatToken kind detail start len)
+sound-token : (src : List ℕ) (at b : ℕ) (s : List ℕ) (kind detail start len end : ℕ) → drop at src ≡ b ∷ s
+    → Sees at b s (S.Token kind detail start len end) → Sound src (flatToken kind detail start len)
 sound-token src at b s kind detail start len end e (a-plain g) = record { inside = omega arith; unused = or-true (usesText kind); good = g }
 sound-token src at b s kind detail start len end e (a-word pre w rest f p l m n u g) =
     subst (λ (x : ℕ). Sound src (flatToken kind detail x len)) (sym p)
@@ -101,9 +101,12 @@ all-chars src q g (b ∷ s) zero at n from end h = go (litChar q (b ∷ s) .len)
     To : ℕ → List Token
     To k = charTokens q from end k s
 
-    go : (m : ℕ) → ((k : ℕ) → On k ≡ S.Literal end → AllSound src (flatsOf (To k))) → litStep m at n b On ≡ S.Literal end → AllSound src (flatsOf (charStep m (token tokChar (litChar q (b ∷ s) .code) 0 0 from end) To))
+    go : (m : ℕ) → ((k : ℕ) → On k ≡ S.Literal end → AllSound src (flatsOf (To k)))
+        → litStep m at n b On ≡ S.Literal end → AllSound src (flatsOf (charStep m (token tokChar (litChar q (b ∷ s) .code) 0 0 from end) To))
     go zero ih f = sound-none
-    go (suc m) ih f = split P (eqb b 10) (S.Bad 22 (at + 1)) (On m) (λ _ e. absurd (not-literal _ _ _ e)) (λ t e. sound-more (record { inside = omega arith; unused = refl; good = lit-good q b s g t }) (ih m e)) f
+    go (suc m) ih f =
+        split P (eqb b 10) (S.Bad 22 (at + 1)) (On m) (λ _ e. absurd (not-literal _ _ _ e))
+        (λ t e. sound-more (record { inside = omega arith; unused = refl; good = lit-good q b s g t }) (ih m e)) f
       where
         P : Scan → Type 0
         P r = r ≡ S.Literal end → AllSound src (flatsOf (token tokChar (litChar q (b ∷ s) .code) 0 0 from end ∷ To m))

@@ -1,25 +1,24 @@
 -- The round trip of reading. `readAnswer s w` is what `read` answers on the bytes s with w words lent, and `readRows s m` what it leaves in
 -- the words m: its contract equates both. First the statements, then their proofs.
-use Prim.Native.Nat.{ℕ, zero, suc, _+_, _*_, _/_, _<_, _≤_}
+use Prim.Native.Nat.{ℕ, suc, _+_, _*_, _≤_}
 use native.Mathlib.Omega.{arith}
-use native.Mathlib.Nat.{zero-add, le-refl}
-use mathlib.Core.Bool.{Bool, true, false}
+use native.Mathlib.Nat.{zero-add}
+use mathlib.Core.Bool.{true}
 use mathlib.Core.List.{List, [], _∷_, _++_, append-nil}
-use mathlib.Core.Path.{_≡_, refl, ap, ap₂, sym, subst, _∙_}
+use mathlib.Core.Path.{_≡_, refl, ap, sym, _∙_}
 use lib.ListN.{length, drop, length-append}
-use Rattle.refal_text.specs.Utf8.{wellTo}
 use Rattle.refal_ast.specs.Kinds.{tokEof}
 use Rattle.refal_ast.specs.Check.{wellFormed}
 use Rattle.refal_ast.specs.Flatten.{flatsOf}
 use Rattle.refal_ast.specs.Tokens.{Token, token, flat}
 use Rattle.refal_ast.specs.declared.Answer.the-variants.{Done}
-use Rattle.refal_lexer.specs.Lex.{Out, fine, moreAll, eofAt, lex}
+use Rattle.refal_lexer.specs.Lex.{Out, moreAll, eofAt, lex}
 use Rattle.refal_lexer.specs.Read.{readAnswer, readRows}
 use Rattle.refal_spelling.specs.Spell.{Spelled, views, text}
 use Rattle.refal_spelling.specs.Good.{AllGood}
-use Rattle.refal_spelling.specs.Places.{tokensAt, lineBehind}
+use Rattle.refal_spelling.specs.Places.{tokensAt}
 use Rattle.refal_spelling.specs.Sound.{AllSound, sound-good}
-use Rattle.refal_spelling.specs.ReadsGood.{Read, reads-sound}
+use Rattle.refal_spelling.specs.ReadsGood.{reads-sound}
 use Rattle.refal_spelling.specs.Answered.{Answered, answered, answers, rows-left}
 use Rattle.refal_spelling.specs.Passes.{reads-pass}
 use Rattle.refal_spelling.specs.TextReads.{reads-text}

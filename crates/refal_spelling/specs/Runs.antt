@@ -1,10 +1,10 @@
 -- Laws of runs of bytes of one class, with what ends a word behind them: nothing, or a space.
-use Prim.Native.Nat.{ℕ, zero, suc, _+_, _-_, _*_, _<_, _≤_}
+use Prim.Native.Nat.{ℕ, suc, _+_, _-_, _*_}
 use mathlib.Core.Bool.{Bool, true, false}
 use native.Mathlib.Omega.{arith}
 use mathlib.Core.List.{List, [], _∷_, _++_}
-use mathlib.Core.Path.{_≡_, refl, ap, sym, subst, _∙_}
-use lib.ListN.{length, take, drop}
+use mathlib.Core.Path.{_≡_, refl, ap}
+use lib.ListN.{length, take}
 use Rattle.refal_text.specs.Pick.{pick}
 use Rattle.refal_text.specs.Span.{span}
 use Rattle.refal_lexer.specs.Classes.{digit}

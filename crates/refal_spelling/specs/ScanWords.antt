@@ -1,23 +1,19 @@
 -- A good word with its end behind it is scanned as one token, whole.
-use Prim.Native.Nat.{ℕ, zero, suc, _+_, _-_, _<_, _≤_}
+use Prim.Native.Nat.{ℕ, suc, _+_, _<_, _≤_}
 use native.Mathlib.Omega.{arith}
-use native.Mathlib.Nat.{add-zero, zero-add}
+use native.Mathlib.Nat.{add-zero}
 use borrow.Author.Tests.{le-leb, eqb-true, ne-eqb}
-use mathlib.Core.Bool.{Bool, true, false, _&&_, _||_, true≢false}
-use mathlib.Core.List.{List, [], _∷_, _++_, append-assoc}
-use mathlib.Core.Path.{_≡_, refl, ap, sym, subst, _∙_}
-use lib.Dec.{T, leb, eqb, eqb→eq}
+use mathlib.Core.Bool.{Bool, true, false, _||_, true≢false}
+use mathlib.Core.List.{List, _∷_, _++_, append-assoc}
+use mathlib.Core.Path.{_≡_, refl, ap, sym, _∙_}
+use lib.Dec.{T, eqb, eqb→eq}
 use lib.ListN.{length, length-append}
-use Rattle.refal_rows.specs.Tests.{below, each-below, range-lo, range-hi}
-use Rattle.refal_text.specs.Pick.{pick}
-use Rattle.refal_text.specs.Span.{span}
+use Rattle.refal_rows.specs.Tests.{below, each-below, range-hi}
 use Rattle.refal_ast.specs.Kinds.{tokIdentifier, tokVariable, tokNumber}
 use Rattle.refal_lexer.specs.Classes.{upper, digit, nameByte, variable, classOf}
-use Rattle.refal_lexer.specs.Numbers.{value, numberScan}
-use Rattle.refal_lexer.specs.Words.{nameScan, indexScan}
+use Rattle.refal_lexer.specs.Numbers.{numberScan}
 use Rattle.refal_lexer.specs.Scans.{scanClass, scanByte, scan}
-use Rattle.refal_lexer.specs.declared.Scan.{Scan}
-use Rattle.refal_lexer.specs.declared.Scan.the-variants.{Blank, Token, Literal, Bad}
+use Rattle.refal_lexer.specs.declared.Scan.the-variants.{Token}
 use Rattle.refal_spelling.specs.Good.{Every, also, Sign, unsigned, plus, minus, Number, macrodigit, real}
 use Rattle.refal_spelling.specs.Runs.{Ends, span-ends, span-every}
 use Rattle.refal_spelling.specs.NumberWords.{scan-macrodigit, scan-real}

@@ -1,33 +1,33 @@
 -- What a scan finds, case by case: white space, a refusal, a literal, or a token that is spelled well.
-use Prim.Native.Nat.{ℕ, zero, suc, _+_, _-_, _<_, _≤_}
+use Prim.Native.Nat.{ℕ, zero, suc, _+_, _≤_}
 use native.Mathlib.Omega.{arith}
-use native.Mathlib.Nat.{add-zero, zero-add}
+use native.Mathlib.Nat.{add-zero}
 use borrow.Author.Tests.{leb-true, eqb-true, eqb-false}
 use mathlib.Core.Bool.{Bool, true, false, _&&_, _||_, true≢false}
 use mathlib.Core.List.{List, [], _∷_, _++_}
-use mathlib.Core.Path.{_≡_, refl, ap, sym, subst, _∙_}
+use mathlib.Core.Path.{_≡_, refl, ap, sym, subst}
 use lib.Dec.{leb, ltb, eqb}
 use lib.ListN.{length, take, drop, getD, take-append-drop}
 use Rattle.refal_rows.specs.Tests.{range-lo, range-hi}
-use Rattle.refal_text.specs.Pick.{pick, split}
+use Rattle.refal_text.specs.Pick.{split}
 use Rattle.refal_text.specs.Span.{span}
 use Rattle.refal_text.specs.Utf8.{decode}
 use Rattle.refal_text.specs.White.{whiteSpace}
-use Rattle.refal_ast.specs.Kinds.{tokEntry, tokExtern, tokIdentifier, tokVariable, tokNumber}
+use Rattle.refal_ast.specs.Kinds.{tokVariable}
 use Rattle.refal_ast.specs.Check.{usesText}
 use Rattle.refal_lexer.specs.Classes.{upper, digit, letter, nameByte, variable, classOf, cMinus}
-use Rattle.refal_lexer.specs.ClassLaws.{ClassIs, is-wide, is-white, is-quote, is-star, is-slash, is-dollar, is-plus, is-minus, is-upper, is-digit, is-variable, is-other, is-single, is-none, class-view}
+use Rattle.refal_lexer.specs.ClassLaws.{ClassIs, is-wide, is-white, is-quote, is-star, is-slash, is-dollar, is-plus, is-minus, is-upper, is-digit}
+use Rattle.refal_lexer.specs.ClassLaws.{is-variable, is-other, is-single, is-none, class-view}
 use Rattle.refal_lexer.specs.Blanks.{closeFrom, slashScan}
-use Rattle.refal_lexer.specs.Words.{entryWord, externWord, directiveScan, nameScan, indexScan, otherScan, variableScan}
-use Rattle.refal_lexer.specs.Numbers.{numberScan}
-use Rattle.refal_lexer.specs.Literals.{litChar, closeScan, litStep, litFrom}
+use Rattle.refal_lexer.specs.Words.{entryWord, externWord, directiveScan, nameScan, indexScan, variableScan}
+use Rattle.refal_lexer.specs.Literals.{litChar, litStep, litFrom}
 use Rattle.refal_lexer.specs.Scans.{signScan, scanClass, scanByte}
 use Rattle.refal_lexer.specs.declared.Scan.{Scan}
 use Rattle.refal_lexer.specs.declared.Scan.the-variants.{Blank, Token, Literal, Bad}
-use Rattle.refal_spelling.specs.Spell.{Spelled, spelled}
-use Rattle.refal_spelling.specs.Good.{Every, none, also, Sign, plus, minus, Good, entry, extern, identifier, variableOf, number, mark}
+use Rattle.refal_spelling.specs.Spell.{spelled}
+use Rattle.refal_spelling.specs.Good.{none, also, Sign, plus, minus, Good, entry, extern, identifier, variableOf, number, mark}
 use Rattle.refal_spelling.specs.Runs.{every-span, length-span}
-use Rattle.refal_spelling.specs.NumberWords.{SeesNumber, no-number, a-number, Signed, no-sign, with-sign, sees-number}
+use Rattle.refal_spelling.specs.NumberWords.{SeesNumber, no-number, a-number, no-sign, with-sign, sees-number}
 
 -- the bytes b ∷ s stand at `at`. A word w stands behind `pre`, which only a variable has
 pub data Sees (at b : ℕ) (s : List ℕ) : Scan → Type 0 where
@@ -77,7 +77,8 @@ sees-name at b s u =
     let l : length (take n s) ≡ n = length-span nameByte s in
     split (Sees at b s) (leb (suc n) 15) _ _ (λ h.
     let k : suc n ≤ 15 = leb-true _ _ h in
-    a-word {start = at} {len = suc n} {e = at + 1 + n} [] (b ∷ take n s) (drop n s) (ap (λ (t : List ℕ). b ∷ t) (sym (take-append-drop n s))) (sym (add-zero at)) (ap suc (sym l)) (omega arith) (λ _. refl) refl
+    a-word {start = at} {len = suc n} {e = at + 1 + n} [] (b ∷ take n s) (drop n s) (ap (λ (t : List ℕ). b ∷ t) (sym (take-append-drop n s))) (sym (add-zero at)) (ap suc (sym l)) (omega arith)
+    (λ _. refl) refl
     (identifier b (take n s) u (every-span nameByte s) (omega arith))) (λ _. a-bad)
 
 sees-index : (at b : ℕ) (s : List ℕ) → variable b ≡ true → Sees at b (46 ∷ s) (indexScan at b s)
@@ -105,7 +106,8 @@ sees-variable at b [] h = a-bad
 sees-variable at b (c ∷ s) h =
     split (Sees at b (c ∷ s)) (eqb c 46) _ _ (λ e. subst (λ (x : ℕ). Sees at b (x ∷ s) (indexScan at b s)) (sym (eqb-true _ _ e)) (sees-index at b s h)) (λ _.
     split (Sees at b (c ∷ s)) (upper c || digit c) _ _ (λ e.
-    a-word {start = at + 1} {len = 1} {e = at + 2} (b ∷ []) (c ∷ []) s refl refl refl (omega arith) (λ c. absurd (c refl)) refl (variableOf b (c ∷ []) h (also c [] (or-name c e) none) (omega arith) (omega arith))) (λ _. a-bad))
+    a-word {start = at + 1} {len = 1} {e = at + 2} (b ∷ []) (c ∷ []) s refl refl refl (omega arith) (λ i. absurd (i refl)) refl
+    (variableOf b (c ∷ []) h (also c [] (or-name c e) none) (omega arith) (omega arith))) (λ _. a-bad))
 
 sees-directive : (at b : ℕ) (s : List ℕ) → Sees at b s (directiveScan at s)
 sees-directive at b s =

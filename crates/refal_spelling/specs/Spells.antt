@@ -1,7 +1,7 @@
 -- The test that a word is a spelling that reading gives for its kind (document 01, refusal 41), by the lexer's own definition.
-use Prim.Native.Nat.{ℕ, _+_}
+use Prim.Native.Nat.{ℕ}
 use mathlib.Core.Bool.{Bool, true, false, _&&_}
-use mathlib.Core.List.{List, [], _∷_}
+use mathlib.Core.List.{List, _∷_}
 use lib.Dec.{leb, eqb}
 use lib.ListN.{length}
 use Rattle.refal_text.specs.Span.{span}

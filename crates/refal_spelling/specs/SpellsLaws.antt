@@ -1,7 +1,7 @@
 -- The test of refusal 41 holds exactly of the words that reading gives for the kind.
-use Prim.Native.Nat.{ℕ, zero, suc, _+_, _-_, _<_, _≤_}
+use Prim.Native.Nat.{ℕ, suc, _+_, _<_, _≤_}
 use native.Mathlib.Omega.{arith}
-use native.Mathlib.Nat.{add-zero, zero-add}
+use native.Mathlib.Nat.{zero-add}
 use native.Mathlib.Decide.{decLe}
 use borrow.Author.Tests.{le-leb, lt-leb, leb-true, leb-false, eq-eqb, ne-eqb, eqb-true, eqb-false}
 use mathlib.Core.Bool.{Bool, true, false, _&&_, true≢false}
@@ -11,18 +11,18 @@ use lib.Dec.{leb, eqb}
 use lib.ListN.{length, take, length-append}
 use lib.Seq.{take-append-seam}
 use Rattle.refal_rows.specs.Tests.{and-left, and-right, range-lo, range-hi}
-use Rattle.refal_text.specs.Pick.{pick, split}
+use Rattle.refal_text.specs.Pick.{split}
 use Rattle.refal_text.specs.Span.{span}
 use Rattle.refal_ast.specs.Kinds.{tokIdentifier, tokVariable, tokNumber}
 use Rattle.refal_lexer.specs.Classes.{nameByte, variable}
 use Rattle.refal_lexer.specs.Words.{indexOf}
 use Rattle.refal_lexer.specs.Scans.{scan}
 use Rattle.refal_lexer.specs.declared.Scan.{Scan}
-use Rattle.refal_lexer.specs.declared.Scan.the-variants.{Blank, Token, Literal, Bad}
-use Rattle.refal_spelling.specs.Spell.{Spelled, spelled}
+use Rattle.refal_lexer.specs.declared.Scan.the-variants.{Token}
+use Rattle.refal_spelling.specs.Spell.{spelled}
 use Rattle.refal_spelling.specs.Spells.{tokenTo, spells, spellsIndex, isIndex}
-use Rattle.refal_spelling.specs.Good.{Every, none, also, Number, macrodigit, real, Good, identifier, variableOf, number, mark}
-use Rattle.refal_spelling.specs.Runs.{Ends, at-end, every-span, span-every}
+use Rattle.refal_spelling.specs.Good.{Every, Good, identifier, variableOf, number, mark}
+use Rattle.refal_spelling.specs.Runs.{at-end, every-span, span-every}
 use Rattle.refal_spelling.specs.ScanWords.{number-some, scan-identifier, scan-number}
 use Rattle.refal_spelling.specs.Sees.{Sees, a-blank, a-bad, a-literal, a-plain, a-word, sees}
 
@@ -101,21 +101,21 @@ spells-number w h = spells-worded tokNumber worded-number w h
 told : (kind d st n m : ℕ) → m ≡ n → tokenTo kind n (Token kind d st n m) ≡ true
 told kind d st n m e = rw (eq-eqb kind kind refl, eq-eqb m n e) refl
 
-pub identifier-spells : (w : List ℕ) → Good (spelled tokIdentifier 0 w) → spells tokIdentifier w ≡ true
+pub identifier-spells : (d : ℕ) (w : List ℕ) → Good (spelled tokIdentifier d w) → spells tokIdentifier w ≡ true
 unfolding spells
-identifier-spells w (identifier b s u a h) =
+identifier-spells d w (identifier b s u a h) =
     ap (λ (l : List ℕ). tokenTo tokIdentifier (suc (length s)) (scan 0 true (b ∷ l))) (sym (append-nil s))
     ∙ ap (tokenTo tokIdentifier (suc (length s))) (scan-identifier 0 true b s [] u a h at-end)
     ∙ told tokIdentifier 0 0 (suc (length s)) (0 + suc (length s)) (zero-add _)
-identifier-spells w (mark k l h) = absurd (omega arith)
+identifier-spells d w (mark k l h) = absurd (omega arith)
 
-pub number-spells : (w : List ℕ) → Good (spelled tokNumber 0 w) → spells tokNumber w ≡ true
+pub number-spells : (d : ℕ) (w : List ℕ) → Good (spelled tokNumber d w) → spells tokNumber w ≡ true
 unfolding spells
-number-spells w (number v h) =
+number-spells d w (number v h) =
     ap (λ (l : List ℕ). tokenTo tokNumber (length v) (scan 0 true l)) (sym (append-nil v))
     ∙ ap (tokenTo tokNumber (length v)) (scan-number v h 0 true [] at-end)
     ∙ told tokNumber 0 0 (length v) (0 + length v) (zero-add _)
-number-spells w (mark k l h) = absurd (omega arith)
+number-spells d w (mark k l h) = absurd (omega arith)
 
 -- ---- indices
 module _ (n m : ℕ) where

@@ -1,33 +1,30 @@
 -- Good tokens, each spelled with a space behind it, are read as those tokens at their places, and then the rest is read.
-use Prim.Native.Nat.{ℕ, zero, suc, _+_, _-_, _<_, _≤_}
+use Prim.Native.Nat.{ℕ, suc, _+_, _-_, _<_, _≤_}
 use native.Mathlib.Omega.{arith}
-use native.Mathlib.Nat.{add-zero, zero-add}
+use native.Mathlib.Nat.{add-zero}
 use native.Mathlib.Numerals.{add-one}
 use borrow.Author.Tests.{le-leb, ltb-true, ne-eqb}
-use mathlib.Core.Bool.{Bool, true, false, not, _&&_, _||_, true≢false}
-use mathlib.Core.List.{List, [], _∷_, _++_, append-assoc, append-nil}
+use mathlib.Core.Bool.{Bool, true, false, _||_}
+use mathlib.Core.List.{List, [], _∷_, _++_, append-assoc}
 use mathlib.Core.Path.{_≡_, refl, ap, ap₂, sym, subst, _∙_}
-use lib.Dec.{T, leb, ltb, eqb, eqb→eq}
-use lib.ListN.{length, take, drop, length-append}
-use lib.Seq.{drop-drop, take-append-seam, drop-append-seam}
-use Rattle.refal_rows.specs.Tests.{below, each-below}
-use Rattle.refal_text.specs.Pick.{pick}
-use Rattle.refal_ast.specs.Kinds.{tokEof, tokLBrace, tokSemicolon}
+use lib.Dec.{T, ltb, eqb, eqb→eq}
+use lib.ListN.{length, length-append}
+use lib.Seq.{drop-append-seam}
+use Rattle.refal_rows.specs.Tests.{each-below}
 use Rattle.refal_ast.specs.Tokens.{Token, token}
-use Rattle.refal_ast.specs.Flatten.{flatOf, flatsOf}
 use Rattle.refal_lexer.specs.Classes.{classOf}
 use Rattle.refal_lexer.specs.Literals.{charTokens}
 use Rattle.refal_lexer.specs.Scans.{scanClass, scanByte, scan}
-use Rattle.refal_lexer.specs.Lex.{Stop, fine, Out, more, moreAll, eofAt, after, lex}
+use Rattle.refal_lexer.specs.Lex.{Out, more, moreAll, after, lex}
 use Rattle.refal_lexer.specs.LexLaws.{lex-skip}
 use Rattle.refal_lexer.specs.declared.Scan.{Scan}
 use Rattle.refal_lexer.specs.declared.Scan.the-variants as S
-use Rattle.refal_spelling.specs.Spell.{Spelled, spelled, textAt, view, views, entryWord, externWord, body, markByte, spelling, text}
+use Rattle.refal_spelling.specs.Spell.{Spelled, spelled, entryWord, externWord, body, markByte, spelling, text}
 use Rattle.refal_spelling.specs.Places.{tokenAt, tokensAt, lineBehind}
 use Rattle.refal_spelling.specs.Good.{Good, entry, extern, identifier, variableOf, number, character, mark, AllGood, no-more, and-more}
 use Rattle.refal_spelling.specs.Runs.{at-space}
 use Rattle.refal_spelling.specs.ScanWords.{number-some, scan-identifier, scan-index, scan-number}
-use Rattle.refal_spelling.specs.CharWords.{Closed, scan-char}
+use Rattle.refal_spelling.specs.CharWords.{scan-char}
 
 -- ---- a token with a space behind it
 lex-space : (at : ℕ) (r : List ℕ) → lex 0 at false (32 ∷ r) ≡ lex 0 (at + 1) false r
@@ -56,7 +53,8 @@ lex-token at line kind detail start len (b ∷ s) r e h =
     ap (λ (x : Scan). after at b (s ++ (32 ∷ r)) x (λ k l. lex k (suc at) l (s ++ (32 ∷ r)))) e
     ∙ ap (more (token kind detail start len at (at + suc (length s)))) (lex-past at s r)
 
-lex-literal : (at : ℕ) (line : Bool) (t : Token) (s r : List ℕ) → scanByte at line 39 (s ++ (32 ∷ r)) ≡ S.Literal (at + suc (length s)) → charTokens 39 at (at + suc (length s)) 0 (s ++ (32 ∷ r)) ≡ t ∷ []
+lex-literal : (at : ℕ) (line : Bool) (t : Token) (s r : List ℕ) → scanByte at line 39 (s ++ (32 ∷ r)) ≡ S.Literal (at + suc (length s))
+    → charTokens 39 at (at + suc (length s)) 0 (s ++ (32 ∷ r)) ≡ t ∷ []
     → lex 0 at line (39 ∷ s ++ (32 ∷ r)) ≡ more t (lex 0 (at + suc (length s) + 1) false r)
 unfolding lex
 lex-literal at line t s r e f =
@@ -64,6 +62,9 @@ lex-literal at line t s r e f =
     ∙ ap₂ moreAll f (lex-past at s r)
 
 -- ---- the marks
+pub mark-not : (k j : ℕ) → 7 ≤ k → j < 7 → eqb k j ≡ false
+mark-not k j lo h = ne-eqb k j (λ e. absurd (omega arith))
+
 mark-test : ℕ → Bool
 mark-test k = ltb k 7 || eqb (classOf (markByte k)) k
 
@@ -78,12 +79,12 @@ mark-class k lo hi = go (ltb k 7) refl (each-below mark-test 17 tt k (omega arit
 pub mark-spelling : (k : ℕ) → 7 ≤ k → spelling (spelled k 0 []) ≡ markByte k ∷ []
 unfolding spelling
 mark-spelling k lo =
-    simp (ne-eqb k 1 (λ e. absurd (omega arith)), ne-eqb k 2 (λ e. absurd (omega arith)), ne-eqb k 3 (λ e. absurd (omega arith)), ne-eqb k 4 (λ e. absurd (omega arith)), ne-eqb k 5 (λ e. absurd (omega arith)), ne-eqb k 6 (λ e. absurd (omega arith)))
+    simp (mark-not k 1 lo (omega arith), mark-not k 2 lo (omega arith), mark-not k 3 lo (omega arith), mark-not k 4 lo (omega arith), mark-not k 5 lo (omega arith), mark-not k 6 lo (omega arith))
 
 pub mark-token : (at k : ℕ) → 7 ≤ k → tokenAt at (spelled k 0 []) ≡ token k 0 0 0 at (at + 1)
 unfolding tokenAt
 mark-token at k lo =
-    rw (mark-spelling k lo, ne-eqb k 3 (λ e. absurd (omega arith)), ne-eqb k 4 (λ e. absurd (omega arith)), ne-eqb k 5 (λ e. absurd (omega arith))) refl
+    rw (mark-spelling k lo, mark-not k 3 lo (omega arith), mark-not k 4 lo (omega arith), mark-not k 5 lo (omega arith)) refl
 
 mark-scan : (at : ℕ) (line : Bool) (k : ℕ) (r : List ℕ) → 7 ≤ k → k ≤ 16 → scan at line (markByte k ∷ r) ≡ S.Token k 0 0 0 (at + 1)
 mark-scan at line k r lo hi = ap (λ (c : ℕ). scanClass c at line (markByte k) r) (mark-class k lo hi) ∙ rw (le-leb _ _ lo, le-leb _ _ hi) refl

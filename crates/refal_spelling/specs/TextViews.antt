@@ -1,11 +1,11 @@
 -- The tokens of a written text, viewed in that text, are the tokens that it spells.
-use Prim.Native.Nat.{ℕ, zero, suc, _+_, _<_, _≤_}
-use mathlib.Core.List.{List, [], _∷_, _++_, append-assoc}
-use mathlib.Core.Path.{_≡_, refl, ap, ap₂, sym, subst, _∙_}
+use Prim.Native.Nat.{ℕ, _+_}
+use mathlib.Core.List.{List, _∷_, _++_}
+use mathlib.Core.Path.{_≡_, refl, ap, ap₂, sym, _∙_}
 use lib.ListN.{length, take, drop}
 use lib.Seq.{drop-drop, take-append-seam, drop-append-seam}
-use Rattle.refal_ast.specs.Tokens.{Token, token}
-use Rattle.refal_ast.specs.Flatten.{Flat, flatOf, flatsOf}
+use Rattle.refal_ast.specs.Tokens.{Token}
+use Rattle.refal_ast.specs.Flatten.{flatOf, flatsOf}
 use Rattle.refal_spelling.specs.Spell.{Spelled, spelled, textAt, view, views, dotted, spelling, text}
 use Rattle.refal_spelling.specs.Places.{tokenAt, tokensAt}
 use Rattle.refal_spelling.specs.Good.{Good, entry, extern, identifier, variableOf, number, character, mark, AllGood, no-more, and-more}
@@ -38,4 +38,5 @@ unfolding tokensAt
 views-text ts no-more src at r e = refl
 views-text ts (and-more {t = t} {ts = us} g a) src at r e =
     let f : drop at src ≡ spelling t ++ (32 ∷ (text us ++ r)) = e ∙ spaced t us r in
-    ap₂ (λ (x : Spelled) (xs : List Spelled). x ∷ xs) (view-one src at (32 ∷ (text us ++ r)) t g f) (views-text us a src (at + length (spelling t) + 1) r (drop-spaced src at (spelling t) (text us ++ r) f))
+    ap₂ (λ (x : Spelled) (xs : List Spelled). x ∷ xs) (view-one src at (32 ∷ (text us ++ r)) t g f)
+    (views-text us a src (at + length (spelling t) + 1) r (drop-spaced src at (spelling t) (text us ++ r) f))

@@ -1,24 +1,24 @@
 -- A text of good tokens is well-formed UTF-8.
-use Prim.Native.Nat.{ℕ, zero, suc, _+_, _-_, _<_, _≤_}
+use Prim.Native.Nat.{ℕ, suc, _+_, _<_, _≤_}
 use native.Mathlib.Omega.{arith}
 use native.Mathlib.Nat.{add-zero, zero-add, suc-add}
 use native.Mathlib.Decide.{decLe}
-use borrow.Author.Tests.{ltb-true, lt-ltb, le-leb, lt-leb, ne-eqb, eqb-true}
-use mathlib.Core.Bool.{Bool, true, false, _&&_, _||_, true≢false}
+use borrow.Author.Tests.{lt-ltb, le-leb, lt-leb, ne-eqb}
+use mathlib.Core.Bool.{Bool, true, false, true≢false}
 use mathlib.Core.List.{List, [], _∷_, _++_, append-assoc, append-nil}
 use mathlib.Core.Path.{_≡_, refl, ap, sym, subst, _∙_}
-use lib.Dec.{T, ltb, leb, eqb}
-use lib.ListN.{length, drop, length-append}
+use lib.Dec.{T, eqb}
+use lib.ListN.{length, length-append}
 use lib.Seq.{drop-append-seam}
-use Rattle.refal_rows.specs.Tests.{below, each-below}
-use Rattle.refal_text.specs.Pick.{pick, split}
+use Rattle.refal_rows.specs.Tests.{each-below}
+use Rattle.refal_text.specs.Pick.{split}
 use Rattle.refal_text.specs.Encode.{encode, Scalar}
 use Rattle.refal_text.specs.EncodeLaws.{Enc, enc-ascii, enc-wide, encoded, decode-encode}
 use Rattle.refal_text.specs.Utf8.{ascii, decode, char, wellTo}
 use Rattle.refal_text.specs.Utf8Laws.{decode-ascii, well-skip}
 use Rattle.refal_text.specs.declared.Char.{Char}
-use Rattle.refal_lexer.specs.Classes.{upper, digit, nameByte, variable}
-use Rattle.refal_spelling.specs.Spell.{Spelled, spelled, body, markByte, spelling, text}
+use Rattle.refal_lexer.specs.Classes.{digit, nameByte}
+use Rattle.refal_spelling.specs.Spell.{Spelled, body, markByte, spelling, text}
 use Rattle.refal_spelling.specs.Good.{Every, none, also, Sign, unsigned, plus, minus, Part, absent, digits, Number, macrodigit, real}
 use Rattle.refal_spelling.specs.Good.{Good, entry, extern, identifier, variableOf, number, character, mark, AllGood, no-more, and-more}
 use Rattle.refal_spelling.specs.Runs.{every-map, every-append}
@@ -60,7 +60,10 @@ name-low b h = go (decLe 128 b)
   where
     go : Dec (128 ≤ b) → ascii b ≡ true
     go (yes l) =
-        let z : nameByte b ≡ false = simp (le-leb 65 b (omega arith), lt-leb b 90 (omega arith), le-leb 97 b (omega arith), lt-leb b 122 (omega arith), le-leb 48 b (omega arith), lt-leb b 57 (omega arith), ne-eqb b 95 (omega arith), ne-eqb b 45 (omega arith)) in
+        let n₁ = lt-leb b 90 (omega arith) in
+        let n₂ = lt-leb b 122 (omega arith) in
+        let n₃ = lt-leb b 57 (omega arith) in
+        let z : nameByte b ≡ false = simp (n₁, n₂, n₃, le-leb 65 b (omega arith), le-leb 97 b (omega arith), le-leb 48 b (omega arith), ne-eqb b 95 (omega arith), ne-eqb b 45 (omega arith)) in
         absurd (true≢false (sym h ∙ z))
     go (no l) = lt-ltb b 128 (omega arith)
 
