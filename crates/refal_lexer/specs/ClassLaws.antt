@@ -3,13 +3,15 @@ use Prim.Native.Nat.{ℕ, zero, suc, _<_, _≤_}
 use borrow.Author.Tests.{le-leb, lt-leb, ne-eqb}
 use native.Mathlib.Decide.{decLe}
 use native.Mathlib.Omega.{arith}
+use mathlib.Core.List.{List}
 use mathlib.Core.Bool.{Bool, true, false, not, _&&_, _||_, true≢false}
 use mathlib.Core.Path.{_≡_, refl, _∙_, sym, subst}
+use lib.ListN.{length, getD}
 use lib.Dec.{T, leb, eqb}
 use Rattle.refal_rows.specs.Tests.{each-below, below}
 use Rattle.refal_text.specs.Pick.{split}
 use Rattle.refal_text.specs.White.{whiteSpace}
-use Rattle.refal_lexer.specs.Classes.{upper, digit, letter, nameByte, blank, variable, single, classOf, cNone}
+use Rattle.refal_lexer.specs.Classes.{upper, digit, letter, blank, variable, single, classOf, cNone}
 
 -- ---- what a class says of the byte
 pub data ClassIs (b : ℕ) : ℕ → Type 0 where
@@ -99,11 +101,6 @@ same-is true false t = absurd t
 same-is false true t = absurd t
 same-is false false t = refl
 
--- the bytes of names have the classes from 20 on
-pub name-class : (b : ℕ) → b < 256 → leb 20 (classOf b) ≡ nameByte b
-unfolding same
-name-class b h = same-is _ _ (each-below (λ (k : ℕ). same (leb 20 (classOf k)) (nameByte k)) 256 tt b h)
-
 -- below 128, white space is what `blank` tests
 pub blank-white : (b : ℕ) → b < 128 → blank b ≡ whiteSpace b
 unfolding same
@@ -124,3 +121,8 @@ pub blank-class : (b : ℕ) → blank b ≡ true → classOf b ≡ 2
 blank-class b h =
     let l = blank-low b h in
     simp (lt-leb 128 b l, h)
+
+-- a table of the classes of all bytes
+pub record Table (t : List ℕ) : Type 0 where
+  pub long : length t ≡ 256
+  pub rule : (b : ℕ) → b < 256 → getD t b 0 ≡ classOf b

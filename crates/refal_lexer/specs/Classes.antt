@@ -29,7 +29,7 @@ blank b = (leb 9 b && leb b 13) || eqb b 32
 abbrev pub variable : ℕ → Bool
 variable b = (eqb b 115 || eqb b 116) || eqb b 101
 
--- ---- the classes' numbers. 7 to 16 are the kinds of the tokens of one byte; 20 and more are the bytes of names
+-- ---- the classes' numbers. 7 to 16 are the kinds of the tokens of one byte
 abbrev pub cNone : ℕ
 cNone = 0
 

@@ -63,20 +63,24 @@ pub fn skip_ascii(src: &[u8], at: usize, line: bool) -> Place
     Place { at: i, line: l }
 }
 
-// The same past white space of any length.
+// The same past white space of any length: runs of one byte each, and longer characters between them.
 pub fn skip_white(src: &[u8], at: usize, line: bool) -> Place
     requires { ⌜ at ≤ length (now src) ⌝ }
     ensures { λ r. ⌜ (lex 0 (r .at) (r .line) (drop (r .at) (now (src .entry))) ≡ lex 0 at line (drop at (now (src .entry)))) × (at ≤ r .at) × (r .at ≤ length (now (src .entry))) ⌝ }
 {
-    let mut i = at;
-    let mut l = line;
+    let p = skip_ascii(src, at, line);
+    let mut i = p.at;
+    let mut l = p.line;
     while i < src.len() {
         let k = white_len(src, i);
         if k == 0 {
             return Place { at: i, line: l };
         }
-        l = line_after(src[i], i, l);
-        i += k;
+        let m = line_after(src[i], i, l);
+        let next = i + k;
+        let q = skip_ascii(src, next, m);
+        i = q.at;
+        l = q.line;
     }
     Place { at: i, line: l }
 }

@@ -1,9 +1,10 @@
-// The classes of bytes: one table, by which a token's first byte decides.
+// The classes of bytes: one table, by which a token's first byte decides, and tests.
 ghost use mathlib.Core.Path.{_≡_};
+ghost use Rattle.refal_lexer.specs.ClassLaws.{Table};
 ghost use Rattle.refal_lexer.specs.Classes.{classOf, nameByte, blank, letter};
 ghost use Rattle.refal_lexer.specs.Classes.{upper, digit};
 
-const CLASS: [u8; 256] = [
+pub const CLASS: [u8; 256] = [
     0,
     0,
     0,
@@ -262,18 +263,19 @@ const CLASS: [u8; 256] = [
     18,
 ];
 
-// The class of a byte. A token of one byte has its kind as its class; from 20 on are the bytes that names go on over.
-pub fn class_of(b: u8) -> u8
+// The class of a byte, by the table, which the caller has made once. A token of one byte has its kind as its class.
+pub fn class_of(b: u8, table: &[u8]) -> u8
+    requires { ⌜ Table (now table) ⌝ }
     ensures { λ r. ⌜ r ≡ classOf b ⌝ }
 {
-    CLASS[b as usize]
+    table[b as usize]
 }
 
 pub fn is_name(b: u8) -> bool
     ensures { λ r. ⌜ r ≡ nameByte b ⌝ }
 {
-    let k = class_of(b);
-    20 <= k
+    (((((65 <= b) & (b <= 90)) | ((97 <= b) & (b <= 122))) | ((48 <= b) & (b <= 57))) | (b == 95))
+        | (b == 45)
 }
 
 pub fn is_digit(b: u8) -> bool

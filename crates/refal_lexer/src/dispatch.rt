@@ -3,6 +3,7 @@ ghost use mathlib.Core.Path.{_≡_};
 ghost use mathlib.Core.Bool.{true};
 ghost use Prim.Native.Nat.{_+_, _≤_, _<_};
 ghost use lib.ListN.{length, drop, getD};
+ghost use Rattle.refal_lexer.specs.ClassLaws.{Table};
 ghost use Rattle.refal_lexer.specs.Scans.{scan, signScan, rareClass};
 ghost use Rattle.refal_lexer.specs.Within.{Within};
 use crate::Scan;
@@ -51,12 +52,12 @@ fn rare_at(src: &[u8], at: usize, line: bool, b: u8, k: u8) -> Scan
 }
 
 // What stands at `at`.
-pub fn scan_at(src: &[u8], at: usize, line: bool) -> Scan
-    requires { ⌜ at < length (now src) ⌝ }
+pub fn scan_at(src: &[u8], at: usize, line: bool, table: &[u8]) -> Scan
+    requires { ⌜ (at < length (now src)) × Table (now table) ⌝ }
     ensures { λ r. ⌜ (r ≡ scan at line (drop at (now (src .entry)))) × Within at (length (now (src .entry))) r ⌝ }
 {
     let b = src[at];
-    let k = crate::class::class_of(b);
+    let k = crate::class::class_of(b, table);
     let single = (7 <= k) & (k <= 16);
     if single {
         let next = at + 1;

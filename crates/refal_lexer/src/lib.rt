@@ -2,6 +2,7 @@
 ghost use mathlib.Core.Path.{_≡_};
 ghost use Prim.Native.Nat.{_+_, _≤_, _<_};
 ghost use lib.ListN.{length};
+ghost use Rattle.refal_lexer.specs.ClassLaws.{Table};
 ghost use Rattle.refal_lexer.specs.Lex.{lex, stopAnswer};
 ghost use Rattle.refal_lexer.specs.Read.{readAnswer, readRows};
 ghost use Rattle.refal_lexer.specs.Puts.{putTokens};
@@ -55,9 +56,9 @@ fn refused(number: u32, start: usize, end: usize, need: usize) -> Answer
     })
 }
 
-// Every token's row, as far as they fit.
-fn lex_all(src: &[u8], rows: &mut [u32]) -> Answer
-    requires { ⌜ length (now src) ≤ 16777216 ⌝ }
+// Every token's row, as far as they fit. The table of classes is made once for all of them.
+fn lex_by(src: &[u8], rows: &mut [u32], table: &[u8]) -> Answer
+    requires { ⌜ (length (now src) ≤ 16777216) × Table (now table) ⌝ }
     ensures { λ r. ⌜ r ≡ stopAnswer (lex 0 0 true (now (src .entry))) ⌝ }
     ensures { λ r. ⌜ now (rows .exit) ≡ putTokens (now (rows .entry)) 0 (lex 0 0 true (now (src .entry)) .tokens) ⌝ }
 {
@@ -65,7 +66,7 @@ fn lex_all(src: &[u8], rows: &mut [u32]) -> Answer
     let mut n = 0;
     let mut line = true;
     while at < src.len() {
-        let s = dispatch::scan_at(src, at, line);
+        let s = dispatch::scan_at(src, at, line, table);
         match s {
             Scan::Blank { end, line: l } => {
                 let p = blank::skip_white(src, end, l);
@@ -108,6 +109,15 @@ fn lex_all(src: &[u8], rows: &mut [u32]) -> Answer
     refal_rows::put6(rows, n, 17, 0, 0, 0, at as u32, at as u32);
     let count = n + 1;
     Answer::Done(count)
+}
+
+fn lex_all(src: &[u8], rows: &mut [u32]) -> Answer
+    requires { ⌜ length (now src) ≤ 16777216 ⌝ }
+    ensures { λ r. ⌜ r ≡ stopAnswer (lex 0 0 true (now (src .entry))) ⌝ }
+    ensures { λ r. ⌜ now (rows .exit) ≡ putTokens (now (rows .entry)) 0 (lex 0 0 true (now (src .entry)) .tokens) ⌝ }
+{
+    let table = class::CLASS;
+    lex_by(src, rows, &table)
 }
 
 // The rows of the source's tokens, or the first refusal, with every word of `rows` zero.
