@@ -106,7 +106,8 @@ unfolding wS
 wS-add s a b f cs (plain g) n B = refl
 wS-add s a b f cs (block o g v e) n B = refl
 
-pub more-sentences : (s : Sentences) (a b : ℕ) (f : Terms) (cs : Conditions) (x : End) (n k : ℕ) (B B' B″ : List ℕ) → k ≡ n + sizeS s → B' ≡ wS s n B → B″ ≡ wSen a b f cs x k B' → B″ ≡ wS (addS s a f cs x b) n B
+pub more-sentences : (s : Sentences) (a b : ℕ) (f : Terms) (cs : Conditions) (x : End) (n k : ℕ) (B B' B″ : List ℕ) → k ≡ n + sizeS s → B' ≡ wS s n B → B″ ≡ wSen a b f cs x k B' →
+    B″ ≡ wS (addS s a f cs x b) n B
 more-sentences s a b f cs x n k B B' B″ e h h' =
     h' ∙ ap (λ (i : ℕ). wSen a b f cs x i B') e ∙ ap (λ (l : List ℕ). wSen a b f cs x (n + sizeS s) l) h ∙ sym (wS-add s a b f cs x n B)
 

@@ -8,7 +8,7 @@ use native.Mathlib.Numerals.{sub-one}
 use lib.ListN.{length, getD}
 use lib.Dec.{eqb}
 use borrow.Author.Tests.{ne-eqb, eq-eqb, eqb-false}
-use Rattle.refal_ast.specs.Kinds.{tokEntry, tokExtern, tokIdentifier, tokVariable, tokNumber, tokChar, tokLBrace, tokRBrace, tokLParen, tokRParen, tokLAngle, tokRAngle, tokComma, tokColon, tokEquals, tokSemicolon, tokEof}
+use Rattle.refal_ast.specs.Kinds.{tokEntry, tokExtern, tokIdentifier, tokLBrace, tokRBrace, tokComma, tokEquals, tokSemicolon, tokEof}
 use Rattle.refal_ast.specs.Tokens.{Token, token}
 use Rattle.refal_ast.specs.Tree.{Terms, t0, tBracket, tCall, Conditions, cTerms, cBlock, Sentences, s0, sTerms, sBlock, Names, nOne, nMore, Program, pDeclaration, pFunction}
 use Rattle.refal_ast.specs.declared.tree.Term.{Term}
@@ -100,10 +100,12 @@ module _ (w : List ℕ) (at : ℕ) where
   pub closes-here : (want : ℕ) (st : State) → getD w at 0 ≡ want → Closing w at want st ≡ run (rest w (at + 6)) st
   closes-here want st e = rw (eq-eqb (getD w at 0) want e) refl
 
-  pub closes-eof : (want : ℕ) (st : State) → (getD w at 0 ≡ want → ⊥) → getD w at 0 ≡ tokEof → Closing w at want st ≡ refuse 35 want (getD w at 0) (getD w (at + 4) 0) (getD w (at + 5) 0)
+  pub closes-eof : (want : ℕ) (st : State) → (getD w at 0 ≡ want → ⊥) → getD w at 0 ≡ tokEof →
+      Closing w at want st ≡ refuse 35 want (getD w at 0) (getD w (at + 4) 0) (getD w (at + 5) 0)
   closes-eof want st n e = rw (ne-eqb (getD w at 0) want n, eq-eqb (getD w at 0) tokEof e) refl
 
-  pub closes-none : (want : ℕ) (st : State) → (getD w at 0 ≡ want → ⊥) → (getD w at 0 ≡ tokEof → ⊥) → Closing w at want st ≡ refuse 34 0 (getD w at 0) (afterFrom w at) (afterTo w at)
+  pub closes-none : (want : ℕ) (st : State) → (getD w at 0 ≡ want → ⊥) → (getD w at 0 ≡ tokEof → ⊥) →
+      Closing w at want st ≡ refuse 34 0 (getD w at 0) (afterFrom w at) (afterTo w at)
   closes-none want st n n' = rw (ne-eqb (getD w at 0) want n, ne-eqb (getD w at 0) tokEof n') refl
 
   module _ (r : Ready w at) where
@@ -121,26 +123,32 @@ module _ (w : List ℕ) (at : ℕ) where
     run-as st x e = run-at st ∙ ap (λ (y : Step). after w at y) e
 
     -- ---- in terms, by what the token begins
-    pub term-step : (d : ℕ) (c : Place) (f : Terms) (q : Term) → termAt w at ≡ q → run (rest w at) (within d c f) ≡ after w at (inTerms d c f (tok w at) (afterFrom w at) (afterTo w at) q)
+    pub term-step : (d : ℕ) (c : Place) (f : Terms) (q : Term) → termAt w at ≡ q →
+        run (rest w at) (within d c f) ≡ after w at (inTerms d c f (tok w at) (afterFrom w at) (afterTo w at) q)
     term-step d c f q e = run-at (within d c f) ∙ ap (λ (q : Term). after w at (inTerms d c f (tok w at) (afterFrom w at) (afterTo w at) q)) e
 
-    pub bracket-deep : (d : ℕ) (c : Place) (f : Terms) → termAt w at ≡ Bracket → d ≡ 0 → run (rest w at) (within d c f) ≡ refuse 37 0 (getD w at 0) (getD w (at + 4) 0) (getD w (at + 5) 0)
+    pub bracket-deep : (d : ℕ) (c : Place) (f : Terms) → termAt w at ≡ Bracket → d ≡ 0 →
+        run (rest w at) (within d c f) ≡ refuse 37 0 (getD w at 0) (getD w (at + 4) 0) (getD w (at + 5) 0)
     bracket-deep d c f e z = term-step d c f Bracket e ∙ open-none d (λ (x : ℕ). within x (bracket c f (getD w (at + 4) 0)) t0) z
 
-    pub bracket-open : (d : ℕ) (c : Place) (f : Terms) → termAt w at ≡ Bracket → (d ≡ 0 → ⊥) → Same w at (within d c f) (at + 6) (within (d - 1) (bracket c f (getD w (at + 4) 0)) t0)
+    pub bracket-open : (d : ℕ) (c : Place) (f : Terms) → termAt w at ≡ Bracket → (d ≡ 0 → ⊥) →
+        Same w at (within d c f) (at + 6) (within (d - 1) (bracket c f (getD w (at + 4) 0)) t0)
     bracket-open d c f e n = term-step d c f Bracket e ∙ open-some d (λ (x : ℕ). within x (bracket c f (getD w (at + 4) 0)) t0) n
 
-    pub call-deep : (d : ℕ) (c : Place) (f : Terms) → termAt w at ≡ Call → d ≡ 0 → run (rest w at) (within d c f) ≡ refuse 37 0 (getD w at 0) (getD w (at + 4) 0) (getD w (at + 5) 0)
+    pub call-deep : (d : ℕ) (c : Place) (f : Terms) → termAt w at ≡ Call → d ≡ 0 →
+        run (rest w at) (within d c f) ≡ refuse 37 0 (getD w at 0) (getD w (at + 4) 0) (getD w (at + 5) 0)
     call-deep d c f e z = term-step d c f Call e ∙ open-none d (λ (x : ℕ). calling x c f (getD w (at + 4) 0)) z
 
     pub call-open : (d : ℕ) (c : Place) (f : Terms) → termAt w at ≡ Call → (d ≡ 0 → ⊥) → Same w at (within d c f) (at + 6) (calling (d - 1) c f (getD w (at + 4) 0))
     call-open d c f e n = term-step d c f Call e ∙ open-some d (λ (x : ℕ). calling x c f (getD w (at + 4) 0)) n
 
-    pub call-name : (d : ℕ) (c : Place) (f : Terms) (a : ℕ) → getD w at 0 ≡ tokIdentifier → Same w at (calling d c f a) (at + 6) (within d (call c f a (getD w (at + 2) 0) (getD w (at + 3) 0)) t0)
+    pub call-name : (d : ℕ) (c : Place) (f : Terms) (a : ℕ) → getD w at 0 ≡ tokIdentifier →
+        Same w at (calling d c f a) (at + 6) (within d (call c f a (getD w (at + 2) 0) (getD w (at + 3) 0)) t0)
     unfolding kinded
     call-name d c f a e = run-kind (calling d c f a) tokIdentifier e
 
-    pub call-nameless : (d : ℕ) (c : Place) (f : Terms) (a : ℕ) → (getD w at 0 ≡ tokIdentifier → ⊥) → run (rest w at) (calling d c f a) ≡ refuse 33 tokIdentifier (getD w at 0) (afterFrom w at) (afterTo w at)
+    pub call-nameless : (d : ℕ) (c : Place) (f : Terms) (a : ℕ) → (getD w at 0 ≡ tokIdentifier → ⊥) →
+        run (rest w at) (calling d c f a) ≡ refuse 33 tokIdentifier (getD w at 0) (afterFrom w at) (afterTo w at)
     call-nameless d c f a n = run-as (calling d c f a) (wants 33 (tok w at) (afterFrom w at) (afterTo w at)) (rw (ne-eqb (getD w at 0) tokIdentifier n) refl)
 
     -- ---- after a sentence's pattern and conditions
@@ -160,14 +168,17 @@ module _ (w : List ℕ) (at : ℕ) where
       unfolding kinded joint
       joint-equals e = joint-kind tokEquals e ∙ sym (run-kind (conditioned d p s st f cs) tokEquals e)
 
-      pub joint-eof : getD w at 0 ≡ tokEof → after w at (afterTerms d p s st f cs (tok w at) (afterFrom w at) (afterTo w at)) ≡ refuse 35 tokEquals (getD w at 0) (getD w (at + 4) 0) (getD w (at + 5) 0)
+      pub joint-eof : getD w at 0 ≡ tokEof →
+          after w at (afterTerms d p s st f cs (tok w at) (afterFrom w at) (afterTo w at)) ≡ refuse 35 tokEquals (getD w at 0) (getD w (at + 4) 0) (getD w (at + 5) 0)
       unfolding kinded joint
       joint-eof e = joint-kind tokEof e ∙ ap (λ (k : ℕ). refuse 35 tokEquals k (getD w (at + 4) 0) (getD w (at + 5) 0)) (sym e)
 
-      pub joint-none : (getD w at 0 ≡ tokComma → ⊥) → (getD w at 0 ≡ tokEquals → ⊥) → (getD w at 0 ≡ tokEof → ⊥) → after w at (afterTerms d p s st f cs (tok w at) (afterFrom w at) (afterTo w at)) ≡ refuse 34 0 (getD w at 0) (afterFrom w at) (afterTo w at)
+      pub joint-none : (getD w at 0 ≡ tokComma → ⊥) → (getD w at 0 ≡ tokEquals → ⊥) → (getD w at 0 ≡ tokEof → ⊥) →
+          after w at (afterTerms d p s st f cs (tok w at) (afterFrom w at) (afterTo w at)) ≡ refuse 34 0 (getD w at 0) (afterFrom w at) (afterTo w at)
       joint-none n₁ n₂ n₃ = rw (ne-eqb (getD w at 0) tokComma n₁, ne-eqb (getD w at 0) tokEquals n₂, ne-eqb (getD w at 0) tokEof n₃) refl
 
-      pub joins-none : (getD w at 0 ≡ tokComma → ⊥) → (getD w at 0 ≡ tokEquals → ⊥) → run (rest w at) (conditioned d p s st f cs) ≡ refuse 35 tokEquals (getD w at 0) (getD w (at + 4) 0) (getD w (at + 5) 0)
+      pub joins-none : (getD w at 0 ≡ tokComma → ⊥) → (getD w at 0 ≡ tokEquals → ⊥) →
+          run (rest w at) (conditioned d p s st f cs) ≡ refuse 35 tokEquals (getD w at 0) (getD w (at + 4) 0) (getD w (at + 5) 0)
       joins-none n₁ n₂ =
           run-as (conditioned d p s st f cs) (expected tokEquals (tok w at)) (rw (ne-eqb (getD w at 0) tokComma n₁, ne-eqb (getD w at 0) tokEquals n₂) refl)
 
@@ -207,14 +218,17 @@ module _ (w : List ℕ) (at : ℕ) where
       end-block a g k =
           run-as (blocked d p s st f cs a g) (opens d (tok w at) (λ (x : ℕ). between x (inEnding p s st f cs a g) s0)) (rw (eq-eqb (getD w at 0) tokLBrace k) refl)
 
-      pub end-unopened : (a : ℕ) (g : Terms) → (getD w at 0 ≡ tokLBrace → ⊥) → run (rest w at) (blocked d p s st f cs a g) ≡ refuse 35 tokLBrace (getD w at 0) (getD w (at + 4) 0) (getD w (at + 5) 0)
+      pub end-unopened : (a : ℕ) (g : Terms) → (getD w at 0 ≡ tokLBrace → ⊥) →
+          run (rest w at) (blocked d p s st f cs a g) ≡ refuse 35 tokLBrace (getD w at 0) (getD w (at + 4) 0) (getD w (at + 5) 0)
       end-unopened a g n = run-as (blocked d p s st f cs a g) (expected tokLBrace (tok w at)) (rw (ne-eqb (getD w at 0) tokLBrace n) refl)
 
-      pub end-closed : (a : ℕ) (g : Terms) (v : Sentences) (e : ℕ) → getD w at 0 ≡ tokSemicolon → Same w at (ended d p s st f cs a g v e) (at + 6) (between d p (sBlock s st f cs a g v e (getD w (at + 5) 0)))
+      pub end-closed : (a : ℕ) (g : Terms) (v : Sentences) (e : ℕ) → getD w at 0 ≡ tokSemicolon →
+          Same w at (ended d p s st f cs a g v e) (at + 6) (between d p (sBlock s st f cs a g v e (getD w (at + 5) 0)))
       unfolding kinded
       end-closed a g v e k = run-kind (ended d p s st f cs a g v e) tokSemicolon k
 
-      pub end-unclosed : (a : ℕ) (g : Terms) (v : Sentences) (e : ℕ) → (getD w at 0 ≡ tokSemicolon → ⊥) → run (rest w at) (ended d p s st f cs a g v e) ≡ refuse 35 tokSemicolon (getD w at 0) (getD w (at + 4) 0) (getD w (at + 5) 0)
+      pub end-unclosed : (a : ℕ) (g : Terms) (v : Sentences) (e : ℕ) → (getD w at 0 ≡ tokSemicolon → ⊥) →
+          run (rest w at) (ended d p s st f cs a g v e) ≡ refuse 35 tokSemicolon (getD w at 0) (getD w (at + 4) 0) (getD w (at + 5) 0)
       end-unclosed a g v e n = run-as (ended d p s st f cs a g v e) (expected tokSemicolon (tok w at)) (rw (ne-eqb (getD w at 0) tokSemicolon n) refl)
 
     -- ---- between sentences
@@ -222,7 +236,8 @@ module _ (w : List ℕ) (at : ℕ) where
       pub block-close : getD w at 0 ≡ tokRBrace → Same w at (between d p v) (at + 6) (leave d p v (tok w at))
       block-close e = run-as (between d p v) (go (leave d p v (tok w at))) (rw (eq-eqb (getD w at 0) tokRBrace e) refl)
 
-      pub block-eof : (getD w at 0 ≡ tokRBrace → ⊥) → getD w at 0 ≡ tokEof → run (rest w at) (between d p v) ≡ refuse 35 tokRBrace (getD w at 0) (getD w (at + 4) 0) (getD w (at + 5) 0)
+      pub block-eof : (getD w at 0 ≡ tokRBrace → ⊥) → getD w at 0 ≡ tokEof →
+          run (rest w at) (between d p v) ≡ refuse 35 tokRBrace (getD w at 0) (getD w (at + 4) 0) (getD w (at + 5) 0)
       block-eof n e = run-as (between d p v) (expected tokRBrace (tok w at)) (rw (ne-eqb (getD w at 0) tokRBrace n, eq-eqb (getD w at 0) tokEof e) refl)
 
       pub block-more : (getD w at 0 ≡ tokRBrace → ⊥) → (getD w at 0 ≡ tokEof → ⊥) → Same w at (between d p v) at (within d (pattern p v (getD w (at + 4) 0)) t0)
@@ -253,7 +268,8 @@ module _ (w : List ℕ) (at : ℕ) where
       unfolding kinded
       items-name e = run-kind (items p) tokIdentifier e
 
-      pub items-none : (getD w at 0 ≡ tokEof → ⊥) → (getD w at 0 ≡ tokSemicolon → ⊥) → (getD w at 0 ≡ tokExtern → ⊥) → (getD w at 0 ≡ tokEntry → ⊥) → (getD w at 0 ≡ tokIdentifier → ⊥) → run (rest w at) (items p) ≡ refuse 32 tokIdentifier (getD w at 0) (afterFrom w at) (afterTo w at)
+      pub items-none : (getD w at 0 ≡ tokEof → ⊥) → (getD w at 0 ≡ tokSemicolon → ⊥) → (getD w at 0 ≡ tokExtern → ⊥) → (getD w at 0 ≡ tokEntry → ⊥) →
+          (getD w at 0 ≡ tokIdentifier → ⊥) → run (rest w at) (items p) ≡ refuse 32 tokIdentifier (getD w at 0) (afterFrom w at) (afterTo w at)
       items-none n₁ n₂ n₃ n₄ n₅ =
           run-as (items p) (wants 32 (tok w at) (afterFrom w at) (afterTo w at))
           (rw (ne-eqb (getD w at 0) tokEof n₁, ne-eqb (getD w at 0) tokSemicolon n₂, ne-eqb (getD w at 0) tokExtern n₃, ne-eqb (getD w at 0) tokEntry n₄, ne-eqb (getD w at 0) tokIdentifier n₅) refl)
@@ -270,7 +286,8 @@ module _ (w : List ℕ) (at : ℕ) where
         pub first-none : (getD w at 0 ≡ tokIdentifier → ⊥) → run (rest w at) (wantsName p a) ≡ refuse 31 tokIdentifier (getD w at 0) (afterFrom w at) (afterTo w at)
         first-none n = run-as (wantsName p a) (wants 31 (tok w at) (afterFrom w at) (afterTo w at)) (rw (ne-eqb (getD w at 0) tokIdentifier n) refl)
 
-        pub more-none : (ns : Names) → (getD w at 0 ≡ tokIdentifier → ⊥) → run (rest w at) (wantsMore p a ns) ≡ refuse 31 tokIdentifier (getD w at 0) (afterFrom w at) (afterTo w at)
+        pub more-none : (ns : Names) → (getD w at 0 ≡ tokIdentifier → ⊥) →
+            run (rest w at) (wantsMore p a ns) ≡ refuse 31 tokIdentifier (getD w at 0) (afterFrom w at) (afterTo w at)
         more-none ns n = run-as (wantsMore p a ns) (wants 31 (tok w at) (afterFrom w at) (afterTo w at)) (rw (ne-eqb (getD w at 0) tokIdentifier n) refl)
 
         pub named-comma : (ns : Names) → getD w at 0 ≡ tokComma → Same w at (named p a ns) (at + 6) (wantsMore p a ns)
@@ -281,7 +298,8 @@ module _ (w : List ℕ) (at : ℕ) where
         unfolding kinded
         named-end ns e = run-kind (named p a ns) tokSemicolon e
 
-        pub named-none : (ns : Names) → (getD w at 0 ≡ tokComma → ⊥) → (getD w at 0 ≡ tokSemicolon → ⊥) → run (rest w at) (named p a ns) ≡ refuse 35 tokSemicolon (getD w at 0) (getD w (at + 4) 0) (getD w (at + 5) 0)
+        pub named-none : (ns : Names) → (getD w at 0 ≡ tokComma → ⊥) → (getD w at 0 ≡ tokSemicolon → ⊥) →
+            run (rest w at) (named p a ns) ≡ refuse 35 tokSemicolon (getD w at 0) (getD w (at + 4) 0) (getD w (at + 5) 0)
         named-none ns n n' =
             run-as (named p a ns) (expected tokSemicolon (tok w at)) (rw (ne-eqb (getD w at 0) tokComma n, ne-eqb (getD w at 0) tokSemicolon n') refl)
 
@@ -296,5 +314,6 @@ module _ (w : List ℕ) (at : ℕ) where
         unfolding kinded
         head-open x s l e = run-kind (headed p a x s l) tokLBrace e
 
-        pub head-none : (x : Bool) (s l : ℕ) → (getD w at 0 ≡ tokLBrace → ⊥) → run (rest w at) (headed p a x s l) ≡ refuse 35 tokLBrace (getD w at 0) (getD w (at + 4) 0) (getD w (at + 5) 0)
+        pub head-none : (x : Bool) (s l : ℕ) → (getD w at 0 ≡ tokLBrace → ⊥) →
+            run (rest w at) (headed p a x s l) ≡ refuse 35 tokLBrace (getD w at 0) (getD w (at + 4) 0) (getD w (at + 5) 0)
         head-none x s l n = run-as (headed p a x s l) (expected tokLBrace (tok w at)) (rw (ne-eqb (getD w at 0) tokLBrace n) refl)

@@ -16,7 +16,8 @@ use Rattle.refal_parser.specs.Machine.{nextFrom, nextTo}
 use Rattle.refal_parser.specs.Ready.{rest, tok, afterFrom, afterTo, endBefore, Ready}
 
 -- six words and what follows
-drop6 : (w : List ℕ) (at : ℕ) → at + 5 < length w → drop at w ≡ getD w at 0 ∷ getD w (at + 1) 0 ∷ getD w (at + 2) 0 ∷ getD w (at + 3) 0 ∷ getD w (at + 4) 0 ∷ getD w (at + 5) 0 ∷ drop (at + 6) w
+drop6 : (w : List ℕ) (at : ℕ) → at + 5 < length w →
+    drop at w ≡ getD w at 0 ∷ getD w (at + 1) 0 ∷ getD w (at + 2) 0 ∷ getD w (at + 3) 0 ∷ getD w (at + 4) 0 ∷ getD w (at + 5) 0 ∷ drop (at + 6) w
 drop6 w at h =
     let e1 : at + 1 ≡ suc at = omega arith in
     let e2 : at + 2 ≡ suc (suc at) = omega arith in

@@ -49,7 +49,9 @@ pub record FunctionAt (w B B' : List ℕ) (at name n entry j m : ℕ) : Type 0 w
   pub few : m ≤ j
   pub rows : B' ≡ putNode (wS v (n + 1) B) n (node nodeFunction entry (getD w (name + 2) 0) (getD w (name + 3) 0) (getD w (at + 4) 0) e m)
   pub count : m ≡ n + 1 + sizeS v
-  pub means : (p : Program) (x : Bool) → Same w (name + 6) (headed p (getD w (at + 4) 0) x (getD w (name + 2) 0) (getD w (name + 3) 0)) j (items (pFunction p (getD w (at + 4) 0) x (getD w (name + 2) 0) (getD w (name + 3) 0) v e))
+  pub means : (p : Program) (x : Bool) →
+      Same w (name + 6) (headed p (getD w (at + 4) 0) x (getD w (name + 2) 0) (getD w (name + 3) 0)) j
+      (items (pFunction p (getD w (at + 4) 0) x (getD w (name + 2) 0) (getD w (name + 3) 0) v e))
 
 abbrev pub FunctionPost : List ℕ → List ℕ → List ℕ → ℕ → ℕ → ℕ → ℕ → Got → Type 0
 FunctionPost w B B' at name n entry r =

@@ -127,7 +127,8 @@ pub record FollowsAt (w : List ℕ) (at m j m' : ℕ) : Type 0 where
   pub stays : j ≡ at
   pub rows : m' ≡ m
   pub joint : Joint w j
-  pub means : (d : ℕ) (p : Block) (s : Sentences) (st : ℕ) (f : Terms) (cs : Conditions) → after w at (afterTerms d p s st f cs (tok w at) (afterFrom w at) (afterTo w at)) ≡ run (rest w j) (conditioned d p s st f cs)
+  pub means : (d : ℕ) (p : Block) (s : Sentences) (st : ℕ) (f : Terms) (cs : Conditions) →
+      after w at (afterTerms d p s st f cs (tok w at) (afterFrom w at) (afterTo w at)) ≡ run (rest w j) (conditioned d p s st f cs)
 
 abbrev pub FollowsPost : List ℕ → ℕ → ℕ → Got → Type 0
 FollowsPost w at m r =
@@ -147,7 +148,8 @@ pub record PatternAt (w B B' : List ℕ) (at n left j m : ℕ) : Type 0 where
   pub count : m ≡ n + 1 + sizeT g
   pub last : lastEnd g (endBefore w at) ≡ endBefore w j
   pub joint : Joint w j
-  pub means : (c : Place) (p : Block) (s : Sentences) (st : ℕ) (f : Terms → Terms) (cs : Terms → Conditions) → Turns left c p s st f cs → Same w at (within left c t0) j (conditioned left p s st (f g) (cs g))
+  pub means : (c : Place) (p : Block) (s : Sentences) (st : ℕ) (f : Terms → Terms) (cs : Terms → Conditions) → Turns left c p s st f cs →
+      Same w at (within left c t0) j (conditioned left p s st (f g) (cs g))
 
 abbrev pub PatternPost : List ℕ → List ℕ → List ℕ → ℕ → ℕ → ℕ → Got → Type 0
 PatternPost w B B' at n left r =

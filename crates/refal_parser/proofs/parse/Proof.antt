@@ -1,3 +1,4 @@
+-- `refal_parser::parse` meets its contract: 30 first, then the first refusal met, last 38.
 use mathlib.Core.Path.{_≡_, refl, sym, ap, _∙_}
 use Prim.Native.Nat.{ℕ}
 use native.Mathlib.Omega.{arith}
@@ -33,7 +34,9 @@ same-length c = search needs
 
 -- src/lib.rt:38:9
 returns : tie.Need-returns
-returns c = refused (c .before .before .before .before .before .before .before .before .before .args .tokens .now) (c .before .before .before .before .before .before .before .before .before .args .rows .now) _ _ _ _ _ _ _ (parsed-bad _ (sym (c .before .before .before .before .before .before .check .ensures) ∙ not-true _ (c .before .before .before .before .before .if1 .taken))) (c .refused .ensures) (c .before .before .before .clear .ensures)
+returns c = let w = c .before .before .before .before .before .before .before .before .before .args .tokens .now in
+    let b₀ = c .before .before .before .before .before .before .before .before .before .args .rows .now in
+    refused w b₀ _ _ _ _ _ _ _ (parsed-bad _ (sym (c .before .before .before .before .before .before .check .ensures) ∙ not-true _ (c .before .before .before .before .before .if1 .taken))) (c .refused .ensures) (c .before .before .before .clear .ensures)
 
 -- src/lib.rt:40:11
 program-requires : tie.Need-program-requires
@@ -65,7 +68,11 @@ same-length-2 c = search needs
 
 -- src/lib.rt:48:17
 returns-2 : tie.Need-returns-2
-returns-2 c = let p = c .before .before .before .before .before .before .program .ensures .at _ _ (c .before .before .m .given .1) in done (c .before .before .before .before .before .before .before .before .before .before .before .before .args .tokens .now) (c .before .before .before .before .before .before .before .before .before .before .before .before .args .rows .now) _ (p .t) _ (parsed-good _ (sym (c .before .before .before .before .before .before .before .before .before .check .ensures) ∙ not-false _ (c .before .before .before .before .before .before .before .before .if1 .left)) ∙ p .means) (p .count) (c .if2 .taken) (c .before .before .before .before .before .before .program .kept .1 .0) (p .rows)
+returns-2 c = let w = c .before .before .before .before .before .before .before .before .before .before .before .before .args .tokens .now in
+    let b₀ = c .before .before .before .before .before .before .before .before .before .before .before .before .args .rows .now in
+    let p = c .before .before .before .before .before .before .program .ensures .at _ _ (c .before .before .m .given .1) in
+    done w b₀ _ (p .t) _ (parsed-good _ (sym (c .before .before .before .before .before .before .before .before .before .check .ensures) ∙ not-false _ (c .before .before .before .before .before .before .before .before .if1 .left))
+    ∙ p .means) (p .count) (c .if2 .taken) (c .before .before .before .before .before .before .program .kept .1 .0) (p .rows)
 
 -- src/lib.rt:50:13
 clear-requires-3 : tie.Need-clear-requires-3
@@ -81,7 +88,11 @@ same-length-3 c = search needs
 
 -- src/lib.rt:32:1
 returns-3 : tie.Need-returns-3
-returns-3 c = refused (c .before .before .before .before .before .before .before .before .before .before .before .before .before .before .before .before .args .tokens .now) (c .before .before .before .before .before .before .before .before .before .before .before .before .before .before .before .before .args .rows .now) _ _ _ _ _ _ _ (parsed-good _ (sym (c .before .before .before .before .before .before .before .before .before .before .before .before .before .check .ensures) ∙ not-false _ (c .before .before .before .before .before .before .before .before .before .before .before .before .if1 .left)) ∙ c .before .before .before .before .before .before .before .before .before .before .program .ensures .no _ _ _ _ _ (c .before .before .before .before .before .before .number .given .1)) (c .refused2 .ensures) (c .before .before .before .clear2 .ensures ∙ ap (λ (n : ℕ). replicate n 0) (c .before .before .before .before .before .before .before .before .before .before .program .kept .1 .0))
+returns-3 c = let w = c .before .before .before .before .before .before .before .before .before .before .before .before .before .before .before .before .args .tokens .now in
+    let b₀ = c .before .before .before .before .before .before .before .before .before .before .before .before .before .before .before .before .args .rows .now in
+    refused w b₀ _ _ _ _ _ _ _ (parsed-good _ (sym (c .before .before .before .before .before .before .before .before .before .before .before .before .before .check .ensures) ∙ not-false _ (c .before .before .before .before .before .before .before .before .before .before .before .before .if1 .left))
+    ∙ c .before .before .before .before .before .before .before .before .before .before .program .ensures .no _ _ _ _ _ (c .before .before .before .before .before .before .number .given .1)) (c .refused2 .ensures) (c .before .before .before .clear2 .ensures
+    ∙ ap (λ (n : ℕ). replicate n 0) (c .before .before .before .before .before .before .before .before .before .before .program .kept .1 .0))
 
 -- src/lib.rt:32:1
 same-length-4 : tie.Need-same-length-4
@@ -89,7 +100,12 @@ same-length-4 c = search needs
 
 -- src/lib.rt:32:1
 returns-4 : tie.Need-returns-4
-returns-4 c = let p = c .before .before .before .before .before .before .before .before .before .before .before .program .ensures .at _ _ (c .before .before .before .before .before .before .before .m .given .1) in full (c .before .before .before .before .before .before .before .before .before .before .before .before .before .before .before .before .before .args .tokens .now) (c .before .before .before .before .before .before .before .before .before .before .before .before .before .before .before .before .before .args .rows .now) _ _ (p .t) _ (parsed-good _ (sym (c .before .before .before .before .before .before .before .before .before .before .before .before .before .before .check .ensures) ∙ not-false _ (c .before .before .before .before .before .before .before .before .before .before .before .before .before .if1 .left)) ∙ p .means) (p .count) (let l = c .before .before .before .before .before .if2 .left in let k = (c .before .before .before .before .before .before .before .before .before .before .before .program .kept .1 .0) in omega arith) (c .refused3 .ensures) (c .before .before .before .clear3 .ensures ∙ ap (λ (n : ℕ). replicate n 0) (c .before .before .before .before .before .before .before .before .before .before .before .program .kept .1 .0))
+returns-4 c = let w = c .before .before .before .before .before .before .before .before .before .before .before .before .before .before .before .before .before .args .tokens .now in
+    let b₀ = c .before .before .before .before .before .before .before .before .before .before .before .before .before .before .before .before .before .args .rows .now in
+    let p = c .before .before .before .before .before .before .before .before .before .before .before .program .ensures .at _ _ (c .before .before .before .before .before .before .before .m .given .1) in
+    full w b₀ _ _ (p .t) _ (parsed-good _ (sym (c .before .before .before .before .before .before .before .before .before .before .before .before .before .before .check .ensures) ∙ not-false _ (c .before .before .before .before .before .before .before .before .before .before .before .before .before .if1 .left))
+    ∙ p .means) (p .count) (let l = c .before .before .before .before .before .if2 .left in let k = (c .before .before .before .before .before .before .before .before .before .before .before .program .kept .1 .0) in omega arith) (c .refused3 .ensures) (c .before .before .before .clear3 .ensures
+    ∙ ap (λ (n : ℕ). replicate n 0) (c .before .before .before .before .before .before .before .before .before .before .before .program .kept .1 .0))
 
 pub parse-spec : {M : Type 1} → statement M
 parse-spec =

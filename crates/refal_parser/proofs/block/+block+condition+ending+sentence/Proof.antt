@@ -1,3 +1,4 @@
+-- `refal_parser::block::block`, `refal_parser::block::condition`, `refal_parser::block::ending`, `refal_parser::block::sentence` meet their contracts: conditions, sentences and blocks as the machine reads them; the falling number is the depth left with the tokens left.
 use mathlib.Core.Path.{_≡_, refl, sym, ap, subst, _∙_}
 use Prim.Native.Nat.{ℕ, zero, suc, _+_, _-_, _<_, _≤_}
 use native.Mathlib.Omega.{arith}
@@ -102,7 +103,10 @@ block-returns : (t : ℕ) → block-lts.Need-returns (
   sentence-below t,
   sentence.Post,
 ) (block-at t) block.Post block-Inv-loop block-μ-loop
-block-returns t c = is-no (c .present .ensures) (λ p. open-none (c .before .before .before .before .args .tokens .now) (c .before .before .before .before .args .at) (c .before .before .before .before .args .left) (λ (d : ℕ). between d p s0) (c .before .if1 .taken))
+block-returns t c = let w = c .before .before .before .before .args .tokens .now in
+    let at₀ = c .before .before .before .before .args .at in
+    let left₀ = c .before .before .before .before .args .left in
+    is-no (c .present .ensures) (λ p. open-none w at₀ left₀ (λ (d : ℕ). between d p s0) (c .before .if1 .taken))
 
 -- src/block.rt:125:17
 block-sub-under : (t : ℕ) → block-lts.Need-sub-under (
@@ -124,7 +128,8 @@ block-add-i : (t : ℕ) → block-lts.Need-add-i (
   sentence-below t,
   sentence.Post,
 ) (block-at t) block.Post block-Inv-loop block-μ-loop
-block-add-i t c = let R = c .before .before .before .pre .1 .0 in omega arith
+block-add-i t c = let pre₀ = c .before .before .before .pre .1 in
+    let R = pre₀ .0 in omega arith
 
 -- src/block.rt:128:5
 block-loop-holds : (t : ℕ) → block-lts.Need-loop-holds (
@@ -136,7 +141,11 @@ block-loop-holds : (t : ℕ) → block-lts.Need-loop-holds (
   sentence.Post,
 ) (block-at t) block.Post block-Inv-loop block-μ-loop
 unfolding sizeS wS
-block-loop-holds t c = record { v = s0; ready = ready-next _ _ (c .before .before .before .pre .1 .0) (other _ _ _ (c .before .before .before .pre .1 .2) refl); on = omega arith; few = omega arith; same = refl; rows = refl; count = omega arith; means = λ p. open-some (c .before .before .before .args .tokens .now) (c .before .before .before .args .at) (c .before .before .before .args .left) (λ (d : ℕ). between d p s0) (c .if1 .left) }
+block-loop-holds t c = let w = c .before .before .before .args .tokens .now in
+    let at₀ = c .before .before .before .args .at in
+    let left₀ = c .before .before .before .args .left in
+    let pre₀ = c .before .before .before .pre .1 in
+    record { v = s0; ready = ready-next _ _ (pre₀ .0) (other _ _ _ (pre₀ .2) refl); on = omega arith; few = omega arith; same = refl; rows = refl; count = omega arith; means = λ p. open-some w at₀ left₀ (λ (d : ℕ). between d p s0) (c .if1 .left) }
 
 -- src/block.rt:128:11
 block-kind-requires : (t : ℕ) → block-lts.Need-kind-requires (
@@ -180,7 +189,8 @@ block-same-length : (t : ℕ) → block-lts.Need-same-length (
   sentence-below t,
   sentence.Post,
 ) (block-at t) block.Post block-Inv-loop block-μ-loop
-block-same-length t c = let I = c .before .before .before .before .before .loop .inv in I .same
+block-same-length t c = let I = c .before .before .before .before .before .loop .inv in
+    I .same
 
 -- src/block.rt:130:13
 block-returns-2 : (t : ℕ) → block-lts.Need-returns-2 (
@@ -191,7 +201,9 @@ block-returns-2 : (t : ℕ) → block-lts.Need-returns-2 (
   sentence-below t,
   sentence.Post,
 ) (block-at t) block.Post block-Inv-loop block-μ-loop
-block-returns-2 t c = let I = c .before .before .before .before .before .loop .inv in is-no (c .present2 .ensures) (λ p. I .means p ∙ block-eof _ _ (I .ready) _ p (I .v) (λ e. c .before .before .before .if2 .taken (c .before .before .before .before .kind .ensures ∙ e)) (sym (c .before .before .kind2 .ensures) ∙ c .before .if3 .taken))
+block-returns-2 t c = let I = c .before .before .before .before .before .loop .inv in
+    is-no (c .present2 .ensures) (λ p. I .means p ∙ block-eof _ _ (I .ready) _ p (I .v) (λ e. c .before .before .before .if2 .taken (c .before .before .before .before .kind .ensures
+    ∙ e)) (sym (c .before .before .kind2 .ensures) ∙ c .before .if3 .taken))
 
 -- src/block.rt:132:13
 block-sentence-requires : (t : ℕ) → block-lts.Need-sentence-requires (
@@ -202,7 +214,9 @@ block-sentence-requires : (t : ℕ) → block-lts.Need-sentence-requires (
   sentence-below t,
   sentence.Post,
 ) (block-at t) block.Post block-Inv-loop block-μ-loop
-block-sentence-requires t c κs = let I = c .before .before .before .before .before .loop .inv in let R = I .ready in let o = I .on in let n = c .before .before .before .before .before .before .if1 .left in let g = c .before .before .before .before .before .before .before .before .before .pre .1 .0 in (omega arith, (I .ready, I .few))
+block-sentence-requires t c κs = let pre₀ = c .before .before .before .before .before .before .before .before .before .pre .1 in
+    let I = c .before .before .before .before .before .loop .inv in
+    let R = I .ready in let o = I .on in let n = c .before .before .before .before .before .before .if1 .left in let g = pre₀ .0 in (omega arith, (I .ready, I .few))
 
 -- src/block.rt:133:21
 block-enum-known-r : (t : ℕ) → block-lts.Need-enum-known-r (
@@ -246,7 +260,9 @@ block-returns-3 : (t : ℕ) → block-lts.Need-returns-3 (
   sentence-below t,
   sentence.Post,
 ) (block-at t) block.Post block-Inv-loop block-μ-loop
-block-returns-3 t c = let I = c .before .before .before .before .before .before .before .before .before .before .loop .inv in is-no (c .enum-told .given .1) (λ p. I .means p ∙ block-more _ _ (I .ready) _ p (I .v) (λ e. c .before .before .before .before .before .before .before .before .if2 .taken (c .before .before .before .before .before .before .before .before .before .kind .ensures ∙ e)) (λ e. c .before .before .before .before .before .before .if3 .left (c .before .before .before .before .before .before .before .kind2 .ensures ∙ e)) ∙ c .before .before .before .before .sentence .ensures .no _ _ _ _ _ (c .enum-told .given .1) p (I .v))
+block-returns-3 t c = let I = c .before .before .before .before .before .before .before .before .before .before .loop .inv in
+    is-no (c .enum-told .given .1) (λ p. I .means p ∙ block-more _ _ (I .ready) _ p (I .v) (λ e. c .before .before .before .before .before .before .before .before .if2 .taken (c .before .before .before .before .before .before .before .before .before .kind .ensures
+    ∙ e)) (λ e. c .before .before .before .before .before .before .if3 .left (c .before .before .before .before .before .before .before .kind2 .ensures ∙ e)) ∙ c .before .before .before .before .sentence .ensures .no _ _ _ _ _ (c .enum-told .given .1) p (I .v))
 
 -- src/block.rt:128:5
 block-loop-less : (t : ℕ) → block-lts.Need-loop-less (
@@ -268,17 +284,20 @@ block-loop-again : (t : ℕ) → block-lts.Need-loop-again (
   sentence-below t,
   sentence.Post,
 ) (block-at t) block.Post block-Inv-loop block-μ-loop
-block-loop-again t c = let I = c .before .before .before .before .before .before .before .before .before .before .before .loop .inv in
+block-loop-again t c = let w = c .before .before .before .before .before .before .before .before .before .before .before .before .before .before .before .args .tokens .now in
+    let i₀ = c .before .before .before .before .before .before .before .before .before .before .before .loop .i in
+    let I = c .before .before .before .before .before .before .before .before .before .before .before .loop .inv in
     let S = c .before .before .before .before .before .sentence .ensures .at _ _ (c .before .r .given .1) in
     record {
-      v = addS (I .v) (getD (c .before .before .before .before .before .before .before .before .before .before .before .before .before .before .before .args .tokens .now) (c .before .before .before .before .before .before .before .before .before .before .before .loop .i + 4) 0) (S .f) (S .cs) (S .x) (S .e);
+      v = addS (I .v) (getD w (i₀ + 4) 0) (S .f) (S .cs) (S .x) (S .e);
       ready = S .ready;
       on = let h = S .on in let g = I .on in omega arith;
       few = S .few;
       same = c .before .before .before .before .before .sentence .kept .1 .0 ∙ I .same;
       rows = more-sentences (I .v) _ _ (S .f) (S .cs) (S .x) _ _ _ _ _ (I .count) (I .rows) (S .rows);
-      count = size-sentences (I .v) (getD (c .before .before .before .before .before .before .before .before .before .before .before .before .before .before .before .args .tokens .now) (c .before .before .before .before .before .before .before .before .before .before .before .loop .i + 4) 0) (S .e) (S .f) (S .cs) (S .x) _ _ _ (I .count) (S .count);
-      means = λ p. I .means p ∙ block-more _ _ (I .ready) _ p (I .v) (λ e. c .before .before .before .before .before .before .before .before .before .if2 .taken (c .before .before .before .before .before .before .before .before .before .before .kind .ensures ∙ e)) (λ e. c .before .before .before .before .before .before .before .if3 .left (c .before .before .before .before .before .before .before .before .kind2 .ensures ∙ e)) ∙ S .means p (I .v);
+      count = size-sentences (I .v) (getD w (i₀ + 4) 0) (S .e) (S .f) (S .cs) (S .x) _ _ _ (I .count) (S .count);
+      means = λ p. I .means p ∙ block-more _ _ (I .ready) _ p (I .v) (λ e. c .before .before .before .before .before .before .before .before .before .if2 .taken (c .before .before .before .before .before .before .before .before .before .before .kind .ensures
+          ∙ e)) (λ e. c .before .before .before .before .before .before .before .if3 .left (c .before .before .before .before .before .before .before .before .kind2 .ensures ∙ e)) ∙ S .means p (I .v);
     }
 
 -- src/block.rt:139:16
@@ -312,18 +331,20 @@ block-returns-4 : (t : ℕ) → block-lts.Need-returns-4 (
   sentence-below t,
   sentence.Post,
 ) (block-at t) block.Post block-Inv-loop block-μ-loop
-block-returns-4 t c = let I = c .before .before .loop .inv in
-    let k₈ : getD (c .before .before .before .before .before .before .args .tokens .now) (c .before .before .loop .i) 0 ≡ 8 = sym (c .before .kind .ensures) ∙ c .if2 .left in
+block-returns-4 t c = let w = c .before .before .before .before .before .before .args .tokens .now in
+    let i₀ = c .before .before .loop .i in
+    let I = c .before .before .loop .inv in
+    let k₈ : getD w i₀ 0 ≡ 8 = sym (c .before .kind .ensures) ∙ c .if2 .left in
     is-at refl (record {
       v = I .v;
-      t = tok (c .before .before .before .before .before .before .args .tokens .now) (c .before .before .loop .i);
+      t = tok w i₀;
       some = c .before .before .before .if1 .left;
       ready = ready-next _ _ (I .ready) (other _ _ _ k₈ refl);
       on = let g = I .on in omega arith;
       few = let v = I .few in omega arith;
       rows = I .rows;
       count = I .count;
-      last = end-before (c .before .before .before .before .before .before .args .tokens .now) (c .before .before .loop .i);
+      last = end-before w i₀;
       means = λ p. I .means p ∙ block-close _ _ (I .ready) _ p (I .v) k₈;
     })
 
@@ -346,7 +367,8 @@ condition-add-start : (t : ℕ) → condition-lts.Need-add-start (
   pattern-reads.Asked,
   pattern-reads.Learnt,
 ) (condition-at t) condition.Post
-condition-add-start t c = let R = c .before .before .pre .1 .0 in let h = c .before .before .pre .1 .1 in omega arith
+condition-add-start t c = let pre₀ = c .before .before .pre .1 in
+    let R = pre₀ .0 in let h = pre₀ .1 in omega arith
 
 -- src/block.rt:36:17
 condition-add-first : (t : ℕ) → condition-lts.Need-add-first (
@@ -367,7 +389,8 @@ condition-add-first : (t : ℕ) → condition-lts.Need-add-first (
   pattern-reads.Asked,
   pattern-reads.Learnt,
 ) (condition-at t) condition.Post
-condition-add-first t c = let R = c .before .before .pre .1 .0 in let h = c .before .before .pre .1 .1 in omega arith
+condition-add-first t c = let pre₀ = c .before .before .pre .1 in
+    let R = pre₀ .0 in let h = pre₀ .1 in omega arith
 
 -- src/block.rt:37:9
 condition-clause-requires : (t : ℕ) → condition-lts.Need-clause-requires (
@@ -388,7 +411,8 @@ condition-clause-requires : (t : ℕ) → condition-lts.Need-clause-requires (
   pattern-reads.Asked,
   pattern-reads.Learnt,
 ) (condition-at t) condition.Post
-condition-clause-requires t c κs = let h = c .before .before .before .pre .1 .1 in ((ready-next _ _ (c .before .before .before .pre .1 .0) (other _ _ _ (c .before .before .before .pre .1 .2) refl)), omega arith, omega arith)
+condition-clause-requires t c κs = let pre₀ = c .before .before .before .pre .1 in
+    let h = pre₀ .1 in ((ready-next _ _ (pre₀ .0) (other _ _ _ (pre₀ .2) refl)), omega arith, omega arith)
 
 -- src/block.rt:38:17
 condition-enum-known-r : (t : ℕ) → condition-lts.Need-enum-known-r (
@@ -472,7 +496,12 @@ condition-returns : (t : ℕ) → condition-lts.Need-returns (
   pattern-reads.Asked,
   pattern-reads.Learnt,
 ) (condition-at t) condition.Post
-condition-returns t c = is-no (c .enum-told .given .1) (λ p s st f cs. cond-start _ _ (c .before .before .before .before .before .before .before .before .pre .1 .0) _ p s st f cs (ready-next _ _ (c .before .before .before .before .before .before .before .before .pre .1 .0) (other _ _ _ (c .before .before .before .before .before .before .before .before .pre .1 .2) refl)) (c .before .before .before .before .before .before .before .before .pre .1 .2) ∙ c .before .before .before .before .clause .ensures .no _ _ _ _ _ (c .enum-told .given .1) (argument p s st f cs (getD (c .before .before .before .before .before .before .before .before .args .tokens .now) (c .before .before .before .before .before .before .before .before .args .at + 6 + 4) 0)) (λ (g : Terms) (e : ℕ). matched (c .before .before .before .before .before .before .before .before .args .left) p s st f cs (getD (c .before .before .before .before .before .before .before .before .args .tokens .now) (c .before .before .before .before .before .before .before .before .args .at + 6 + 4) 0) g e) (λ h t y z. refl))
+condition-returns t c = let w = c .before .before .before .before .before .before .before .before .args .tokens .now in
+    let at₀ = c .before .before .before .before .before .before .before .before .args .at in
+    let left₀ = c .before .before .before .before .before .before .before .before .args .left in
+    let pre₀ = c .before .before .before .before .before .before .before .before .pre .1 in
+    is-no (c .enum-told .given .1) (λ p s st f cs. cond-start _ _ (pre₀ .0) _ p s st f cs (ready-next _ _ (pre₀ .0) (other _ _ _ (pre₀ .2) refl)) (pre₀ .2)
+    ∙ c .before .before .before .before .clause .ensures .no _ _ _ _ _ (c .enum-told .given .1) (argument p s st f cs (getD w (at₀ + 6 + 4) 0)) (λ (g : Terms) (e : ℕ). matched left₀ p s st f cs (getD w (at₀ + 6 + 4) 0) g e) (λ h t y z. refl))
 
 -- src/block.rt:41:8
 condition-kind-requires : (t : ℕ) → condition-lts.Need-kind-requires (
@@ -514,7 +543,8 @@ condition-add-row : (t : ℕ) → condition-lts.Need-add-row (
   pattern-reads.Asked,
   pattern-reads.Learnt,
 ) (condition-at t) condition.Post
-condition-add-row t c = let K = c .before .before .before .before .before .before .before .clause .ensures .at _ _ (c .before .before .before .r .given .1) in let R = K .closed .ready in let o = K .closed .on in let w = K .few in omega arith
+condition-add-row t c = let K = c .before .before .before .before .before .before .before .clause .ensures .at _ _ (c .before .before .before .r .given .1) in
+    let R = K .closed .ready in let o = K .closed .on in let v₁ = K .few in omega arith
 
 -- src/block.rt:43:13
 condition-block-requires : (t : ℕ) → condition-lts.Need-block-requires (
@@ -535,7 +565,14 @@ condition-block-requires : (t : ℕ) → condition-lts.Need-block-requires (
   pattern-reads.Asked,
   pattern-reads.Learnt,
 ) (condition-at t) condition.Post
-condition-block-requires t c κs = let K = c .before .before .before .before .before .before .before .before .clause .ensures .at _ _ (c .before .before .before .before .r .given .1) in let R = K .closed .ready in let o = K .closed .on in let w = K .few in let k₇ : getD (c .before .before .before .before .before .before .before .before .before .before .before .before .args .tokens .now) (c .before .before .before .before .r .given .0 .0) 0 ≡ 7 = sym (c .before .before .kind .ensures) ∙ c .before .if1 .taken in let g = c .before .before .before .before .before .before .before .before .before .before .before .before .pre .1 .0 in (omega arith, (R, omega arith, k₇))
+condition-block-requires t c κs = let w = c .before .before .before .before .before .before .before .before .before .before .before .before .args .tokens .now in
+    let j₁ = c .before .before .before .before .r .given .0 .0 in
+    let pre₀ = c .before .before .before .before .before .before .before .before .before .before .before .before .pre .1 in
+    let K = c .before .before .before .before .before .before .before .before .clause .ensures .at _ _ (c .before .before .before .before .r .given .1) in
+    let R = K .closed .ready in
+    let o = K .closed .on in
+    let v₁ = K .few in
+    let k₇ : getD w j₁ 0 ≡ 7 = sym (c .before .before .kind .ensures) ∙ c .before .if1 .taken in let g = pre₀ .0 in (omega arith, (R, omega arith, k₇))
 
 -- src/block.rt:44:21
 condition-enum-known-r2 : (t : ℕ) → condition-lts.Need-enum-known-r2 (
@@ -619,7 +656,17 @@ condition-returns-2 : (t : ℕ) → condition-lts.Need-returns-2 (
   pattern-reads.Asked,
   pattern-reads.Learnt,
 ) (condition-at t) condition.Post
-condition-returns-2 t c = let K = c .before .before .before .before .before .before .before .before .before .before .before .before .before .clause .ensures .at _ _ (c .before .before .before .before .before .before .before .before .before .r .given .1) in let k₇ : getD (c .before .before .before .before .before .before .before .before .before .before .before .before .before .before .before .before .before .args .tokens .now) (c .before .before .before .before .before .before .before .before .before .r .given .0 .0) 0 ≡ 7 = sym (c .before .before .before .before .before .before .before .kind .ensures) ∙ c .before .before .before .before .before .before .if1 .taken in is-no (c .enum-told2 .given .1) (λ p s st f cs. cond-start _ _ (c .before .before .before .before .before .before .before .before .before .before .before .before .before .before .before .before .before .pre .1 .0) _ p s st f cs (ready-next _ _ (c .before .before .before .before .before .before .before .before .before .before .before .before .before .before .before .before .before .pre .1 .0) (other _ _ _ (c .before .before .before .before .before .before .before .before .before .before .before .before .before .before .before .before .before .pre .1 .2) refl)) (c .before .before .before .before .before .before .before .before .before .before .before .before .before .before .before .before .before .pre .1 .2) ∙ K .closed .means (argument p s st f cs (getD (c .before .before .before .before .before .before .before .before .before .before .before .before .before .before .before .before .before .args .tokens .now) (c .before .before .before .before .before .before .before .before .before .before .before .before .before .before .before .before .before .args .at + 6 + 4) 0)) (λ (g : Terms) (e : ℕ). matched (c .before .before .before .before .before .before .before .before .before .before .before .before .before .before .before .before .before .args .left) p s st f cs (getD (c .before .before .before .before .before .before .before .before .before .before .before .before .before .before .before .before .before .args .tokens .now) (c .before .before .before .before .before .before .before .before .before .before .before .before .before .before .before .before .before .args .at + 6 + 4) 0) g e) (λ h t y z. refl) ∙ match-block _ _ (K .closed .ready) _ p s st f cs (getD (c .before .before .before .before .before .before .before .before .before .before .before .before .before .before .before .before .before .args .tokens .now) (c .before .before .before .before .before .before .before .before .before .before .before .before .before .before .before .before .before .args .at + 6 + 4) 0) (K .g) (K .closed .e) k₇ ∙ c .before .before .before .before .block .ensures .no _ _ _ _ _ (c .enum-told2 .given .1) (inCondition p s st f cs (getD (c .before .before .before .before .before .before .before .before .before .before .before .before .before .before .before .before .before .args .tokens .now) (c .before .before .before .before .before .before .before .before .before .before .before .before .before .before .before .before .before .args .at + 6 + 4) 0) (K .g)))
+condition-returns-2 t c = let w = c .before .before .before .before .before .before .before .before .before .before .before .before .before .before .before .before .before .args .tokens .now in
+    let j₁ = c .before .before .before .before .before .before .before .before .before .r .given .0 .0 in
+    let at₀ = c .before .before .before .before .before .before .before .before .before .before .before .before .before .before .before .before .before .args .at in
+    let left₀ = c .before .before .before .before .before .before .before .before .before .before .before .before .before .before .before .before .before .args .left in
+    let pre₀ = c .before .before .before .before .before .before .before .before .before .before .before .before .before .before .before .before .before .pre .1 in
+    let K = c .before .before .before .before .before .before .before .before .before .before .before .before .before .clause .ensures .at _ _ (c .before .before .before .before .before .before .before .before .before .r .given .1) in
+    let k₇ : getD w j₁ 0 ≡ 7 = sym (c .before .before .before .before .before .before .before .kind .ensures) ∙ c .before .before .before .before .before .before .if1 .taken in
+    is-no (c .enum-told2 .given .1) (λ p s st f cs. cond-start _ _ (pre₀ .0) _ p s st f cs (ready-next _ _ (pre₀ .0) (other _ _ _ (pre₀ .2) refl)) (pre₀ .2)
+    ∙ K .closed .means (argument p s st f cs (getD w (at₀ + 6 + 4) 0)) (λ (g : Terms) (e : ℕ). matched left₀ p s st f cs (getD w (at₀ + 6 + 4) 0) g e) (λ h t y z. refl)
+    ∙ match-block _ _ (K .closed .ready) _ p s st f cs (getD w (at₀ + 6 + 4) 0) (K .g) (K .closed .e) k₇
+    ∙ c .before .before .before .before .block .ensures .no _ _ _ _ _ (c .enum-told2 .given .1) (inCondition p s st f cs (getD w (at₀ + 6 + 4) 0) (K .g)))
 
 -- src/block.rt:47:50
 condition-span-from-requires : (t : ℕ) → condition-lts.Need-span-from-requires (
@@ -640,7 +687,8 @@ condition-span-from-requires : (t : ℕ) → condition-lts.Need-span-from-requir
   pattern-reads.Asked,
   pattern-reads.Learnt,
 ) (condition-at t) condition.Post
-condition-span-from-requires t c κs = (ready-next _ _ (c .before .before .before .before .before .before .before .before .before .before .before .before .before .before .before .before .before .before .before .pre .1 .0) (other _ _ _ (c .before .before .before .before .before .before .before .before .before .before .before .before .before .before .before .before .before .before .before .pre .1 .2) refl))
+condition-span-from-requires t c κs = let pre₀ = c .before .before .before .before .before .before .before .before .before .before .before .before .before .before .before .before .before .before .before .pre .1 in
+    (ready-next _ _ (pre₀ .0) (other _ _ _ (pre₀ .2) refl))
 
 -- src/block.rt:47:76
 condition-end-before-requires : (t : ℕ) → condition-lts.Need-end-before-requires (
@@ -661,7 +709,8 @@ condition-end-before-requires : (t : ℕ) → condition-lts.Need-end-before-requ
   pattern-reads.Asked,
   pattern-reads.Learnt,
 ) (condition-at t) condition.Post
-condition-end-before-requires t c κs = let B = c .before .before .before .before .before .before .before .block .ensures .at _ _ (c .before .before .before .r2 .given .1) in let Z = B .ready in let q = B .on in let v = B .few in (B .ready, omega arith)
+condition-end-before-requires t c κs = let B = c .before .before .before .before .before .before .before .block .ensures .at _ _ (c .before .before .before .r2 .given .1) in
+    let Z = B .ready in let q = B .on in let v = B .few in (B .ready, omega arith)
 
 -- src/block.rt:47:9
 condition-put-span-requires : (t : ℕ) → condition-lts.Need-put-span-requires (
@@ -682,7 +731,10 @@ condition-put-span-requires : (t : ℕ) → condition-lts.Need-put-span-requires
   pattern-reads.Asked,
   pattern-reads.Learnt,
 ) (condition-at t) condition.Post
-condition-put-span-requires t c κs = let K = c .before .before .before .before .before .before .before .before .before .before .before .before .before .before .before .before .before .clause .ensures .at _ _ (c .before .before .before .before .before .before .before .before .before .before .before .before .before .r .given .1) in let B = c .before .before .before .before .before .before .before .before .block .ensures .at _ _ (c .before .before .before .before .r2 .given .1) in let R = K .closed .ready in let o = K .closed .on in let w = K .few in let Z = B .ready in let q = B .on in let v = B .few in (omega arith, omega arith)
+condition-put-span-requires t c κs = let K = c .before .before .before .before .before .before .before .before .before .before .before .before .before .before .before .before .before .clause .ensures .at _ _ (c .before .before .before .before .before .before .before .before .before .before .before .before .before .r .given .1) in
+    let B = c .before .before .before .before .before .before .before .before .block .ensures .at _ _ (c .before .before .before .before .r2 .given .1) in
+    let R = K .closed .ready in
+    let o = K .closed .on in let v₁ = K .few in let Z = B .ready in let q = B .on in let v = B .few in (omega arith, omega arith)
 
 -- src/block.rt:48:44
 condition-span-from-requires-2 : (t : ℕ) → condition-lts.Need-span-from-requires-2 (
@@ -703,7 +755,8 @@ condition-span-from-requires-2 : (t : ℕ) → condition-lts.Need-span-from-requ
   pattern-reads.Asked,
   pattern-reads.Learnt,
 ) (condition-at t) condition.Post
-condition-span-from-requires-2 t c κs = (ready-next _ _ (c .before .before .before .before .before .before .before .before .before .before .before .before .before .before .before .before .before .before .before .before .before .before .before .before .before .pre .1 .0) (other _ _ _ (c .before .before .before .before .before .before .before .before .before .before .before .before .before .before .before .before .before .before .before .before .before .before .before .before .before .pre .1 .2) refl))
+condition-span-from-requires-2 t c κs = let pre₀ = c .before .before .before .before .before .before .before .before .before .before .before .before .before .before .before .before .before .before .before .before .before .before .before .before .before .pre .1 in
+    (ready-next _ _ (pre₀ .0) (other _ _ _ (pre₀ .2) refl))
 
 -- src/block.rt:48:70
 condition-end-before-requires-2 : (t : ℕ) → condition-lts.Need-end-before-requires-2 (
@@ -724,7 +777,8 @@ condition-end-before-requires-2 : (t : ℕ) → condition-lts.Need-end-before-re
   pattern-reads.Asked,
   pattern-reads.Learnt,
 ) (condition-at t) condition.Post
-condition-end-before-requires-2 t c κs = let B = c .before .before .before .before .before .before .before .before .before .before .before .before .before .block .ensures .at _ _ (c .before .before .before .before .before .before .before .before .before .r2 .given .1) in let Z = B .ready in let q = B .on in let v = B .few in (B .ready, omega arith)
+condition-end-before-requires-2 t c κs = let B = c .before .before .before .before .before .before .before .before .before .before .before .before .before .block .ensures .at _ _ (c .before .before .before .before .before .before .before .before .before .r2 .given .1) in
+    let Z = B .ready in let q = B .on in let v = B .few in (B .ready, omega arith)
 
 -- src/block.rt:48:9
 condition-put-span-requires-2 : (t : ℕ) → condition-lts.Need-put-span-requires-2 (
@@ -745,7 +799,9 @@ condition-put-span-requires-2 : (t : ℕ) → condition-lts.Need-put-span-requir
   pattern-reads.Asked,
   pattern-reads.Learnt,
 ) (condition-at t) condition.Post
-condition-put-span-requires-2 t c κs = let B = c .before .before .before .before .before .before .before .before .before .before .before .before .before .before .block .ensures .at _ _ (c .before .before .before .before .before .before .before .before .before .before .r2 .given .1) in let Z = B .ready in let q = B .on in let v = B .few in let h = c .before .before .before .before .before .before .before .before .before .before .before .before .before .before .before .before .before .before .before .before .before .before .before .before .before .before .before .pre .1 .1 in let g = c .before .before .before .before .before .before .before .before .before .before .before .before .before .before .before .before .before .before .before .before .before .before .before .before .before .before .before .pre .1 .0 in (omega arith, omega arith)
+condition-put-span-requires-2 t c κs = let pre₀ = c .before .before .before .before .before .before .before .before .before .before .before .before .before .before .before .before .before .before .before .before .before .before .before .before .before .before .before .pre .1 in
+    let B = c .before .before .before .before .before .before .before .before .before .before .before .before .before .before .block .ensures .at _ _ (c .before .before .before .before .before .before .before .before .before .before .r2 .given .1) in
+    let Z = B .ready in let q = B .on in let v = B .few in let h = pre₀ .1 in let g = pre₀ .0 in (omega arith, omega arith)
 
 -- src/block.rt:49:9
 condition-joins-requires : (t : ℕ) → condition-lts.Need-joins-requires (
@@ -787,7 +843,10 @@ condition-same-length-3 : (t : ℕ) → condition-lts.Need-same-length-3 (
   pattern-reads.Asked,
   pattern-reads.Learnt,
 ) (condition-at t) condition.Post
-condition-same-length-3 t c = c .before .before .before .put-span2 .kept .0 ∙ c .before .before .before .before .before .before .before .before .before .put-span .kept .0 ∙ c .before .before .before .before .before .before .before .before .before .before .before .before .before .before .before .before .before .before .block .kept .1 .0 ∙ c .before .before .before .before .before .before .before .before .before .before .before .before .before .before .before .before .before .before .before .before .before .before .before .before .before .before .before .clause .kept .1 .0
+condition-same-length-3 t c = c .before .before .before .put-span2 .kept .0
+    ∙ c .before .before .before .before .before .before .before .before .before .put-span .kept .0
+    ∙ c .before .before .before .before .before .before .before .before .before .before .before .before .before .before .before .before .before .before .block .kept .1 .0
+    ∙ c .before .before .before .before .before .before .before .before .before .before .before .before .before .before .before .before .before .before .before .before .before .before .before .before .before .before .before .clause .kept .1 .0
 
 -- src/block.rt:49:9
 condition-returns-3 : (t : ℕ) → condition-lts.Need-returns-3 (
@@ -808,23 +867,39 @@ condition-returns-3 : (t : ℕ) → condition-lts.Need-returns-3 (
   pattern-reads.Asked,
   pattern-reads.Learnt,
 ) (condition-at t) condition.Post
-condition-returns-3 t c = let K = c .before .before .before .before .before .before .before .before .before .before .before .before .before .before .before .before .before .before .before .before .before .before .before .before .before .before .before .clause .ensures .at _ _ (c .before .before .before .before .before .before .before .before .before .before .before .before .before .before .before .before .before .before .before .before .before .before .before .r .given .1) in
+condition-returns-3 t c = let w = c .before .before .before .before .before .before .before .before .before .before .before .before .before .before .before .before .before .before .before .before .before .before .before .before .before .before .before .before .before .before .before .args .tokens .now in
+    let j₁ = c .before .before .before .before .before .before .before .before .before .before .before .before .before .before .before .before .before .before .before .before .before .before .before .r .given .0 .0 in
+    let j₂ = c .before .before .before .before .before .before .before .before .before .before .before .before .before .before .r2 .given .0 .0 in
+    let at₀ = c .before .before .before .before .before .before .before .before .before .before .before .before .before .before .before .before .before .before .before .before .before .before .before .before .before .before .before .before .before .before .before .args .at in
+    let left₀ = c .before .before .before .before .before .before .before .before .before .before .before .before .before .before .before .before .before .before .before .before .before .before .before .before .before .before .before .before .before .before .before .args .left in
+    let pre₀ = c .before .before .before .before .before .before .before .before .before .before .before .before .before .before .before .before .before .before .before .before .before .before .before .before .before .before .before .before .before .before .before .pre .1 in
+    let K = c .before .before .before .before .before .before .before .before .before .before .before .before .before .before .before .before .before .before .before .before .before .before .before .before .before .before .before .clause .ensures .at _ _ (c .before .before .before .before .before .before .before .before .before .before .before .before .before .before .before .before .before .before .before .before .before .before .before .r .given .1) in
     let B = c .before .before .before .before .before .before .before .before .before .before .before .before .before .before .before .before .before .before .block .ensures .at _ _ (c .before .before .before .before .before .before .before .before .before .before .before .before .before .before .r2 .given .1) in
-    let k₇ : getD (c .before .before .before .before .before .before .before .before .before .before .before .before .before .before .before .before .before .before .before .before .before .before .before .before .before .before .before .before .before .before .before .args .tokens .now) (c .before .before .before .before .before .before .before .before .before .before .before .before .before .before .before .before .before .before .before .before .before .before .before .r .given .0 .0) 0 ≡ 7 = sym (c .before .before .before .before .before .before .before .before .before .before .before .before .before .before .before .before .before .before .before .before .before .kind .ensures) ∙ c .before .before .before .before .before .before .before .before .before .before .before .before .before .before .before .before .before .before .before .before .if1 .taken in
+    let k₇ : getD w j₁ 0 ≡ 7 = sym (c .before .before .before .before .before .before .before .before .before .before .before .before .before .before .before .before .before .before .before .before .before .kind .ensures) ∙ c .before .before .before .before .before .before .before .before .before .before .before .before .before .before .before .before .before .before .before .before .if1 .taken in
     record {
       at = λ j m e.
           let N = c .joins .ensures .at j m e in
           record {
-            x = withBlock (getD (c .before .before .before .before .before .before .before .before .before .before .before .before .before .before .before .before .before .before .before .before .before .before .before .before .before .before .before .before .before .before .before .args .tokens .now) (c .before .before .before .before .before .before .before .before .before .before .before .before .before .before .before .before .before .before .before .before .before .before .before .before .before .before .before .before .before .before .before .args .at + 6 + 4) 0) (K .g) (B .v) (B .t .to);
+            x = withBlock (getD w (at₀ + 6 + 4) 0) (K .g) (B .v) (B .t .to);
             ready = N .ready;
             on = let o = K .closed .on in let q = B .on in let y = N .stays in omega arith;
             few = let v = B .few in let y = N .stays in let z = N .rows in omega arith;
             rows = let h₁ = K .rows in let h₂ = B .rows in let h₃ = K .count in let h₄ = B .count in let h₅ = B .last in cc;
             count = let h₃ = K .count in let h₄ = B .count in let z = N .rows in omega arith;
             joint = N .joint;
-            means = λ p s st f cs. cond-start _ _ (c .before .before .before .before .before .before .before .before .before .before .before .before .before .before .before .before .before .before .before .before .before .before .before .before .before .before .before .before .before .before .before .pre .1 .0) _ p s st f cs (ready-next _ _ (c .before .before .before .before .before .before .before .before .before .before .before .before .before .before .before .before .before .before .before .before .before .before .before .before .before .before .before .before .before .before .before .pre .1 .0) (other _ _ _ (c .before .before .before .before .before .before .before .before .before .before .before .before .before .before .before .before .before .before .before .before .before .before .before .before .before .before .before .before .before .before .before .pre .1 .2) refl)) (c .before .before .before .before .before .before .before .before .before .before .before .before .before .before .before .before .before .before .before .before .before .before .before .before .before .before .before .before .before .before .before .pre .1 .2) ∙ K .closed .means (argument p s st f cs (getD (c .before .before .before .before .before .before .before .before .before .before .before .before .before .before .before .before .before .before .before .before .before .before .before .before .before .before .before .before .before .before .before .args .tokens .now) (c .before .before .before .before .before .before .before .before .before .before .before .before .before .before .before .before .before .before .before .before .before .before .before .before .before .before .before .before .before .before .before .args .at + 6 + 4) 0)) (λ (g : Terms) (e : ℕ). matched (c .before .before .before .before .before .before .before .before .before .before .before .before .before .before .before .before .before .before .before .before .before .before .before .before .before .before .before .before .before .before .before .args .left) p s st f cs (getD (c .before .before .before .before .before .before .before .before .before .before .before .before .before .before .before .before .before .before .before .before .before .before .before .before .before .before .before .before .before .before .before .args .tokens .now) (c .before .before .before .before .before .before .before .before .before .before .before .before .before .before .before .before .before .before .before .before .before .before .before .before .before .before .before .before .before .before .before .args .at + 6 + 4) 0) g e) (λ h t y z. refl) ∙ match-block _ _ (K .closed .ready) _ p s st f cs (getD (c .before .before .before .before .before .before .before .before .before .before .before .before .before .before .before .before .before .before .before .before .before .before .before .before .before .before .before .before .before .before .before .args .tokens .now) (c .before .before .before .before .before .before .before .before .before .before .before .before .before .before .before .before .before .before .before .before .before .before .before .before .before .before .before .before .before .before .before .args .at + 6 + 4) 0) (K .g) (K .closed .e) k₇ ∙ B .means (inCondition p s st f cs (getD (c .before .before .before .before .before .before .before .before .before .before .before .before .before .before .before .before .before .before .before .before .before .before .before .before .before .before .before .before .before .before .before .args .tokens .now) (c .before .before .before .before .before .before .before .before .before .before .before .before .before .before .before .before .before .before .before .before .before .before .before .before .before .before .before .before .before .before .before .args .at + 6 + 4) 0) (K .g)) ∙ leveled (c .before .before .before .before .before .before .before .before .before .before .before .before .before .before .before .before .before .before .before .before .before .before .before .before .before .before .before .before .before .before .before .args .tokens .now) (c .before .before .before .before .before .before .before .before .before .before .before .before .before .before .r2 .given .0 .0) (c .before .before .before .before .before .before .before .before .before .before .before .before .before .before .before .before .before .before .before .before .before .before .before .before .before .before .before .before .before .before .before .args .left) (λ (d : ℕ). conditioned d p s st f (cBlock cs (getD (c .before .before .before .before .before .before .before .before .before .before .before .before .before .before .before .before .before .before .before .before .before .before .before .before .before .before .before .before .before .before .before .args .tokens .now) (c .before .before .before .before .before .before .before .before .before .before .before .before .before .before .before .before .before .before .before .before .before .before .before .before .before .before .before .before .before .before .before .args .at + 6 + 4) 0) (K .g) (getD (c .before .before .before .before .before .before .before .before .before .before .before .before .before .before .before .before .before .before .before .before .before .before .before .before .before .before .before .before .before .before .before .args .tokens .now) (c .before .before .before .before .before .before .before .before .before .before .before .before .before .before .before .before .before .before .before .before .before .before .before .before .before .before .before .before .before .before .before .args .at + 6 + 4) 0) (B .v) (B .t .to) (B .t .to))) (B .some) ∙ moved (c .before .before .before .before .before .before .before .before .before .before .before .before .before .before .before .before .before .before .before .before .before .before .before .before .before .before .before .before .before .before .before .args .tokens .now) (c .before .before .before .before .before .before .before .before .before .before .before .before .before .before .r2 .given .0 .0) j (conditioned (c .before .before .before .before .before .before .before .before .before .before .before .before .before .before .before .before .before .before .before .before .before .before .before .before .before .before .before .before .before .before .before .args .left) p s st f (cBlock cs (getD (c .before .before .before .before .before .before .before .before .before .before .before .before .before .before .before .before .before .before .before .before .before .before .before .before .before .before .before .before .before .before .before .args .tokens .now) (c .before .before .before .before .before .before .before .before .before .before .before .before .before .before .before .before .before .before .before .before .before .before .before .before .before .before .before .before .before .before .before .args .at + 6 + 4) 0) (K .g) (getD (c .before .before .before .before .before .before .before .before .before .before .before .before .before .before .before .before .before .before .before .before .before .before .before .before .before .before .before .before .before .before .before .args .tokens .now) (c .before .before .before .before .before .before .before .before .before .before .before .before .before .before .before .before .before .before .before .before .before .before .before .before .before .before .before .before .before .before .before .args .at + 6 + 4) 0) (B .v) (B .t .to) (B .t .to))) (N .stays);
+            means = λ p s st f cs. cond-start _ _ (pre₀ .0) _ p s st f cs (ready-next _ _ (pre₀ .0) (other _ _ _ (pre₀ .2) refl)) (pre₀ .2)
+                ∙ K .closed .means (argument p s st f cs (getD w (at₀ + 6 + 4) 0)) (λ (g : Terms) (e : ℕ). matched left₀ p s st f cs (getD w (at₀ + 6 + 4) 0) g e) (λ h t y z. refl)
+                ∙ match-block _ _ (K .closed .ready) _ p s st f cs (getD w (at₀ + 6 + 4) 0) (K .g) (K .closed .e) k₇
+                ∙ B .means (inCondition p s st f cs (getD w (at₀ + 6 + 4) 0) (K .g))
+                ∙ leveled w j₂ left₀ (λ (d : ℕ). conditioned d p s st f (cBlock cs (getD w (at₀ + 6 + 4) 0) (K .g) (getD w (at₀ + 6 + 4) 0) (B .v) (B .t .to) (B .t .to))) (B .some)
+                ∙ moved w j₂ j (conditioned left₀ p s st f (cBlock cs (getD w (at₀ + 6 + 4) 0) (K .g) (getD w (at₀ + 6 + 4) 0) (B .v) (B .t .to) (B .t .to))) (N .stays);
           };
-      no = λ a b k d e q. λ p s st f cs. cond-start _ _ (c .before .before .before .before .before .before .before .before .before .before .before .before .before .before .before .before .before .before .before .before .before .before .before .before .before .before .before .before .before .before .before .pre .1 .0) _ p s st f cs (ready-next _ _ (c .before .before .before .before .before .before .before .before .before .before .before .before .before .before .before .before .before .before .before .before .before .before .before .before .before .before .before .before .before .before .before .pre .1 .0) (other _ _ _ (c .before .before .before .before .before .before .before .before .before .before .before .before .before .before .before .before .before .before .before .before .before .before .before .before .before .before .before .before .before .before .before .pre .1 .2) refl)) (c .before .before .before .before .before .before .before .before .before .before .before .before .before .before .before .before .before .before .before .before .before .before .before .before .before .before .before .before .before .before .before .pre .1 .2) ∙ K .closed .means (argument p s st f cs (getD (c .before .before .before .before .before .before .before .before .before .before .before .before .before .before .before .before .before .before .before .before .before .before .before .before .before .before .before .before .before .before .before .args .tokens .now) (c .before .before .before .before .before .before .before .before .before .before .before .before .before .before .before .before .before .before .before .before .before .before .before .before .before .before .before .before .before .before .before .args .at + 6 + 4) 0)) (λ (g : Terms) (e : ℕ). matched (c .before .before .before .before .before .before .before .before .before .before .before .before .before .before .before .before .before .before .before .before .before .before .before .before .before .before .before .before .before .before .before .args .left) p s st f cs (getD (c .before .before .before .before .before .before .before .before .before .before .before .before .before .before .before .before .before .before .before .before .before .before .before .before .before .before .before .before .before .before .before .args .tokens .now) (c .before .before .before .before .before .before .before .before .before .before .before .before .before .before .before .before .before .before .before .before .before .before .before .before .before .before .before .before .before .before .before .args .at + 6 + 4) 0) g e) (λ h t y z. refl) ∙ match-block _ _ (K .closed .ready) _ p s st f cs (getD (c .before .before .before .before .before .before .before .before .before .before .before .before .before .before .before .before .before .before .before .before .before .before .before .before .before .before .before .before .before .before .before .args .tokens .now) (c .before .before .before .before .before .before .before .before .before .before .before .before .before .before .before .before .before .before .before .before .before .before .before .before .before .before .before .before .before .before .before .args .at + 6 + 4) 0) (K .g) (K .closed .e) k₇ ∙ B .means (inCondition p s st f cs (getD (c .before .before .before .before .before .before .before .before .before .before .before .before .before .before .before .before .before .before .before .before .before .before .before .before .before .before .before .before .before .before .before .args .tokens .now) (c .before .before .before .before .before .before .before .before .before .before .before .before .before .before .before .before .before .before .before .before .before .before .before .before .before .before .before .before .before .before .before .args .at + 6 + 4) 0) (K .g)) ∙ leveled (c .before .before .before .before .before .before .before .before .before .before .before .before .before .before .before .before .before .before .before .before .before .before .before .before .before .before .before .before .before .before .before .args .tokens .now) (c .before .before .before .before .before .before .before .before .before .before .before .before .before .before .r2 .given .0 .0) (c .before .before .before .before .before .before .before .before .before .before .before .before .before .before .before .before .before .before .before .before .before .before .before .before .before .before .before .before .before .before .before .args .left) (λ (d : ℕ). conditioned d p s st f (cBlock cs (getD (c .before .before .before .before .before .before .before .before .before .before .before .before .before .before .before .before .before .before .before .before .before .before .before .before .before .before .before .before .before .before .before .args .tokens .now) (c .before .before .before .before .before .before .before .before .before .before .before .before .before .before .before .before .before .before .before .before .before .before .before .before .before .before .before .before .before .before .before .args .at + 6 + 4) 0) (K .g) (getD (c .before .before .before .before .before .before .before .before .before .before .before .before .before .before .before .before .before .before .before .before .before .before .before .before .before .before .before .before .before .before .before .args .tokens .now) (c .before .before .before .before .before .before .before .before .before .before .before .before .before .before .before .before .before .before .before .before .before .before .before .before .before .before .before .before .before .before .before .args .at + 6 + 4) 0) (B .v) (B .t .to) (B .t .to))) (B .some) ∙ c .joins .ensures .no a b k d e q (c .before .before .before .before .before .before .before .before .before .before .before .before .before .before .before .before .before .before .before .before .before .before .before .before .before .before .before .before .before .before .before .args .left) p s st f (cBlock cs (getD (c .before .before .before .before .before .before .before .before .before .before .before .before .before .before .before .before .before .before .before .before .before .before .before .before .before .before .before .before .before .before .before .args .tokens .now) (c .before .before .before .before .before .before .before .before .before .before .before .before .before .before .before .before .before .before .before .before .before .before .before .before .before .before .before .before .before .before .before .args .at + 6 + 4) 0) (K .g) (getD (c .before .before .before .before .before .before .before .before .before .before .before .before .before .before .before .before .before .before .before .before .before .before .before .before .before .before .before .before .before .before .before .args .tokens .now) (c .before .before .before .before .before .before .before .before .before .before .before .before .before .before .before .before .before .before .before .before .before .before .before .before .before .before .before .before .before .before .before .args .at + 6 + 4) 0) (B .v) (B .t .to) (B .t .to));
+      no = λ a b k d e q. λ p s st f cs. cond-start _ _ (pre₀ .0) _ p s st f cs (ready-next _ _ (pre₀ .0) (other _ _ _ (pre₀ .2) refl)) (pre₀ .2)
+          ∙ K .closed .means (argument p s st f cs (getD w (at₀ + 6 + 4) 0)) (λ (g : Terms) (e : ℕ). matched left₀ p s st f cs (getD w (at₀ + 6 + 4) 0) g e) (λ h t y z. refl)
+          ∙ match-block _ _ (K .closed .ready) _ p s st f cs (getD w (at₀ + 6 + 4) 0) (K .g) (K .closed .e) k₇
+          ∙ B .means (inCondition p s st f cs (getD w (at₀ + 6 + 4) 0) (K .g))
+          ∙ leveled w j₂ left₀ (λ (d : ℕ). conditioned d p s st f (cBlock cs (getD w (at₀ + 6 + 4) 0) (K .g) (getD w (at₀ + 6 + 4) 0) (B .v) (B .t .to) (B .t .to))) (B .some)
+          ∙ c .joins .ensures .no a b k d e q left₀ p s st f (cBlock cs (getD w (at₀ + 6 + 4) 0) (K .g) (getD w (at₀ + 6 + 4) 0) (B .v) (B .t .to) (B .t .to));
     }
 
 -- src/block.rt:51:9
@@ -846,7 +921,8 @@ condition-pattern-requires : (t : ℕ) → condition-lts.Need-pattern-requires (
   pattern-reads.Asked,
   pattern-reads.Learnt,
 ) (condition-at t) condition.Post
-condition-pattern-requires t c κs = let K = c .before .before .before .before .before .before .before .before .clause .ensures .at _ _ (c .before .before .before .before .r .given .1) in let R = K .closed .ready in let o = K .closed .on in let w = K .few in (R, omega arith)
+condition-pattern-requires t c κs = let K = c .before .before .before .before .before .before .before .before .clause .ensures .at _ _ (c .before .before .before .before .r .given .1) in
+    let R = K .closed .ready in let o = K .closed .on in let v₁ = K .few in (R, omega arith)
 
 -- src/block.rt:52:17
 condition-enum-known-r3 : (t : ℕ) → condition-lts.Need-enum-known-r3 (
@@ -930,7 +1006,16 @@ condition-returns-4 : (t : ℕ) → condition-lts.Need-returns-4 (
   pattern-reads.Asked,
   pattern-reads.Learnt,
 ) (condition-at t) condition.Post
-condition-returns-4 t c = let K = c .before .before .before .before .before .before .before .before .before .before .before .before .before .clause .ensures .at _ _ (c .before .before .before .before .before .before .before .before .before .r .given .1) in is-no (c .enum-told3 .given .1) (λ p s st f cs. cond-start _ _ (c .before .before .before .before .before .before .before .before .before .before .before .before .before .before .before .before .before .pre .1 .0) _ p s st f cs (ready-next _ _ (c .before .before .before .before .before .before .before .before .before .before .before .before .before .before .before .before .before .pre .1 .0) (other _ _ _ (c .before .before .before .before .before .before .before .before .before .before .before .before .before .before .before .before .before .pre .1 .2) refl)) (c .before .before .before .before .before .before .before .before .before .before .before .before .before .before .before .before .before .pre .1 .2) ∙ K .closed .means (argument p s st f cs (getD (c .before .before .before .before .before .before .before .before .before .before .before .before .before .before .before .before .before .args .tokens .now) (c .before .before .before .before .before .before .before .before .before .before .before .before .before .before .before .before .before .args .at + 6 + 4) 0)) (λ (g : Terms) (e : ℕ). matched (c .before .before .before .before .before .before .before .before .before .before .before .before .before .before .before .before .before .args .left) p s st f cs (getD (c .before .before .before .before .before .before .before .before .before .before .before .before .before .before .before .before .before .args .tokens .now) (c .before .before .before .before .before .before .before .before .before .before .before .before .before .before .before .before .before .args .at + 6 + 4) 0) g e) (λ h t y z. refl) ∙ match-terms _ _ (K .closed .ready) _ p s st f cs (getD (c .before .before .before .before .before .before .before .before .before .before .before .before .before .before .before .before .before .args .tokens .now) (c .before .before .before .before .before .before .before .before .before .before .before .before .before .before .before .before .before .args .at + 6 + 4) 0) (K .g) (K .closed .e) (λ e. c .before .before .before .before .before .before .if1 .left (c .before .before .before .before .before .before .before .kind .ensures ∙ e)) ∙ c .before .before .before .before .pattern .ensures .no _ _ _ _ _ (c .enum-told3 .given .1) (matching p s st f cs (getD (c .before .before .before .before .before .before .before .before .before .before .before .before .before .before .before .before .before .args .tokens .now) (c .before .before .before .before .before .before .before .before .before .before .before .before .before .before .before .before .before .args .at + 6 + 4) 0) (K .g) (K .closed .e)) p s st (λ (h : Terms). f) (λ (h : Terms). cTerms cs (getD (c .before .before .before .before .before .before .before .before .before .before .before .before .before .before .before .before .before .args .tokens .now) (c .before .before .before .before .before .before .before .before .before .before .before .before .before .before .before .before .before .args .at + 6 + 4) 0) (K .g) h (lastEnd h (K .closed .e))) (λ h t y z. refl))
+condition-returns-4 t c = let w = c .before .before .before .before .before .before .before .before .before .before .before .before .before .before .before .before .before .args .tokens .now in
+    let at₀ = c .before .before .before .before .before .before .before .before .before .before .before .before .before .before .before .before .before .args .at in
+    let left₀ = c .before .before .before .before .before .before .before .before .before .before .before .before .before .before .before .before .before .args .left in
+    let pre₀ = c .before .before .before .before .before .before .before .before .before .before .before .before .before .before .before .before .before .pre .1 in
+    let K = c .before .before .before .before .before .before .before .before .before .before .before .before .before .clause .ensures .at _ _ (c .before .before .before .before .before .before .before .before .before .r .given .1) in
+    is-no (c .enum-told3 .given .1) (λ p s st f cs. cond-start _ _ (pre₀ .0) _ p s st f cs (ready-next _ _ (pre₀ .0) (other _ _ _ (pre₀ .2) refl)) (pre₀ .2)
+    ∙ K .closed .means (argument p s st f cs (getD w (at₀ + 6 + 4) 0)) (λ (g : Terms) (e : ℕ). matched left₀ p s st f cs (getD w (at₀ + 6 + 4) 0) g e) (λ h t y z. refl)
+    ∙ match-terms _ _ (K .closed .ready) _ p s st f cs (getD w (at₀ + 6 + 4) 0) (K .g) (K .closed .e) (λ e. c .before .before .before .before .before .before .if1 .left (c .before .before .before .before .before .before .before .kind .ensures
+    ∙ e))
+    ∙ c .before .before .before .before .pattern .ensures .no _ _ _ _ _ (c .enum-told3 .given .1) (matching p s st f cs (getD w (at₀ + 6 + 4) 0) (K .g) (K .closed .e)) p s st (λ (h : Terms). f) (λ (h : Terms). cTerms cs (getD w (at₀ + 6 + 4) 0) (K .g) h (lastEnd h (K .closed .e))) (λ h t y z. refl))
 
 -- src/block.rt:55:40
 condition-span-from-requires-3 : (t : ℕ) → condition-lts.Need-span-from-requires-3 (
@@ -951,7 +1036,8 @@ condition-span-from-requires-3 : (t : ℕ) → condition-lts.Need-span-from-requ
   pattern-reads.Asked,
   pattern-reads.Learnt,
 ) (condition-at t) condition.Post
-condition-span-from-requires-3 t c κs = (ready-next _ _ (c .before .before .before .before .before .before .before .before .before .before .before .before .before .before .before .before .before .before .before .pre .1 .0) (other _ _ _ (c .before .before .before .before .before .before .before .before .before .before .before .before .before .before .before .before .before .before .before .pre .1 .2) refl))
+condition-span-from-requires-3 t c κs = let pre₀ = c .before .before .before .before .before .before .before .before .before .before .before .before .before .before .before .before .before .before .before .pre .1 in
+    (ready-next _ _ (pre₀ .0) (other _ _ _ (pre₀ .2) refl))
 
 -- src/block.rt:55:66
 condition-end-before-requires-3 : (t : ℕ) → condition-lts.Need-end-before-requires-3 (
@@ -972,7 +1058,8 @@ condition-end-before-requires-3 : (t : ℕ) → condition-lts.Need-end-before-re
   pattern-reads.Asked,
   pattern-reads.Learnt,
 ) (condition-at t) condition.Post
-condition-end-before-requires-3 t c κs = let K = c .before .before .before .before .before .before .before .before .before .before .before .before .before .before .before .before .clause .ensures .at _ _ (c .before .before .before .before .before .before .before .before .before .before .before .before .r .given .1) in let Q = c .before .before .before .before .before .before .before .pattern .ensures .at _ _ (c .before .before .before .r3 .given .1) in let o = K .closed .on in let q = Q .on in (Q .ready, omega arith)
+condition-end-before-requires-3 t c κs = let K = c .before .before .before .before .before .before .before .before .before .before .before .before .before .before .before .before .clause .ensures .at _ _ (c .before .before .before .before .before .before .before .before .before .before .before .before .r .given .1) in
+    let Q = c .before .before .before .before .before .before .before .pattern .ensures .at _ _ (c .before .before .before .r3 .given .1) in let o = K .closed .on in let q = Q .on in (Q .ready, omega arith)
 
 -- src/block.rt:55:5
 condition-put-span-requires-3 : (t : ℕ) → condition-lts.Need-put-span-requires-3 (
@@ -993,7 +1080,9 @@ condition-put-span-requires-3 : (t : ℕ) → condition-lts.Need-put-span-requir
   pattern-reads.Asked,
   pattern-reads.Learnt,
 ) (condition-at t) condition.Post
-condition-put-span-requires-3 t c κs = let Q = c .before .before .before .before .before .before .before .before .pattern .ensures .at _ _ (c .before .before .before .before .r3 .given .1) in let Z = Q .ready in let v = Q .few in let h = c .before .before .before .before .before .before .before .before .before .before .before .before .before .before .before .before .before .before .before .before .before .pre .1 .1 in let g = c .before .before .before .before .before .before .before .before .before .before .before .before .before .before .before .before .before .before .before .before .before .pre .1 .0 in (omega arith, omega arith)
+condition-put-span-requires-3 t c κs = let pre₀ = c .before .before .before .before .before .before .before .before .before .before .before .before .before .before .before .before .before .before .before .before .before .pre .1 in
+    let Q = c .before .before .before .before .before .before .before .before .pattern .ensures .at _ _ (c .before .before .before .before .r3 .given .1) in
+    let Z = Q .ready in let v = Q .few in let h = pre₀ .1 in let g = pre₀ .0 in (omega arith, omega arith)
 
 -- src/block.rt:31:1
 condition-same-length-5 : (t : ℕ) → condition-lts.Need-same-length-5 (
@@ -1035,17 +1124,26 @@ condition-returns-5 : (t : ℕ) → condition-lts.Need-returns-5 (
   pattern-reads.Asked,
   pattern-reads.Learnt,
 ) (condition-at t) condition.Post
-condition-returns-5 t c = let K = c .before .before .before .before .before .before .before .before .before .before .before .before .before .before .before .before .before .before .before .before .clause .ensures .at _ _ (c .before .before .before .before .before .before .before .before .before .before .before .before .before .before .before .before .r .given .1) in
+condition-returns-5 t c = let w = c .before .before .before .before .before .before .before .before .before .before .before .before .before .before .before .before .before .before .before .before .before .before .before .before .args .tokens .now in
+    let at₀ = c .before .before .before .before .before .before .before .before .before .before .before .before .before .before .before .before .before .before .before .before .before .before .before .before .args .at in
+    let left₀ = c .before .before .before .before .before .before .before .before .before .before .before .before .before .before .before .before .before .before .before .before .before .before .before .before .args .left in
+    let pre₀ = c .before .before .before .before .before .before .before .before .before .before .before .before .before .before .before .before .before .before .before .before .before .before .before .before .pre .1 in
+    let K = c .before .before .before .before .before .before .before .before .before .before .before .before .before .before .before .before .before .before .before .before .clause .ensures .at _ _ (c .before .before .before .before .before .before .before .before .before .before .before .before .before .before .before .before .r .given .1) in
     let Q = c .before .before .before .before .before .before .before .before .before .before .before .pattern .ensures .at _ _ (c .before .before .before .before .before .before .before .r3 .given .1) in
     is-at refl (record {
-      x = withTerms (getD (c .before .before .before .before .before .before .before .before .before .before .before .before .before .before .before .before .before .before .before .before .before .before .before .before .args .tokens .now) (c .before .before .before .before .before .before .before .before .before .before .before .before .before .before .before .before .before .before .before .before .before .before .before .before .args .at + 6 + 4) 0) (K .g) (Q .g) (lastEnd (Q .g) (K .closed .e));
+      x = withTerms (getD w (at₀ + 6 + 4) 0) (K .g) (Q .g) (lastEnd (Q .g) (K .closed .e));
       ready = Q .ready;
       on = let o = K .closed .on in let q = Q .on in omega arith;
       few = Q .few;
-      rows = let h₁ = K .rows in let h₂ = Q .rows in let h₃ = K .count in let h₄ = Q .count in let h₅ = ap (λ (z : ℕ). lastEnd (Q .g) z) (K .closed .last) ∙ Q .last in cc;
+      rows = let h₁ = K .rows in let h₂ = Q .rows in let h₃ = K .count in let h₄ = Q .count in let h₅ = ap (λ (z : ℕ). lastEnd (Q .g) z) (K .closed .last)
+          ∙ Q .last in cc;
       count = let h₃ = K .count in let h₄ = Q .count in omega arith;
       joint = Q .joint;
-      means = λ p s st f cs. cond-start _ _ (c .before .before .before .before .before .before .before .before .before .before .before .before .before .before .before .before .before .before .before .before .before .before .before .before .pre .1 .0) _ p s st f cs (ready-next _ _ (c .before .before .before .before .before .before .before .before .before .before .before .before .before .before .before .before .before .before .before .before .before .before .before .before .pre .1 .0) (other _ _ _ (c .before .before .before .before .before .before .before .before .before .before .before .before .before .before .before .before .before .before .before .before .before .before .before .before .pre .1 .2) refl)) (c .before .before .before .before .before .before .before .before .before .before .before .before .before .before .before .before .before .before .before .before .before .before .before .before .pre .1 .2) ∙ K .closed .means (argument p s st f cs (getD (c .before .before .before .before .before .before .before .before .before .before .before .before .before .before .before .before .before .before .before .before .before .before .before .before .args .tokens .now) (c .before .before .before .before .before .before .before .before .before .before .before .before .before .before .before .before .before .before .before .before .before .before .before .before .args .at + 6 + 4) 0)) (λ (g : Terms) (e : ℕ). matched (c .before .before .before .before .before .before .before .before .before .before .before .before .before .before .before .before .before .before .before .before .before .before .before .before .args .left) p s st f cs (getD (c .before .before .before .before .before .before .before .before .before .before .before .before .before .before .before .before .before .before .before .before .before .before .before .before .args .tokens .now) (c .before .before .before .before .before .before .before .before .before .before .before .before .before .before .before .before .before .before .before .before .before .before .before .before .args .at + 6 + 4) 0) g e) (λ h t y z. refl) ∙ match-terms _ _ (K .closed .ready) _ p s st f cs (getD (c .before .before .before .before .before .before .before .before .before .before .before .before .before .before .before .before .before .before .before .before .before .before .before .before .args .tokens .now) (c .before .before .before .before .before .before .before .before .before .before .before .before .before .before .before .before .before .before .before .before .before .before .before .before .args .at + 6 + 4) 0) (K .g) (K .closed .e) (λ e. c .before .before .before .before .before .before .before .before .before .before .before .before .before .if1 .left (c .before .before .before .before .before .before .before .before .before .before .before .before .before .before .kind .ensures ∙ e)) ∙ Q .means (matching p s st f cs (getD (c .before .before .before .before .before .before .before .before .before .before .before .before .before .before .before .before .before .before .before .before .before .before .before .before .args .tokens .now) (c .before .before .before .before .before .before .before .before .before .before .before .before .before .before .before .before .before .before .before .before .before .before .before .before .args .at + 6 + 4) 0) (K .g) (K .closed .e)) p s st (λ (h : Terms). f) (λ (h : Terms). cTerms cs (getD (c .before .before .before .before .before .before .before .before .before .before .before .before .before .before .before .before .before .before .before .before .before .before .before .before .args .tokens .now) (c .before .before .before .before .before .before .before .before .before .before .before .before .before .before .before .before .before .before .before .before .before .before .before .before .args .at + 6 + 4) 0) (K .g) h (lastEnd h (K .closed .e))) (λ h t y z. refl);
+      means = λ p s st f cs. cond-start _ _ (pre₀ .0) _ p s st f cs (ready-next _ _ (pre₀ .0) (other _ _ _ (pre₀ .2) refl)) (pre₀ .2)
+          ∙ K .closed .means (argument p s st f cs (getD w (at₀ + 6 + 4) 0)) (λ (g : Terms) (e : ℕ). matched left₀ p s st f cs (getD w (at₀ + 6 + 4) 0) g e) (λ h t y z. refl)
+          ∙ match-terms _ _ (K .closed .ready) _ p s st f cs (getD w (at₀ + 6 + 4) 0) (K .g) (K .closed .e) (λ e. c .before .before .before .before .before .before .before .before .before .before .before .before .before .if1 .left (c .before .before .before .before .before .before .before .before .before .before .before .before .before .before .kind .ensures
+          ∙ e))
+          ∙ Q .means (matching p s st f cs (getD w (at₀ + 6 + 4) 0) (K .g) (K .closed .e)) p s st (λ (h : Terms). f) (λ (h : Terms). cTerms cs (getD w (at₀ + 6 + 4) 0) (K .g) h (lastEnd h (K .closed .e))) (λ h t y z. refl);
     })
 
 -- src/block.rt:64:8
@@ -1065,7 +1163,8 @@ ending-kind-requires : (t : ℕ) → ending-lts.Need-kind-requires (
   put-span-reads.Asked,
   put-span-reads.Learnt,
 ) (ending-at t) ending.Post
-ending-kind-requires t c κs = c .before .before .pre .1 .0
+ending-kind-requires t c κs = let pre₀ = c .before .before .pre .1 in
+    pre₀ .0
 
 -- src/block.rt:65:9
 ending-clause-requires : (t : ℕ) → ending-lts.Need-clause-requires (
@@ -1084,7 +1183,8 @@ ending-clause-requires : (t : ℕ) → ending-lts.Need-clause-requires (
   put-span-reads.Asked,
   put-span-reads.Learnt,
 ) (ending-at t) ending.Post
-ending-clause-requires t c κs = let h = c .before .before .before .before .before .pre .1 .1 in (c .before .before .before .before .before .pre .1 .0, omega arith, omega arith)
+ending-clause-requires t c κs = let pre₀ = c .before .before .before .before .before .pre .1 in
+    let h = pre₀ .1 in (pre₀ .0, omega arith, omega arith)
 
 -- src/block.rt:65:9
 ending-same-length : (t : ℕ) → ending-lts.Need-same-length (
@@ -1122,22 +1222,26 @@ ending-returns : (t : ℕ) → ending-lts.Need-returns (
   put-span-reads.Asked,
   put-span-reads.Learnt,
 ) (ending-at t) ending.Post
-ending-returns t c = record {
-  at = λ j m e.
-      let K = c .before .before .clause .ensures .at j m e in
-      record {
-        x = plain (K .g);
-        e = K .closed .e;
-        ready = K .closed .ready;
-        on = K .closed .on;
-        few = K .few;
-        rows = K .rows;
-        count = K .count;
-        last = K .closed .last;
-        means = λ p s st f cs. end-terms _ _ (c .before .before .before .before .before .before .before .before .pre .1 .0) _ p s st f cs (λ e. c .before .before .before .before .if1 .taken (c .before .before .before .before .before .kind .ensures ∙ e)) ∙ K .closed .means (result p s st f cs) (λ (g : Terms) (b : ℕ). between (c .before .before .before .before .before .before .before .before .args .left) p (sTerms s st f cs g b)) (λ h t y z. refl);
-      };
-  no = λ a b k d e q. λ p s st f cs. end-terms _ _ (c .before .before .before .before .before .before .before .before .pre .1 .0) _ p s st f cs (λ e. c .before .before .before .before .if1 .taken (c .before .before .before .before .before .kind .ensures ∙ e)) ∙ c .before .before .clause .ensures .no a b k d e q (result p s st f cs) (λ (g : Terms) (b : ℕ). between (c .before .before .before .before .before .before .before .before .args .left) p (sTerms s st f cs g b)) (λ h t y z. refl);
-}
+ending-returns t c = let left₀ = c .before .before .before .before .before .before .before .before .args .left in
+    let pre₀ = c .before .before .before .before .before .before .before .before .pre .1 in
+    record {
+      at = λ j m e.
+          let K = c .before .before .clause .ensures .at j m e in
+          record {
+            x = plain (K .g);
+            e = K .closed .e;
+            ready = K .closed .ready;
+            on = K .closed .on;
+            few = K .few;
+            rows = K .rows;
+            count = K .count;
+            last = K .closed .last;
+            means = λ p s st f cs. end-terms _ _ (pre₀ .0) _ p s st f cs (λ e. c .before .before .before .before .if1 .taken (c .before .before .before .before .before .kind .ensures ∙ e))
+                ∙ K .closed .means (result p s st f cs) (λ (g : Terms) (b : ℕ). between left₀ p (sTerms s st f cs g b)) (λ h t y z. refl);
+          };
+      no = λ a b k d e q. λ p s st f cs. end-terms _ _ (pre₀ .0) _ p s st f cs (λ e. c .before .before .before .before .if1 .taken (c .before .before .before .before .before .kind .ensures ∙ e))
+          ∙ c .before .before .clause .ensures .no a b k d e q (result p s st f cs) (λ (g : Terms) (b : ℕ). between left₀ p (sTerms s st f cs g b)) (λ h t y z. refl);
+    }
 
 -- src/block.rt:67:17
 ending-add-start : (t : ℕ) → ending-lts.Need-add-start (
@@ -1156,7 +1260,8 @@ ending-add-start : (t : ℕ) → ending-lts.Need-add-start (
   put-span-reads.Asked,
   put-span-reads.Learnt,
 ) (ending-at t) ending.Post
-ending-add-start t c = let R = c .before .before .before .before .pre .1 .0 in let h = c .before .before .before .before .pre .1 .1 in omega arith
+ending-add-start t c = let pre₀ = c .before .before .before .before .pre .1 in
+    let R = pre₀ .0 in let h = pre₀ .1 in omega arith
 
 -- src/block.rt:68:17
 ending-add-first : (t : ℕ) → ending-lts.Need-add-first (
@@ -1175,7 +1280,8 @@ ending-add-first : (t : ℕ) → ending-lts.Need-add-first (
   put-span-reads.Asked,
   put-span-reads.Learnt,
 ) (ending-at t) ending.Post
-ending-add-first t c = let R = c .before .before .before .before .pre .1 .0 in let h = c .before .before .before .before .pre .1 .1 in omega arith
+ending-add-first t c = let pre₀ = c .before .before .before .before .pre .1 in
+    let R = pre₀ .0 in let h = pre₀ .1 in omega arith
 
 -- src/block.rt:69:9
 ending-clause-requires-2 : (t : ℕ) → ending-lts.Need-clause-requires-2 (
@@ -1194,7 +1300,11 @@ ending-clause-requires-2 : (t : ℕ) → ending-lts.Need-clause-requires-2 (
   put-span-reads.Asked,
   put-span-reads.Learnt,
 ) (ending-at t) ending.Post
-ending-clause-requires-2 t c κs = let k₁₃ : getD (c .before .before .before .before .before .args .tokens .now) (c .before .before .before .before .before .args .at) 0 ≡ 13 = sym (c .before .before .kind .ensures) ∙ c .before .if1 .left in let h = c .before .before .before .before .before .pre .1 .1 in ((ready-next _ _ (c .before .before .before .before .before .pre .1 .0) (other _ _ _ k₁₃ refl)), omega arith, omega arith)
+ending-clause-requires-2 t c κs = let w = c .before .before .before .before .before .args .tokens .now in
+    let at₀ = c .before .before .before .before .before .args .at in
+    let pre₀ = c .before .before .before .before .before .pre .1 in
+    let k₁₃ : getD w at₀ 0 ≡ 13 = sym (c .before .before .kind .ensures) ∙ c .before .if1 .left in
+    let h = pre₀ .1 in ((ready-next _ _ (pre₀ .0) (other _ _ _ k₁₃ refl)), omega arith, omega arith)
 
 -- src/block.rt:70:17
 ending-enum-known-r : (t : ℕ) → ending-lts.Need-enum-known-r (
@@ -1270,7 +1380,13 @@ ending-returns-2 : (t : ℕ) → ending-lts.Need-returns-2 (
   put-span-reads.Asked,
   put-span-reads.Learnt,
 ) (ending-at t) ending.Post
-ending-returns-2 t c = let k₁₃ : getD (c .before .before .before .before .before .before .before .before .before .before .args .tokens .now) (c .before .before .before .before .before .before .before .before .before .before .args .at) 0 ≡ 13 = sym (c .before .before .before .before .before .before .before .kind .ensures) ∙ c .before .before .before .before .before .before .if1 .left in is-no (c .enum-told .given .1) (λ p s st f cs. end-start _ _ (c .before .before .before .before .before .before .before .before .before .before .pre .1 .0) _ p s st f cs (ready-next _ _ (c .before .before .before .before .before .before .before .before .before .before .pre .1 .0) (other _ _ _ k₁₃ refl)) k₁₃ ∙ c .before .before .before .before .clause2 .ensures .no _ _ _ _ _ (c .enum-told .given .1) (inArgument p s st f cs (getD (c .before .before .before .before .before .before .before .before .before .before .args .tokens .now) (c .before .before .before .before .before .before .before .before .before .before .args .at + 6 + 4) 0)) (λ (g : Terms) (e : ℕ). blocked (c .before .before .before .before .before .before .before .before .before .before .args .left) p s st f cs (getD (c .before .before .before .before .before .before .before .before .before .before .args .tokens .now) (c .before .before .before .before .before .before .before .before .before .before .args .at + 6 + 4) 0) g) (λ h t y z. refl))
+ending-returns-2 t c = let w = c .before .before .before .before .before .before .before .before .before .before .args .tokens .now in
+    let at₀ = c .before .before .before .before .before .before .before .before .before .before .args .at in
+    let left₀ = c .before .before .before .before .before .before .before .before .before .before .args .left in
+    let pre₀ = c .before .before .before .before .before .before .before .before .before .before .pre .1 in
+    let k₁₃ : getD w at₀ 0 ≡ 13 = sym (c .before .before .before .before .before .before .before .kind .ensures) ∙ c .before .before .before .before .before .before .if1 .left in
+    is-no (c .enum-told .given .1) (λ p s st f cs. end-start _ _ (pre₀ .0) _ p s st f cs (ready-next _ _ (pre₀ .0) (other _ _ _ k₁₃ refl)) k₁₃
+    ∙ c .before .before .before .before .clause2 .ensures .no _ _ _ _ _ (c .enum-told .given .1) (inArgument p s st f cs (getD w (at₀ + 6 + 4) 0)) (λ (g : Terms) (e : ℕ). blocked left₀ p s st f cs (getD w (at₀ + 6 + 4) 0) g) (λ h t y z. refl))
 
 -- src/block.rt:73:8
 ending-kind-requires-2 : (t : ℕ) → ending-lts.Need-kind-requires-2 (
@@ -1346,7 +1462,16 @@ ending-returns-3 : (t : ℕ) → ending-lts.Need-returns-3 (
   put-span-reads.Asked,
   put-span-reads.Learnt,
 ) (ending-at t) ending.Post
-ending-returns-3 t c = let K = c .before .before .before .before .before .before .before .before .clause2 .ensures .at _ _ (c .before .before .before .before .r .given .1) in let k₁₃ : getD (c .before .before .before .before .before .before .before .before .before .before .before .before .before .before .args .tokens .now) (c .before .before .before .before .before .before .before .before .before .before .before .before .before .before .args .at) 0 ≡ 13 = sym (c .before .before .before .before .before .before .before .before .before .before .before .kind .ensures) ∙ c .before .before .before .before .before .before .before .before .before .before .if1 .left in is-no (c .present .ensures) (λ p s st f cs. end-start _ _ (c .before .before .before .before .before .before .before .before .before .before .before .before .before .before .pre .1 .0) _ p s st f cs (ready-next _ _ (c .before .before .before .before .before .before .before .before .before .before .before .before .before .before .pre .1 .0) (other _ _ _ k₁₃ refl)) k₁₃ ∙ K .closed .means (inArgument p s st f cs (getD (c .before .before .before .before .before .before .before .before .before .before .before .before .before .before .args .tokens .now) (c .before .before .before .before .before .before .before .before .before .before .before .before .before .before .args .at + 6 + 4) 0)) (λ (g : Terms) (e : ℕ). blocked (c .before .before .before .before .before .before .before .before .before .before .before .before .before .before .args .left) p s st f cs (getD (c .before .before .before .before .before .before .before .before .before .before .before .before .before .before .args .tokens .now) (c .before .before .before .before .before .before .before .before .before .before .before .before .before .before .args .at + 6 + 4) 0) g) (λ h t y z. refl) ∙ end-unopened _ _ (K .closed .ready) _ p s st f cs (getD (c .before .before .before .before .before .before .before .before .before .before .before .before .before .before .args .tokens .now) (c .before .before .before .before .before .before .before .before .before .before .before .before .before .before .args .at + 6 + 4) 0) (K .g) (λ e. c .before .if2 .taken (c .before .before .kind2 .ensures ∙ e)))
+ending-returns-3 t c = let w = c .before .before .before .before .before .before .before .before .before .before .before .before .before .before .args .tokens .now in
+    let at₀ = c .before .before .before .before .before .before .before .before .before .before .before .before .before .before .args .at in
+    let left₀ = c .before .before .before .before .before .before .before .before .before .before .before .before .before .before .args .left in
+    let pre₀ = c .before .before .before .before .before .before .before .before .before .before .before .before .before .before .pre .1 in
+    let K = c .before .before .before .before .before .before .before .before .clause2 .ensures .at _ _ (c .before .before .before .before .r .given .1) in
+    let k₁₃ : getD w at₀ 0 ≡ 13 = sym (c .before .before .before .before .before .before .before .before .before .before .before .kind .ensures) ∙ c .before .before .before .before .before .before .before .before .before .before .if1 .left in
+    is-no (c .present .ensures) (λ p s st f cs. end-start _ _ (pre₀ .0) _ p s st f cs (ready-next _ _ (pre₀ .0) (other _ _ _ k₁₃ refl)) k₁₃
+    ∙ K .closed .means (inArgument p s st f cs (getD w (at₀ + 6 + 4) 0)) (λ (g : Terms) (e : ℕ). blocked left₀ p s st f cs (getD w (at₀ + 6 + 4) 0) g) (λ h t y z. refl)
+    ∙ end-unopened _ _ (K .closed .ready) _ p s st f cs (getD w (at₀ + 6 + 4) 0) (K .g) (λ e. c .before .if2 .taken (c .before .before .kind2 .ensures
+    ∙ e)))
 
 -- src/block.rt:76:9
 ending-block-requires : (t : ℕ) → ending-lts.Need-block-requires (
@@ -1365,7 +1490,14 @@ ending-block-requires : (t : ℕ) → ending-lts.Need-block-requires (
   put-span-reads.Asked,
   put-span-reads.Learnt,
 ) (ending-at t) ending.Post
-ending-block-requires t c κs = let K = c .before .before .before .before .before .before .before .before .clause2 .ensures .at _ _ (c .before .before .before .before .r .given .1) in let R = K .closed .ready in let o = K .closed .on in let w = K .few in let k₇ : getD (c .before .before .before .before .before .before .before .before .before .before .before .before .before .before .args .tokens .now) (c .before .before .before .before .r .given .0 .0) 0 ≡ 7 = sym (c .before .before .kind2 .ensures) ∙ c .before .if2 .left in let g = c .before .before .before .before .before .before .before .before .before .before .before .before .before .before .pre .1 .0 in (omega arith, (R, omega arith, k₇))
+ending-block-requires t c κs = let w = c .before .before .before .before .before .before .before .before .before .before .before .before .before .before .args .tokens .now in
+    let j₁ = c .before .before .before .before .r .given .0 .0 in
+    let pre₀ = c .before .before .before .before .before .before .before .before .before .before .before .before .before .before .pre .1 in
+    let K = c .before .before .before .before .before .before .before .before .clause2 .ensures .at _ _ (c .before .before .before .before .r .given .1) in
+    let R = K .closed .ready in
+    let o = K .closed .on in
+    let v₁ = K .few in
+    let k₇ : getD w j₁ 0 ≡ 7 = sym (c .before .before .kind2 .ensures) ∙ c .before .if2 .left in let g = pre₀ .0 in (omega arith, (R, omega arith, k₇))
 
 -- src/block.rt:77:17
 ending-enum-known-r2 : (t : ℕ) → ending-lts.Need-enum-known-r2 (
@@ -1441,7 +1573,18 @@ ending-returns-4 : (t : ℕ) → ending-lts.Need-returns-4 (
   put-span-reads.Asked,
   put-span-reads.Learnt,
 ) (ending-at t) ending.Post
-ending-returns-4 t c = let K = c .before .before .before .before .before .before .before .before .before .before .before .before .before .clause2 .ensures .at _ _ (c .before .before .before .before .before .before .before .before .before .r .given .1) in let k₁₃ : getD (c .before .before .before .before .before .before .before .before .before .before .before .before .before .before .before .before .before .before .before .args .tokens .now) (c .before .before .before .before .before .before .before .before .before .before .before .before .before .before .before .before .before .before .before .args .at) 0 ≡ 13 = sym (c .before .before .before .before .before .before .before .before .before .before .before .before .before .before .before .before .kind .ensures) ∙ c .before .before .before .before .before .before .before .before .before .before .before .before .before .before .before .if1 .left in let k₇ : getD (c .before .before .before .before .before .before .before .before .before .before .before .before .before .before .before .before .before .before .before .args .tokens .now) (c .before .before .before .before .before .before .before .before .before .r .given .0 .0) 0 ≡ 7 = sym (c .before .before .before .before .before .before .before .kind2 .ensures) ∙ c .before .before .before .before .before .before .if2 .left in is-no (c .enum-told2 .given .1) (λ p s st f cs. end-start _ _ (c .before .before .before .before .before .before .before .before .before .before .before .before .before .before .before .before .before .before .before .pre .1 .0) _ p s st f cs (ready-next _ _ (c .before .before .before .before .before .before .before .before .before .before .before .before .before .before .before .before .before .before .before .pre .1 .0) (other _ _ _ k₁₃ refl)) k₁₃ ∙ K .closed .means (inArgument p s st f cs (getD (c .before .before .before .before .before .before .before .before .before .before .before .before .before .before .before .before .before .before .before .args .tokens .now) (c .before .before .before .before .before .before .before .before .before .before .before .before .before .before .before .before .before .before .before .args .at + 6 + 4) 0)) (λ (g : Terms) (e : ℕ). blocked (c .before .before .before .before .before .before .before .before .before .before .before .before .before .before .before .before .before .before .before .args .left) p s st f cs (getD (c .before .before .before .before .before .before .before .before .before .before .before .before .before .before .before .before .before .before .before .args .tokens .now) (c .before .before .before .before .before .before .before .before .before .before .before .before .before .before .before .before .before .before .before .args .at + 6 + 4) 0) g) (λ h t y z. refl) ∙ end-block _ _ (K .closed .ready) _ p s st f cs (getD (c .before .before .before .before .before .before .before .before .before .before .before .before .before .before .before .before .before .before .before .args .tokens .now) (c .before .before .before .before .before .before .before .before .before .before .before .before .before .before .before .before .before .before .before .args .at + 6 + 4) 0) (K .g) k₇ ∙ c .before .before .before .before .block .ensures .no _ _ _ _ _ (c .enum-told2 .given .1) (inEnding p s st f cs (getD (c .before .before .before .before .before .before .before .before .before .before .before .before .before .before .before .before .before .before .before .args .tokens .now) (c .before .before .before .before .before .before .before .before .before .before .before .before .before .before .before .before .before .before .before .args .at + 6 + 4) 0) (K .g)))
+ending-returns-4 t c = let w = c .before .before .before .before .before .before .before .before .before .before .before .before .before .before .before .before .before .before .before .args .tokens .now in
+    let j₁ = c .before .before .before .before .before .before .before .before .before .r .given .0 .0 in
+    let at₀ = c .before .before .before .before .before .before .before .before .before .before .before .before .before .before .before .before .before .before .before .args .at in
+    let left₀ = c .before .before .before .before .before .before .before .before .before .before .before .before .before .before .before .before .before .before .before .args .left in
+    let pre₀ = c .before .before .before .before .before .before .before .before .before .before .before .before .before .before .before .before .before .before .before .pre .1 in
+    let K = c .before .before .before .before .before .before .before .before .before .before .before .before .before .clause2 .ensures .at _ _ (c .before .before .before .before .before .before .before .before .before .r .given .1) in
+    let k₁₃ : getD w at₀ 0 ≡ 13 = sym (c .before .before .before .before .before .before .before .before .before .before .before .before .before .before .before .before .kind .ensures) ∙ c .before .before .before .before .before .before .before .before .before .before .before .before .before .before .before .if1 .left in
+    let k₇ : getD w j₁ 0 ≡ 7 = sym (c .before .before .before .before .before .before .before .kind2 .ensures) ∙ c .before .before .before .before .before .before .if2 .left in
+    is-no (c .enum-told2 .given .1) (λ p s st f cs. end-start _ _ (pre₀ .0) _ p s st f cs (ready-next _ _ (pre₀ .0) (other _ _ _ k₁₃ refl)) k₁₃
+    ∙ K .closed .means (inArgument p s st f cs (getD w (at₀ + 6 + 4) 0)) (λ (g : Terms) (e : ℕ). blocked left₀ p s st f cs (getD w (at₀ + 6 + 4) 0) g) (λ h t y z. refl)
+    ∙ end-block _ _ (K .closed .ready) _ p s st f cs (getD w (at₀ + 6 + 4) 0) (K .g) k₇
+    ∙ c .before .before .before .before .block .ensures .no _ _ _ _ _ (c .enum-told2 .given .1) (inEnding p s st f cs (getD w (at₀ + 6 + 4) 0) (K .g)))
 
 -- src/block.rt:80:8
 ending-kind-requires-3 : (t : ℕ) → ending-lts.Need-kind-requires-3 (
@@ -1517,7 +1660,23 @@ ending-returns-5 : (t : ℕ) → ending-lts.Need-returns-5 (
   put-span-reads.Asked,
   put-span-reads.Learnt,
 ) (ending-at t) ending.Post
-ending-returns-5 t c = let K = c .before .before .before .before .before .before .before .before .before .before .before .before .before .before .before .before .before .clause2 .ensures .at _ _ (c .before .before .before .before .before .before .before .before .before .before .before .before .before .r .given .1) in let B = c .before .before .before .before .before .before .before .before .block .ensures .at _ _ (c .before .before .before .before .r2 .given .1) in let k₁₃ : getD (c .before .before .before .before .before .before .before .before .before .before .before .before .before .before .before .before .before .before .before .before .before .before .before .args .tokens .now) (c .before .before .before .before .before .before .before .before .before .before .before .before .before .before .before .before .before .before .before .before .before .before .before .args .at) 0 ≡ 13 = sym (c .before .before .before .before .before .before .before .before .before .before .before .before .before .before .before .before .before .before .before .before .kind .ensures) ∙ c .before .before .before .before .before .before .before .before .before .before .before .before .before .before .before .before .before .before .before .if1 .left in let k₇ : getD (c .before .before .before .before .before .before .before .before .before .before .before .before .before .before .before .before .before .before .before .before .before .before .before .args .tokens .now) (c .before .before .before .before .before .before .before .before .before .before .before .before .before .r .given .0 .0) 0 ≡ 7 = sym (c .before .before .before .before .before .before .before .before .before .before .before .kind2 .ensures) ∙ c .before .before .before .before .before .before .before .before .before .before .if2 .left in is-no (c .present2 .ensures) (λ p s st f cs. end-start _ _ (c .before .before .before .before .before .before .before .before .before .before .before .before .before .before .before .before .before .before .before .before .before .before .before .pre .1 .0) _ p s st f cs (ready-next _ _ (c .before .before .before .before .before .before .before .before .before .before .before .before .before .before .before .before .before .before .before .before .before .before .before .pre .1 .0) (other _ _ _ k₁₃ refl)) k₁₃ ∙ K .closed .means (inArgument p s st f cs (getD (c .before .before .before .before .before .before .before .before .before .before .before .before .before .before .before .before .before .before .before .before .before .before .before .args .tokens .now) (c .before .before .before .before .before .before .before .before .before .before .before .before .before .before .before .before .before .before .before .before .before .before .before .args .at + 6 + 4) 0)) (λ (g : Terms) (e : ℕ). blocked (c .before .before .before .before .before .before .before .before .before .before .before .before .before .before .before .before .before .before .before .before .before .before .before .args .left) p s st f cs (getD (c .before .before .before .before .before .before .before .before .before .before .before .before .before .before .before .before .before .before .before .before .before .before .before .args .tokens .now) (c .before .before .before .before .before .before .before .before .before .before .before .before .before .before .before .before .before .before .before .before .before .before .before .args .at + 6 + 4) 0) g) (λ h t y z. refl) ∙ end-block _ _ (K .closed .ready) _ p s st f cs (getD (c .before .before .before .before .before .before .before .before .before .before .before .before .before .before .before .before .before .before .before .before .before .before .before .args .tokens .now) (c .before .before .before .before .before .before .before .before .before .before .before .before .before .before .before .before .before .before .before .before .before .before .before .args .at + 6 + 4) 0) (K .g) k₇ ∙ B .means (inEnding p s st f cs (getD (c .before .before .before .before .before .before .before .before .before .before .before .before .before .before .before .before .before .before .before .before .before .before .before .args .tokens .now) (c .before .before .before .before .before .before .before .before .before .before .before .before .before .before .before .before .before .before .before .before .before .before .before .args .at + 6 + 4) 0) (K .g)) ∙ leveled (c .before .before .before .before .before .before .before .before .before .before .before .before .before .before .before .before .before .before .before .before .before .before .before .args .tokens .now) (c .before .before .before .before .r2 .given .0 .0) (c .before .before .before .before .before .before .before .before .before .before .before .before .before .before .before .before .before .before .before .before .before .before .before .args .left) (λ (d : ℕ). ended d p s st f cs (getD (c .before .before .before .before .before .before .before .before .before .before .before .before .before .before .before .before .before .before .before .before .before .before .before .args .tokens .now) (c .before .before .before .before .before .before .before .before .before .before .before .before .before .before .before .before .before .before .before .before .before .before .before .args .at + 6 + 4) 0) (K .g) (B .v) (B .t .to)) (B .some) ∙ end-unclosed _ _ (B .ready) _ p s st f cs (getD (c .before .before .before .before .before .before .before .before .before .before .before .before .before .before .before .before .before .before .before .before .before .before .before .args .tokens .now) (c .before .before .before .before .before .before .before .before .before .before .before .before .before .before .before .before .before .before .before .before .before .before .before .args .at + 6 + 4) 0) (K .g) (B .v) (B .t .to) (λ e. c .before .if3 .taken (c .before .before .kind3 .ensures ∙ e)))
+ending-returns-5 t c = let w = c .before .before .before .before .before .before .before .before .before .before .before .before .before .before .before .before .before .before .before .before .before .before .before .args .tokens .now in
+    let j₁ = c .before .before .before .before .before .before .before .before .before .before .before .before .before .r .given .0 .0 in
+    let j₂ = c .before .before .before .before .r2 .given .0 .0 in
+    let at₀ = c .before .before .before .before .before .before .before .before .before .before .before .before .before .before .before .before .before .before .before .before .before .before .before .args .at in
+    let left₀ = c .before .before .before .before .before .before .before .before .before .before .before .before .before .before .before .before .before .before .before .before .before .before .before .args .left in
+    let pre₀ = c .before .before .before .before .before .before .before .before .before .before .before .before .before .before .before .before .before .before .before .before .before .before .before .pre .1 in
+    let K = c .before .before .before .before .before .before .before .before .before .before .before .before .before .before .before .before .before .clause2 .ensures .at _ _ (c .before .before .before .before .before .before .before .before .before .before .before .before .before .r .given .1) in
+    let B = c .before .before .before .before .before .before .before .before .block .ensures .at _ _ (c .before .before .before .before .r2 .given .1) in
+    let k₁₃ : getD w at₀ 0 ≡ 13 = sym (c .before .before .before .before .before .before .before .before .before .before .before .before .before .before .before .before .before .before .before .before .kind .ensures) ∙ c .before .before .before .before .before .before .before .before .before .before .before .before .before .before .before .before .before .before .before .if1 .left in
+    let k₇ : getD w j₁ 0 ≡ 7 = sym (c .before .before .before .before .before .before .before .before .before .before .before .kind2 .ensures) ∙ c .before .before .before .before .before .before .before .before .before .before .if2 .left in
+    is-no (c .present2 .ensures) (λ p s st f cs. end-start _ _ (pre₀ .0) _ p s st f cs (ready-next _ _ (pre₀ .0) (other _ _ _ k₁₃ refl)) k₁₃
+    ∙ K .closed .means (inArgument p s st f cs (getD w (at₀ + 6 + 4) 0)) (λ (g : Terms) (e : ℕ). blocked left₀ p s st f cs (getD w (at₀ + 6 + 4) 0) g) (λ h t y z. refl)
+    ∙ end-block _ _ (K .closed .ready) _ p s st f cs (getD w (at₀ + 6 + 4) 0) (K .g) k₇
+    ∙ B .means (inEnding p s st f cs (getD w (at₀ + 6 + 4) 0) (K .g))
+    ∙ leveled w j₂ left₀ (λ (d : ℕ). ended d p s st f cs (getD w (at₀ + 6 + 4) 0) (K .g) (B .v) (B .t .to)) (B .some)
+    ∙ end-unclosed _ _ (B .ready) _ p s st f cs (getD w (at₀ + 6 + 4) 0) (K .g) (B .v) (B .t .to) (λ e. c .before .if3 .taken (c .before .before .kind3 .ensures
+    ∙ e)))
 
 -- src/block.rt:83:43
 ending-span-from-requires : (t : ℕ) → ending-lts.Need-span-from-requires (
@@ -1536,7 +1695,10 @@ ending-span-from-requires : (t : ℕ) → ending-lts.Need-span-from-requires (
   put-span-reads.Asked,
   put-span-reads.Learnt,
 ) (ending-at t) ending.Post
-ending-span-from-requires t c κs = let k₁₃ : getD (c .before .before .before .before .before .before .before .before .before .before .before .before .before .before .before .before .before .before .before .before .before .before .before .args .tokens .now) (c .before .before .before .before .before .before .before .before .before .before .before .before .before .before .before .before .before .before .before .before .before .before .before .args .at) 0 ≡ 13 = sym (c .before .before .before .before .before .before .before .before .before .before .before .before .before .before .before .before .before .before .before .before .kind .ensures) ∙ c .before .before .before .before .before .before .before .before .before .before .before .before .before .before .before .before .before .before .before .if1 .left in (ready-next _ _ (c .before .before .before .before .before .before .before .before .before .before .before .before .before .before .before .before .before .before .before .before .before .before .before .pre .1 .0) (other _ _ _ k₁₃ refl))
+ending-span-from-requires t c κs = let w = c .before .before .before .before .before .before .before .before .before .before .before .before .before .before .before .before .before .before .before .before .before .before .before .args .tokens .now in
+    let at₀ = c .before .before .before .before .before .before .before .before .before .before .before .before .before .before .before .before .before .before .before .before .before .before .before .args .at in
+    let pre₀ = c .before .before .before .before .before .before .before .before .before .before .before .before .before .before .before .before .before .before .before .before .before .before .before .pre .1 in
+    let k₁₃ : getD w at₀ 0 ≡ 13 = sym (c .before .before .before .before .before .before .before .before .before .before .before .before .before .before .before .before .before .before .before .before .kind .ensures) ∙ c .before .before .before .before .before .before .before .before .before .before .before .before .before .before .before .before .before .before .before .if1 .left in (ready-next _ _ (pre₀ .0) (other _ _ _ k₁₃ refl))
 
 -- src/block.rt:83:69
 ending-end-before-requires : (t : ℕ) → ending-lts.Need-end-before-requires (
@@ -1555,7 +1717,8 @@ ending-end-before-requires : (t : ℕ) → ending-lts.Need-end-before-requires (
   put-span-reads.Asked,
   put-span-reads.Learnt,
 ) (ending-at t) ending.Post
-ending-end-before-requires t c κs = let B = c .before .before .before .before .before .before .before .before .before .block .ensures .at _ _ (c .before .before .before .before .before .r2 .given .1) in let Z = B .ready in let q = B .on in let v = B .few in (B .ready, omega arith)
+ending-end-before-requires t c κs = let B = c .before .before .before .before .before .before .before .before .before .block .ensures .at _ _ (c .before .before .before .before .before .r2 .given .1) in
+    let Z = B .ready in let q = B .on in let v = B .few in (B .ready, omega arith)
 
 -- src/block.rt:83:5
 ending-put-span-requires : (t : ℕ) → ending-lts.Need-put-span-requires (
@@ -1574,7 +1737,9 @@ ending-put-span-requires : (t : ℕ) → ending-lts.Need-put-span-requires (
   put-span-reads.Asked,
   put-span-reads.Learnt,
 ) (ending-at t) ending.Post
-ending-put-span-requires t c κs = let B = c .before .before .before .before .before .before .before .before .before .before .block .ensures .at _ _ (c .before .before .before .before .before .before .r2 .given .1) in let Z = B .ready in let q = B .on in let v = B .few in let h = c .before .before .before .before .before .before .before .before .before .before .before .before .before .before .before .before .before .before .before .before .before .before .before .before .before .pre .1 .1 in let g = c .before .before .before .before .before .before .before .before .before .before .before .before .before .before .before .before .before .before .before .before .before .before .before .before .before .pre .1 .0 in (omega arith, omega arith)
+ending-put-span-requires t c κs = let pre₀ = c .before .before .before .before .before .before .before .before .before .before .before .before .before .before .before .before .before .before .before .before .before .before .before .before .before .pre .1 in
+    let B = c .before .before .before .before .before .before .before .before .before .before .block .ensures .at _ _ (c .before .before .before .before .before .before .r2 .given .1) in
+    let Z = B .ready in let q = B .on in let v = B .few in let h = pre₀ .1 in let g = pre₀ .0 in (omega arith, omega arith)
 
 -- src/block.rt:84:16
 ending-add-next : (t : ℕ) → ending-lts.Need-add-next (
@@ -1631,21 +1796,32 @@ ending-returns-6 : (t : ℕ) → ending-lts.Need-returns-6 (
   put-span-reads.Asked,
   put-span-reads.Learnt,
 ) (ending-at t) ending.Post
-ending-returns-6 t c = let K = c .before .before .before .before .before .before .before .before .before .before .before .before .before .before .before .before .before .before .before .before .before .before .clause2 .ensures .at _ _ (c .before .before .before .before .before .before .before .before .before .before .before .before .before .before .before .before .before .before .r .given .1) in
+ending-returns-6 t c = let w = c .before .before .before .before .before .before .before .before .before .before .before .before .before .before .before .before .before .before .before .before .before .before .before .before .before .before .before .before .args .tokens .now in
+    let j₁ = c .before .before .before .before .before .before .before .before .before .before .before .before .before .before .before .before .before .before .r .given .0 .0 in
+    let j₂ = c .before .before .before .before .before .before .before .before .before .r2 .given .0 .0 in
+    let at₀ = c .before .before .before .before .before .before .before .before .before .before .before .before .before .before .before .before .before .before .before .before .before .before .before .before .before .before .before .before .args .at in
+    let left₀ = c .before .before .before .before .before .before .before .before .before .before .before .before .before .before .before .before .before .before .before .before .before .before .before .before .before .before .before .before .args .left in
+    let pre₀ = c .before .before .before .before .before .before .before .before .before .before .before .before .before .before .before .before .before .before .before .before .before .before .before .before .before .before .before .before .pre .1 in
+    let K = c .before .before .before .before .before .before .before .before .before .before .before .before .before .before .before .before .before .before .before .before .before .before .clause2 .ensures .at _ _ (c .before .before .before .before .before .before .before .before .before .before .before .before .before .before .before .before .before .before .r .given .1) in
     let B = c .before .before .before .before .before .before .before .before .before .before .before .before .before .block .ensures .at _ _ (c .before .before .before .before .before .before .before .before .before .r2 .given .1) in
-    let k₁₃ : getD (c .before .before .before .before .before .before .before .before .before .before .before .before .before .before .before .before .before .before .before .before .before .before .before .before .before .before .before .before .args .tokens .now) (c .before .before .before .before .before .before .before .before .before .before .before .before .before .before .before .before .before .before .before .before .before .before .before .before .before .before .before .before .args .at) 0 ≡ 13 = sym (c .before .before .before .before .before .before .before .before .before .before .before .before .before .before .before .before .before .before .before .before .before .before .before .before .before .kind .ensures) ∙ c .before .before .before .before .before .before .before .before .before .before .before .before .before .before .before .before .before .before .before .before .before .before .before .before .if1 .left in
-    let k₇ : getD (c .before .before .before .before .before .before .before .before .before .before .before .before .before .before .before .before .before .before .before .before .before .before .before .before .before .before .before .before .args .tokens .now) (c .before .before .before .before .before .before .before .before .before .before .before .before .before .before .before .before .before .before .r .given .0 .0) 0 ≡ 7 = sym (c .before .before .before .before .before .before .before .before .before .before .before .before .before .before .before .before .kind2 .ensures) ∙ c .before .before .before .before .before .before .before .before .before .before .before .before .before .before .before .if2 .left in
-    let k₁₆ : getD (c .before .before .before .before .before .before .before .before .before .before .before .before .before .before .before .before .before .before .before .before .before .before .before .before .before .before .before .before .args .tokens .now) (c .before .before .before .before .before .before .before .before .before .r2 .given .0 .0) 0 ≡ 16 = sym (c .before .before .before .before .before .before .before .kind3 .ensures) ∙ c .before .before .before .before .before .before .if3 .left in
+    let k₁₃ : getD w at₀ 0 ≡ 13 = sym (c .before .before .before .before .before .before .before .before .before .before .before .before .before .before .before .before .before .before .before .before .before .before .before .before .before .kind .ensures) ∙ c .before .before .before .before .before .before .before .before .before .before .before .before .before .before .before .before .before .before .before .before .before .before .before .before .if1 .left in
+    let k₇ : getD w j₁ 0 ≡ 7 = sym (c .before .before .before .before .before .before .before .before .before .before .before .before .before .before .before .before .kind2 .ensures) ∙ c .before .before .before .before .before .before .before .before .before .before .before .before .before .before .before .if2 .left in
+    let k₁₆ : getD w j₂ 0 ≡ 16 = sym (c .before .before .before .before .before .before .before .kind3 .ensures) ∙ c .before .before .before .before .before .before .if3 .left in
     is-at refl (record {
-      x = endBlock (getD (c .before .before .before .before .before .before .before .before .before .before .before .before .before .before .before .before .before .before .before .before .before .before .before .before .before .before .before .before .args .tokens .now) (c .before .before .before .before .before .before .before .before .before .before .before .before .before .before .before .before .before .before .before .before .before .before .before .before .before .before .before .before .args .at + 6 + 4) 0) (K .g) (B .v) (B .t .to);
-      e = getD (c .before .before .before .before .before .before .before .before .before .before .before .before .before .before .before .before .before .before .before .before .before .before .before .before .before .before .before .before .args .tokens .now) ((c .before .before .before .before .before .before .before .before .before .r2 .given .0 .0) + 5) 0;
+      x = endBlock (getD w (at₀ + 6 + 4) 0) (K .g) (B .v) (B .t .to);
+      e = getD w (j₂ + 5) 0;
       ready = ready-next _ _ (B .ready) (other _ _ _ k₁₆ refl);
       on = let o = K .closed .on in let q = B .on in omega arith;
       few = let v = B .few in omega arith;
       rows = let h₁ = K .rows in let h₂ = B .rows in let h₃ = K .count in let h₄ = B .count in let h₅ = B .last in cc;
       count = let h₃ = K .count in let h₄ = B .count in omega arith;
-      last = end-before (c .before .before .before .before .before .before .before .before .before .before .before .before .before .before .before .before .before .before .before .before .before .before .before .before .before .before .before .before .args .tokens .now) (c .before .before .before .before .before .before .before .before .before .r2 .given .0 .0);
-      means = λ p s st f cs. end-start _ _ (c .before .before .before .before .before .before .before .before .before .before .before .before .before .before .before .before .before .before .before .before .before .before .before .before .before .before .before .before .pre .1 .0) _ p s st f cs (ready-next _ _ (c .before .before .before .before .before .before .before .before .before .before .before .before .before .before .before .before .before .before .before .before .before .before .before .before .before .before .before .before .pre .1 .0) (other _ _ _ k₁₃ refl)) k₁₃ ∙ K .closed .means (inArgument p s st f cs (getD (c .before .before .before .before .before .before .before .before .before .before .before .before .before .before .before .before .before .before .before .before .before .before .before .before .before .before .before .before .args .tokens .now) (c .before .before .before .before .before .before .before .before .before .before .before .before .before .before .before .before .before .before .before .before .before .before .before .before .before .before .before .before .args .at + 6 + 4) 0)) (λ (g : Terms) (e : ℕ). blocked (c .before .before .before .before .before .before .before .before .before .before .before .before .before .before .before .before .before .before .before .before .before .before .before .before .before .before .before .before .args .left) p s st f cs (getD (c .before .before .before .before .before .before .before .before .before .before .before .before .before .before .before .before .before .before .before .before .before .before .before .before .before .before .before .before .args .tokens .now) (c .before .before .before .before .before .before .before .before .before .before .before .before .before .before .before .before .before .before .before .before .before .before .before .before .before .before .before .before .args .at + 6 + 4) 0) g) (λ h t y z. refl) ∙ end-block _ _ (K .closed .ready) _ p s st f cs (getD (c .before .before .before .before .before .before .before .before .before .before .before .before .before .before .before .before .before .before .before .before .before .before .before .before .before .before .before .before .args .tokens .now) (c .before .before .before .before .before .before .before .before .before .before .before .before .before .before .before .before .before .before .before .before .before .before .before .before .before .before .before .before .args .at + 6 + 4) 0) (K .g) k₇ ∙ B .means (inEnding p s st f cs (getD (c .before .before .before .before .before .before .before .before .before .before .before .before .before .before .before .before .before .before .before .before .before .before .before .before .before .before .before .before .args .tokens .now) (c .before .before .before .before .before .before .before .before .before .before .before .before .before .before .before .before .before .before .before .before .before .before .before .before .before .before .before .before .args .at + 6 + 4) 0) (K .g)) ∙ leveled (c .before .before .before .before .before .before .before .before .before .before .before .before .before .before .before .before .before .before .before .before .before .before .before .before .before .before .before .before .args .tokens .now) (c .before .before .before .before .before .before .before .before .before .r2 .given .0 .0) (c .before .before .before .before .before .before .before .before .before .before .before .before .before .before .before .before .before .before .before .before .before .before .before .before .before .before .before .before .args .left) (λ (d : ℕ). ended d p s st f cs (getD (c .before .before .before .before .before .before .before .before .before .before .before .before .before .before .before .before .before .before .before .before .before .before .before .before .before .before .before .before .args .tokens .now) (c .before .before .before .before .before .before .before .before .before .before .before .before .before .before .before .before .before .before .before .before .before .before .before .before .before .before .before .before .args .at + 6 + 4) 0) (K .g) (B .v) (B .t .to)) (B .some) ∙ end-closed _ _ (B .ready) _ p s st f cs (getD (c .before .before .before .before .before .before .before .before .before .before .before .before .before .before .before .before .before .before .before .before .before .before .before .before .before .before .before .before .args .tokens .now) (c .before .before .before .before .before .before .before .before .before .before .before .before .before .before .before .before .before .before .before .before .before .before .before .before .before .before .before .before .args .at + 6 + 4) 0) (K .g) (B .v) (B .t .to) k₁₆;
+      last = end-before w j₂;
+      means = λ p s st f cs. end-start _ _ (pre₀ .0) _ p s st f cs (ready-next _ _ (pre₀ .0) (other _ _ _ k₁₃ refl)) k₁₃
+          ∙ K .closed .means (inArgument p s st f cs (getD w (at₀ + 6 + 4) 0)) (λ (g : Terms) (e : ℕ). blocked left₀ p s st f cs (getD w (at₀ + 6 + 4) 0) g) (λ h t y z. refl)
+          ∙ end-block _ _ (K .closed .ready) _ p s st f cs (getD w (at₀ + 6 + 4) 0) (K .g) k₇
+          ∙ B .means (inEnding p s st f cs (getD w (at₀ + 6 + 4) 0) (K .g))
+          ∙ leveled w j₂ left₀ (λ (d : ℕ). ended d p s st f cs (getD w (at₀ + 6 + 4) 0) (K .g) (B .v) (B .t .to)) (B .some)
+          ∙ end-closed _ _ (B .ready) _ p s st f cs (getD w (at₀ + 6 + 4) 0) (K .g) (B .v) (B .t .to) k₁₆;
     })
 
 abbrev sentence-Inv-loop : sentence-lts.InvT-loop
@@ -1671,7 +1847,8 @@ sentence-add-first : (t : ℕ) → sentence-lts.Need-add-first (
   put-span-reads.Asked,
   put-span-reads.Learnt,
 ) (sentence-at t) sentence.Post sentence-Inv-loop sentence-μ-loop
-sentence-add-first t c = let R = c .before .before .pre .1 .0 in let h = c .before .before .pre .1 .1 in omega arith
+sentence-add-first t c = let pre₀ = c .before .before .pre .1 in
+    let R = pre₀ .0 in let h = pre₀ .1 in omega arith
 
 -- src/block.rt:94:9
 sentence-pattern-requires : (t : ℕ) → sentence-lts.Need-pattern-requires (
@@ -1690,7 +1867,8 @@ sentence-pattern-requires : (t : ℕ) → sentence-lts.Need-pattern-requires (
   put-span-reads.Asked,
   put-span-reads.Learnt,
 ) (sentence-at t) sentence.Post sentence-Inv-loop sentence-μ-loop
-sentence-pattern-requires t c κs = let h = c .before .before .before .pre .1 .1 in (c .before .before .before .pre .1 .0, omega arith)
+sentence-pattern-requires t c κs = let pre₀ = c .before .before .before .pre .1 in
+    let h = pre₀ .1 in (pre₀ .0, omega arith)
 
 -- src/block.rt:95:17
 sentence-enum-known-r : (t : ℕ) → sentence-lts.Need-enum-known-r (
@@ -1766,7 +1944,9 @@ sentence-returns : (t : ℕ) → sentence-lts.Need-returns (
   put-span-reads.Asked,
   put-span-reads.Learnt,
 ) (sentence-at t) sentence.Post sentence-Inv-loop sentence-μ-loop
-sentence-returns t c = is-no (c .enum-told .given .1) (λ p s. c .before .before .before .before .pattern .ensures .no _ _ _ _ _ (c .enum-told .given .1) (inPattern p s (getD (c .before .before .before .before .before .before .before .before .args .tokens .now) (c .before .before .before .before .before .before .before .before .args .at + 4) 0)) p s (getD (c .before .before .before .before .before .before .before .before .args .tokens .now) (c .before .before .before .before .before .before .before .before .args .at + 4) 0) (λ (g : Terms). g) (λ (g : Terms). c0) (λ h t y z. refl))
+sentence-returns t c = let w = c .before .before .before .before .before .before .before .before .args .tokens .now in
+    let at₀ = c .before .before .before .before .before .before .before .before .args .at in
+    is-no (c .enum-told .given .1) (λ p s. c .before .before .before .before .pattern .ensures .no _ _ _ _ _ (c .enum-told .given .1) (inPattern p s (getD w (at₀ + 4) 0)) p s (getD w (at₀ + 4) 0) (λ (g : Terms). g) (λ (g : Terms). c0) (λ h t y z. refl))
 
 -- src/block.rt:100:5
 sentence-loop-holds : (t : ℕ) → sentence-lts.Need-loop-holds (
@@ -1786,7 +1966,8 @@ sentence-loop-holds : (t : ℕ) → sentence-lts.Need-loop-holds (
   put-span-reads.Learnt,
 ) (sentence-at t) sentence.Post sentence-Inv-loop sentence-μ-loop
 unfolding sizeC wC
-sentence-loop-holds t c = let Q = c .before .before .before .before .before .pattern .ensures .at _ _ (c .before .r .given .1) in record { cs = c0; ready = Q .ready; joint = Q .joint; on = omega arith; few = Q .few; same = refl; rows = refl; count = omega arith; means = λ p s st f. refl }
+sentence-loop-holds t c = let Q = c .before .before .before .before .before .pattern .ensures .at _ _ (c .before .r .given .1) in
+    record { cs = c0; ready = Q .ready; joint = Q .joint; on = omega arith; few = Q .few; same = refl; rows = refl; count = omega arith; means = λ p s st f. refl }
 
 -- src/block.rt:100:11
 sentence-kind-requires : (t : ℕ) → sentence-lts.Need-kind-requires (
@@ -1824,7 +2005,13 @@ sentence-condition-requires : (t : ℕ) → sentence-lts.Need-condition-requires
   put-span-reads.Asked,
   put-span-reads.Learnt,
 ) (sentence-at t) sentence.Post sentence-Inv-loop sentence-μ-loop
-sentence-condition-requires t c κs = let I = c .before .before .before .loop .inv in let Q = c .before .before .before .before .before .before .before .before .before .pattern .ensures .at _ _ (c .before .before .before .before .before .r .given .1) in let k₁₃ : getD (c .before .before .before .before .before .before .before .before .before .before .before .before .before .args .tokens .now) (c .before .before .before .loop .i) 0 ≡ 13 = sym (c .before .before .kind .ensures) ∙ c .before .if1 .taken in let o = I .on in let q = Q .on in let R = I .ready in let g = c .before .before .before .before .before .before .before .before .before .before .before .before .before .pre .1 .0 in (omega arith, (I .ready, I .few, k₁₃))
+sentence-condition-requires t c κs = let w = c .before .before .before .before .before .before .before .before .before .before .before .before .before .args .tokens .now in
+    let i₀ = c .before .before .before .loop .i in
+    let pre₀ = c .before .before .before .before .before .before .before .before .before .before .before .before .before .pre .1 in
+    let I = c .before .before .before .loop .inv in
+    let Q = c .before .before .before .before .before .before .before .before .before .pattern .ensures .at _ _ (c .before .before .before .before .before .r .given .1) in
+    let k₁₃ : getD w i₀ 0 ≡ 13 = sym (c .before .before .kind .ensures) ∙ c .before .if1 .taken in
+    let o = I .on in let q = Q .on in let R = I .ready in let g = pre₀ .0 in (omega arith, (I .ready, I .few, k₁₃))
 
 -- src/block.rt:102:21
 sentence-enum-known-r2 : (t : ℕ) → sentence-lts.Need-enum-known-r2 (
@@ -1881,7 +2068,10 @@ sentence-same-length-2 : (t : ℕ) → sentence-lts.Need-same-length-2 (
   put-span-reads.Asked,
   put-span-reads.Learnt,
 ) (sentence-at t) sentence.Post sentence-Inv-loop sentence-μ-loop
-sentence-same-length-2 t c = let I = c .before .before .before .before .before .before .before .before .loop .inv in c .before .before .before .before .condition .kept .1 .0 ∙ I .same ∙ c .before .before .before .before .before .before .before .before .before .before .before .before .before .before .pattern .kept .1 .0
+sentence-same-length-2 t c = let I = c .before .before .before .before .before .before .before .before .loop .inv in
+    c .before .before .before .before .condition .kept .1 .0
+    ∙ I .same
+    ∙ c .before .before .before .before .before .before .before .before .before .before .before .before .before .before .pattern .kept .1 .0
 
 -- src/block.rt:103:13
 sentence-returns-2 : (t : ℕ) → sentence-lts.Need-returns-2 (
@@ -1900,7 +2090,13 @@ sentence-returns-2 : (t : ℕ) → sentence-lts.Need-returns-2 (
   put-span-reads.Asked,
   put-span-reads.Learnt,
 ) (sentence-at t) sentence.Post sentence-Inv-loop sentence-μ-loop
-sentence-returns-2 t c = let Q = c .before .before .before .before .before .before .before .before .before .before .before .before .before .before .pattern .ensures .at _ _ (c .before .before .before .before .before .before .before .before .before .before .r .given .1) in let I = c .before .before .before .before .before .before .before .before .loop .inv in is-no (c .enum-told2 .given .1) (λ p s. Q .means (inPattern p s (getD (c .before .before .before .before .before .before .before .before .before .before .before .before .before .before .before .before .before .before .args .tokens .now) (c .before .before .before .before .before .before .before .before .before .before .before .before .before .before .before .before .before .before .args .at + 4) 0)) p s (getD (c .before .before .before .before .before .before .before .before .before .before .before .before .before .before .before .before .before .before .args .tokens .now) (c .before .before .before .before .before .before .before .before .before .before .before .before .before .before .before .before .before .before .args .at + 4) 0) (λ (g : Terms). g) (λ (g : Terms). c0) (λ h t y z. refl) ∙ I .means p s (getD (c .before .before .before .before .before .before .before .before .before .before .before .before .before .before .before .before .before .before .args .tokens .now) (c .before .before .before .before .before .before .before .before .before .before .before .before .before .before .before .before .before .before .args .at + 4) 0) (Q .g) ∙ c .before .before .before .before .condition .ensures .no _ _ _ _ _ (c .enum-told2 .given .1) p s (getD (c .before .before .before .before .before .before .before .before .before .before .before .before .before .before .before .before .before .before .args .tokens .now) (c .before .before .before .before .before .before .before .before .before .before .before .before .before .before .before .before .before .before .args .at + 4) 0) (Q .g) (I .cs))
+sentence-returns-2 t c = let w = c .before .before .before .before .before .before .before .before .before .before .before .before .before .before .before .before .before .before .args .tokens .now in
+    let at₀ = c .before .before .before .before .before .before .before .before .before .before .before .before .before .before .before .before .before .before .args .at in
+    let Q = c .before .before .before .before .before .before .before .before .before .before .before .before .before .before .pattern .ensures .at _ _ (c .before .before .before .before .before .before .before .before .before .before .r .given .1) in
+    let I = c .before .before .before .before .before .before .before .before .loop .inv in
+    is-no (c .enum-told2 .given .1) (λ p s. Q .means (inPattern p s (getD w (at₀ + 4) 0)) p s (getD w (at₀ + 4) 0) (λ (g : Terms). g) (λ (g : Terms). c0) (λ h t y z. refl)
+    ∙ I .means p s (getD w (at₀ + 4) 0) (Q .g)
+    ∙ c .before .before .before .before .condition .ensures .no _ _ _ _ _ (c .enum-told2 .given .1) p s (getD w (at₀ + 4) 0) (Q .g) (I .cs))
 
 -- src/block.rt:100:5
 sentence-loop-less : (t : ℕ) → sentence-lts.Need-loop-less (
@@ -1988,7 +2184,16 @@ sentence-ending-requires : (t : ℕ) → sentence-lts.Need-ending-requires (
   put-span-reads.Asked,
   put-span-reads.Learnt,
 ) (sentence-at t) sentence.Post sentence-Inv-loop sentence-μ-loop
-sentence-ending-requires t c κs = let I = c .before .before .before .loop .inv in let Q = c .before .before .before .before .before .before .before .before .before .pattern .ensures .at _ _ (c .before .before .before .before .before .r .given .1) in let k₁₅ : getD (c .before .before .before .before .before .before .before .before .before .before .before .before .before .args .tokens .now) (c .before .before .before .loop .i) 0 ≡ 15 = c .before .before .before .loop .inv .joint (λ e. c .before .if1 .left (c .before .before .kind .ensures ∙ e)) in let o = I .on in let q = Q .on in let R = I .ready in let v = I .few in let g = c .before .before .before .before .before .before .before .before .before .before .before .before .before .pre .1 .0 in (omega arith, (ready-next _ _ (I .ready) (other _ _ _ k₁₅ refl), omega arith))
+sentence-ending-requires t c κs = let w = c .before .before .before .before .before .before .before .before .before .before .before .before .before .args .tokens .now in
+    let i₀ = c .before .before .before .loop .i in
+    let pre₀ = c .before .before .before .before .before .before .before .before .before .before .before .before .before .pre .1 in
+    let I = c .before .before .before .loop .inv in
+    let Q = c .before .before .before .before .before .before .before .before .before .pattern .ensures .at _ _ (c .before .before .before .before .before .r .given .1) in
+    let k₁₅ : getD w i₀ 0 ≡ 15 = c .before .before .before .loop .inv .joint (λ e. c .before .if1 .left (c .before .before .kind .ensures ∙ e)) in
+    let o = I .on in
+    let q = Q .on in
+    let R = I .ready in
+    let v = I .few in let g = pre₀ .0 in (omega arith, (ready-next _ _ (I .ready) (other _ _ _ k₁₅ refl), omega arith))
 
 -- src/block.rt:110:17
 sentence-enum-known-r3 : (t : ℕ) → sentence-lts.Need-enum-known-r3 (
@@ -2045,7 +2250,10 @@ sentence-same-length-3 : (t : ℕ) → sentence-lts.Need-same-length-3 (
   put-span-reads.Asked,
   put-span-reads.Learnt,
 ) (sentence-at t) sentence.Post sentence-Inv-loop sentence-μ-loop
-sentence-same-length-3 t c = let I = c .before .before .before .before .before .before .before .before .loop .inv in c .before .before .before .before .ending .kept .1 .0 ∙ I .same ∙ c .before .before .before .before .before .before .before .before .before .before .before .before .before .before .pattern .kept .1 .0
+sentence-same-length-3 t c = let I = c .before .before .before .before .before .before .before .before .loop .inv in
+    c .before .before .before .before .ending .kept .1 .0
+    ∙ I .same
+    ∙ c .before .before .before .before .before .before .before .before .before .before .before .before .before .before .pattern .kept .1 .0
 
 -- src/block.rt:111:9
 sentence-returns-3 : (t : ℕ) → sentence-lts.Need-returns-3 (
@@ -2064,7 +2272,15 @@ sentence-returns-3 : (t : ℕ) → sentence-lts.Need-returns-3 (
   put-span-reads.Asked,
   put-span-reads.Learnt,
 ) (sentence-at t) sentence.Post sentence-Inv-loop sentence-μ-loop
-sentence-returns-3 t c = let Q = c .before .before .before .before .before .before .before .before .before .before .before .before .before .before .pattern .ensures .at _ _ (c .before .before .before .before .before .before .before .before .before .before .r .given .1) in let I = c .before .before .before .before .before .before .before .before .loop .inv in let k₁₅ : getD (c .before .before .before .before .before .before .before .before .before .before .before .before .before .before .before .before .before .before .args .tokens .now) (c .before .before .before .before .before .before .before .before .loop .i) 0 ≡ 15 = c .before .before .before .before .before .before .before .before .loop .inv .joint (λ e. c .before .before .before .before .before .before .if1 .left (c .before .before .before .before .before .before .before .kind .ensures ∙ e)) in is-no (c .enum-told3 .given .1) (λ p s. Q .means (inPattern p s (getD (c .before .before .before .before .before .before .before .before .before .before .before .before .before .before .before .before .before .before .args .tokens .now) (c .before .before .before .before .before .before .before .before .before .before .before .before .before .before .before .before .before .before .args .at + 4) 0)) p s (getD (c .before .before .before .before .before .before .before .before .before .before .before .before .before .before .before .before .before .before .args .tokens .now) (c .before .before .before .before .before .before .before .before .before .before .before .before .before .before .before .before .before .before .args .at + 4) 0) (λ (g : Terms). g) (λ (g : Terms). c0) (λ h t y z. refl) ∙ I .means p s (getD (c .before .before .before .before .before .before .before .before .before .before .before .before .before .before .before .before .before .before .args .tokens .now) (c .before .before .before .before .before .before .before .before .before .before .before .before .before .before .before .before .before .before .args .at + 4) 0) (Q .g) ∙ cond-equals _ _ (I .ready) _ p s (getD (c .before .before .before .before .before .before .before .before .before .before .before .before .before .before .before .before .before .before .args .tokens .now) (c .before .before .before .before .before .before .before .before .before .before .before .before .before .before .before .before .before .before .args .at + 4) 0) (Q .g) (I .cs) k₁₅ ∙ c .before .before .before .before .ending .ensures .no _ _ _ _ _ (c .enum-told3 .given .1) p s (getD (c .before .before .before .before .before .before .before .before .before .before .before .before .before .before .before .before .before .before .args .tokens .now) (c .before .before .before .before .before .before .before .before .before .before .before .before .before .before .before .before .before .before .args .at + 4) 0) (Q .g) (I .cs))
+sentence-returns-3 t c = let w = c .before .before .before .before .before .before .before .before .before .before .before .before .before .before .before .before .before .before .args .tokens .now in
+    let at₀ = c .before .before .before .before .before .before .before .before .before .before .before .before .before .before .before .before .before .before .args .at in
+    let i₀ = c .before .before .before .before .before .before .before .before .loop .i in
+    let Q = c .before .before .before .before .before .before .before .before .before .before .before .before .before .before .pattern .ensures .at _ _ (c .before .before .before .before .before .before .before .before .before .before .r .given .1) in
+    let I = c .before .before .before .before .before .before .before .before .loop .inv in
+    let k₁₅ : getD w i₀ 0 ≡ 15 = c .before .before .before .before .before .before .before .before .loop .inv .joint (λ e. c .before .before .before .before .before .before .if1 .left (c .before .before .before .before .before .before .before .kind .ensures ∙ e)) in
+    is-no (c .enum-told3 .given .1) (λ p s. Q .means (inPattern p s (getD w (at₀ + 4) 0)) p s (getD w (at₀ + 4) 0) (λ (g : Terms). g) (λ (g : Terms). c0) (λ h t y z. refl)
+    ∙ I .means p s (getD w (at₀ + 4) 0) (Q .g) ∙ cond-equals _ _ (I .ready) _ p s (getD w (at₀ + 4) 0) (Q .g) (I .cs) k₁₅
+    ∙ c .before .before .before .before .ending .ensures .no _ _ _ _ _ (c .enum-told3 .given .1) p s (getD w (at₀ + 4) 0) (Q .g) (I .cs))
 
 -- src/block.rt:113:39
 sentence-span-from-requires : (t : ℕ) → sentence-lts.Need-span-from-requires (
@@ -2083,7 +2299,8 @@ sentence-span-from-requires : (t : ℕ) → sentence-lts.Need-span-from-requires
   put-span-reads.Asked,
   put-span-reads.Learnt,
 ) (sentence-at t) sentence.Post sentence-Inv-loop sentence-μ-loop
-sentence-span-from-requires t c κs = c .before .before .before .before .before .before .before .before .before .before .before .before .before .before .before .before .before .before .before .before .pre .1 .0
+sentence-span-from-requires t c κs = let pre₀ = c .before .before .before .before .before .before .before .before .before .before .before .before .before .before .before .before .before .before .before .before .pre .1 in
+    pre₀ .0
 
 -- src/block.rt:113:62
 sentence-end-before-requires : (t : ℕ) → sentence-lts.Need-end-before-requires (
@@ -2121,7 +2338,9 @@ sentence-put-span-requires : (t : ℕ) → sentence-lts.Need-put-span-requires (
   put-span-reads.Asked,
   put-span-reads.Learnt,
 ) (sentence-at t) sentence.Post sentence-Inv-loop sentence-μ-loop
-sentence-put-span-requires t c κs = let N = c .before .before .before .before .before .before .before .before .ending .ensures .at _ _ (c .before .before .before .before .r3 .given .1) in let R = N .ready in let v = N .few in let h = c .before .before .before .before .before .before .before .before .before .before .before .before .before .before .before .before .before .before .before .before .before .before .pre .1 .1 in let g = c .before .before .before .before .before .before .before .before .before .before .before .before .before .before .before .before .before .before .before .before .before .before .pre .1 .0 in (omega arith, omega arith)
+sentence-put-span-requires t c κs = let pre₀ = c .before .before .before .before .before .before .before .before .before .before .before .before .before .before .before .before .before .before .before .before .before .before .pre .1 in
+    let N = c .before .before .before .before .before .before .before .before .ending .ensures .at _ _ (c .before .before .before .before .r3 .given .1) in
+    let R = N .ready in let v = N .few in let h = pre₀ .1 in let g = pre₀ .0 in (omega arith, omega arith)
 
 -- src/block.rt:89:1
 sentence-same-length-4 : (t : ℕ) → sentence-lts.Need-same-length-4 (
@@ -2140,7 +2359,11 @@ sentence-same-length-4 : (t : ℕ) → sentence-lts.Need-same-length-4 (
   put-span-reads.Asked,
   put-span-reads.Learnt,
 ) (sentence-at t) sentence.Post sentence-Inv-loop sentence-μ-loop
-sentence-same-length-4 t c = let I = c .before .before .before .before .before .before .before .before .before .before .before .before .before .before .before .loop .inv in c .before .before .put-span .kept .0 ∙ c .before .before .before .before .before .before .before .before .before .before .before .ending .kept .1 .0 ∙ I .same ∙ c .before .before .before .before .before .before .before .before .before .before .before .before .before .before .before .before .before .before .before .before .before .pattern .kept .1 .0
+sentence-same-length-4 t c = let I = c .before .before .before .before .before .before .before .before .before .before .before .before .before .before .before .loop .inv in
+    c .before .before .put-span .kept .0
+    ∙ c .before .before .before .before .before .before .before .before .before .before .before .ending .kept .1 .0
+    ∙ I .same
+    ∙ c .before .before .before .before .before .before .before .before .before .before .before .before .before .before .before .before .before .before .before .before .before .pattern .kept .1 .0
 
 -- src/block.rt:89:1
 sentence-returns-4 : (t : ℕ) → sentence-lts.Need-returns-4 (
@@ -2159,10 +2382,13 @@ sentence-returns-4 : (t : ℕ) → sentence-lts.Need-returns-4 (
   put-span-reads.Asked,
   put-span-reads.Learnt,
 ) (sentence-at t) sentence.Post sentence-Inv-loop sentence-μ-loop
-sentence-returns-4 t c = let Q = c .before .before .before .before .before .before .before .before .before .before .before .before .before .before .before .before .before .before .before .before .before .pattern .ensures .at _ _ (c .before .before .before .before .before .before .before .before .before .before .before .before .before .before .before .before .before .r .given .1) in
+sentence-returns-4 t c = let w = c .before .before .before .before .before .before .before .before .before .before .before .before .before .before .before .before .before .before .before .before .before .before .before .before .before .args .tokens .now in
+    let at₀ = c .before .before .before .before .before .before .before .before .before .before .before .before .before .before .before .before .before .before .before .before .before .before .before .before .before .args .at in
+    let i₀ = c .before .before .before .before .before .before .before .before .before .before .before .before .before .before .before .loop .i in
+    let Q = c .before .before .before .before .before .before .before .before .before .before .before .before .before .before .before .before .before .before .before .before .before .pattern .ensures .at _ _ (c .before .before .before .before .before .before .before .before .before .before .before .before .before .before .before .before .before .r .given .1) in
     let I = c .before .before .before .before .before .before .before .before .before .before .before .before .before .before .before .loop .inv in
     let N = c .before .before .before .before .before .before .before .before .before .before .before .ending .ensures .at _ _ (c .before .before .before .before .before .before .before .r3 .given .1) in
-    let k₁₅ : getD (c .before .before .before .before .before .before .before .before .before .before .before .before .before .before .before .before .before .before .before .before .before .before .before .before .before .args .tokens .now) (c .before .before .before .before .before .before .before .before .before .before .before .before .before .before .before .loop .i) 0 ≡ 15 = c .before .before .before .before .before .before .before .before .before .before .before .before .before .before .before .loop .inv .joint (λ e. c .before .before .before .before .before .before .before .before .before .before .before .before .before .if1 .left (c .before .before .before .before .before .before .before .before .before .before .before .before .before .before .kind .ensures ∙ e)) in
+    let k₁₅ : getD w i₀ 0 ≡ 15 = c .before .before .before .before .before .before .before .before .before .before .before .before .before .before .before .loop .inv .joint (λ e. c .before .before .before .before .before .before .before .before .before .before .before .before .before .if1 .left (c .before .before .before .before .before .before .before .before .before .before .before .before .before .before .kind .ensures ∙ e)) in
     is-at refl (record {
       f = Q .g;
       cs = I .cs;
@@ -2173,7 +2399,9 @@ sentence-returns-4 t c = let Q = c .before .before .before .before .before .befo
       few = N .few;
       rows = let h₁ = Q .rows in let h₂ = I .rows in let h₃ = N .rows in let h₄ = Q .count in let h₅ = I .count in let h₆ = N .count in let h₇ = N .last in cc;
       count = let h₄ = Q .count in let h₅ = I .count in let h₆ = N .count in cc;
-      means = λ p s. Q .means (inPattern p s (getD (c .before .before .before .before .before .before .before .before .before .before .before .before .before .before .before .before .before .before .before .before .before .before .before .before .before .args .tokens .now) (c .before .before .before .before .before .before .before .before .before .before .before .before .before .before .before .before .before .before .before .before .before .before .before .before .before .args .at + 4) 0)) p s (getD (c .before .before .before .before .before .before .before .before .before .before .before .before .before .before .before .before .before .before .before .before .before .before .before .before .before .args .tokens .now) (c .before .before .before .before .before .before .before .before .before .before .before .before .before .before .before .before .before .before .before .before .before .before .before .before .before .args .at + 4) 0) (λ (g : Terms). g) (λ (g : Terms). c0) (λ h t y z. refl) ∙ I .means p s (getD (c .before .before .before .before .before .before .before .before .before .before .before .before .before .before .before .before .before .before .before .before .before .before .before .before .before .args .tokens .now) (c .before .before .before .before .before .before .before .before .before .before .before .before .before .before .before .before .before .before .before .before .before .before .before .before .before .args .at + 4) 0) (Q .g) ∙ cond-equals _ _ (I .ready) _ p s (getD (c .before .before .before .before .before .before .before .before .before .before .before .before .before .before .before .before .before .before .before .before .before .before .before .before .before .args .tokens .now) (c .before .before .before .before .before .before .before .before .before .before .before .before .before .before .before .before .before .before .before .before .before .before .before .before .before .args .at + 4) 0) (Q .g) (I .cs) k₁₅ ∙ N .means p s (getD (c .before .before .before .before .before .before .before .before .before .before .before .before .before .before .before .before .before .before .before .before .before .before .before .before .before .args .tokens .now) (c .before .before .before .before .before .before .before .before .before .before .before .before .before .before .before .before .before .before .before .before .before .before .before .before .before .args .at + 4) 0) (Q .g) (I .cs);
+      means = λ p s. Q .means (inPattern p s (getD w (at₀ + 4) 0)) p s (getD w (at₀ + 4) 0) (λ (g : Terms). g) (λ (g : Terms). c0) (λ h t y z. refl)
+          ∙ I .means p s (getD w (at₀ + 4) 0) (Q .g) ∙ cond-equals _ _ (I .ready) _ p s (getD w (at₀ + 4) 0) (Q .g) (I .cs) k₁₅
+          ∙ N .means p s (getD w (at₀ + 4) 0) (Q .g) (I .cs);
     })
 
 pub +block+condition+ending+sentence-spec : {M : Type 1} → statement M

@@ -1,3 +1,4 @@
+-- `refal_parser::block::joins` meets its contract: a comma, `=`, or another kind.
 use mathlib.Core.Path.{_≡_, refl, sym, ap, _∙_}
 use Rattle.refal_parser.proofs.Steps.{is-at, is-no, joins-none}
 use borrow.Author.Needs.{needs}

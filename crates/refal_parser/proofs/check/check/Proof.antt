@@ -1,3 +1,4 @@
+-- `refal_parser::check::check` meets its contract: one pass over the rows, each token good, an Eof last.
 use Prim.Native.Nat.{ℕ, _-_, _+_, _≤_, _%_}
 use mathlib.Core.Path.{_≡_, refl, sym, _∙_}
 use lib.ListN.{length}
@@ -43,7 +44,11 @@ good-token-requires c κs = search needs
 
 -- src/check.rt:72:13
 returns-3 : tie.Need-returns-3 Inv-loop μ-loop
-returns-3 c = let I = c .before .before .before .loop .inv in let m = I .1 in let t = c .before .before .loop-test .taken in sym (well _ false (c .before .before .before .before .before .if1 .left) (c .before .before .before .before .if2 .left) (I .2 ∙ ok-bad _ _ (c .before .before .loop-test .taken) (omega arith) (sym (c .before .good-token .ensures) ∙ not-true _ (c .if3 .taken))))
+returns-3 c = let I = c .before .before .before .loop .inv in
+    let m = I .1 in
+    let t = c .before .before .loop-test .taken in
+    sym (well _ false (c .before .before .before .before .before .if1 .left) (c .before .before .before .before .if2 .left) (I .2
+    ∙ ok-bad _ _ (c .before .before .loop-test .taken) (omega arith) (sym (c .before .good-token .ensures) ∙ not-true _ (c .if3 .taken))))
 
 -- src/check.rt:74:9
 add-i : tie.Need-add-i Inv-loop μ-loop
@@ -55,7 +60,10 @@ loop-less c = search needs
 
 -- src/check.rt:70:5
 loop-again : tie.Need-loop-again Inv-loop μ-loop
-loop-again c = let I = c .before .before .before .loop .inv in let m = I .1 in let t = c .before .before .loop-test .taken in (omega arith, omega arith, I .2 ∙ ok-go _ _ (c .before .before .loop-test .taken) (omega arith) (sym (c .before .good-token .ensures) ∙ not-false _ (c .if3 .left)))
+loop-again c = let I = c .before .before .before .loop .inv in
+    let m = I .1 in
+    let t = c .before .before .loop-test .taken in
+    (omega arith, omega arith, I .2 ∙ ok-go _ _ (c .before .before .loop-test .taken) (omega arith) (sym (c .before .good-token .ensures) ∙ not-false _ (c .if3 .left)))
 
 -- src/check.rt:76:8
 add-if4 : tie.Need-add-if4 Inv-loop μ-loop
@@ -71,7 +79,10 @@ returns-4 c = sym (well _ _ (c .before .before .before .before .before .if1 .lef
 
 -- src/check.rt:59:1
 returns-5 : tie.Need-returns-5 Inv-loop μ-loop
-returns-5 c = let n = c .if4 .left in let l = c .before .loop-test .left in sym (well _ false (c .before .before .before .before .if1 .left) (c .before .before .before .if2 .left) (c .before .before .loop .inv .2 ∙ ok-none (c .before .before .before .before .before .before .args .tokens .now) (c .before .before .loop .i) (omega arith)))
+returns-5 c = let w = c .before .before .before .before .before .before .args .tokens .now in
+    let i₀ = c .before .before .loop .i in
+    let n = c .if4 .left in
+    let l = c .before .loop-test .left in sym (well _ false (c .before .before .before .before .if1 .left) (c .before .before .before .if2 .left) (c .before .before .loop .inv .2 ∙ ok-none w i₀ (omega arith)))
 
 pub check-spec : {M : Type 1} → statement M
 check-spec =

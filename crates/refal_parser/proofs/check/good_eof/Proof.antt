@@ -1,3 +1,4 @@
+-- `refal_parser::check::good_eof` meets its contract: the test of the last token.
 use mathlib.Core.Path.{_≡_, ap}
 use mathlib.Core.Bool.{Bool, _&&_}
 use lib.Dec.{eqb}
@@ -59,7 +60,9 @@ good-fields-requires c κs = search needs
 
 -- src/check.rt:49:1
 returns : tie.Need-returns
-returns c = ap (λ (b : Bool). eqb (getD (c .before .before .before .before .before .before .args .tokens .now) (c .before .before .before .before .before .before .args .at) 0) 17 && b) (c .good-fields .ensures)
+returns c = let w = c .before .before .before .before .before .before .args .tokens .now in
+    let at₀ = c .before .before .before .before .before .before .args .at in
+    ap (λ (b : Bool). eqb (getD w at₀ 0) 17 && b) (c .good-fields .ensures)
 
 pub good-eof-spec : {M : Type 1} → statement M
 good-eof-spec =

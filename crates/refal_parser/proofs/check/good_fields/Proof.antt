@@ -1,3 +1,4 @@
+-- `refal_parser::check::good_fields` meets its contract: unused fields are 0.
 use mathlib.Core.Path.{_≡_, ap, _∙_}
 use mathlib.Core.Bool.{Bool, _&&_, _||_}
 use lib.Dec.{eqb}

@@ -1,3 +1,4 @@
+-- `refal_parser::check::good_token` meets its contract: the test of a token that is not the last.
 use mathlib.Core.Path.{_≡_, ap}
 use mathlib.Core.Bool.{Bool, _&&_}
 use lib.Dec.{leb}
@@ -59,7 +60,9 @@ good-fields-requires c κs = search needs
 
 -- src/check.rt:40:1
 returns : tie.Need-returns
-returns c = ap (λ (b : Bool). (leb 1 (getD (c .before .before .before .before .before .before .args .tokens .now) (c .before .before .before .before .before .before .args .at) 0) && leb (getD (c .before .before .before .before .before .before .args .tokens .now) (c .before .before .before .before .before .before .args .at) 0) 16) && b) (c .good-fields .ensures)
+returns c = let w = c .before .before .before .before .before .before .args .tokens .now in
+    let at₀ = c .before .before .before .before .before .before .args .at in
+    ap (λ (b : Bool). (leb 1 (getD w at₀ 0) && leb (getD w at₀ 0) 16) && b) (c .good-fields .ensures)
 
 pub good-token-spec : {M : Type 1} → statement M
 good-token-spec =

@@ -1,3 +1,4 @@
+-- `refal_parser::items::function` meets its contract: a name, then a body in braces.
 use mathlib.Core.Path.{_≡_, refl, sym, ap, subst, _∙_}
 use Prim.Native.Nat.{ℕ, zero, suc, _+_, _-_, _<_, _≤_}
 use native.Mathlib.Omega.{arith}
@@ -22,27 +23,40 @@ use Rattle.refal_parser.proofs.tokens.text_start.Reads as text-start-re
 
 -- src/items.rt:64:16
 add-open : tie.Need-add-open
-add-open c = let R = c .before .before .pre .1 in omega arith
+add-open c = let pre₀ = c .before .before .pre in
+    let R = pre₀ .1 in omega arith
 
 -- src/items.rt:65:8
 kind-requires : tie.Need-kind-requires
-kind-requires c κs = (ready-next _ _ (c .before .before .pre .1) (other _ _ _ (c .before .before .pre .3) refl))
+kind-requires c κs = let pre₀ = c .before .before .pre in
+    (ready-next _ _ (pre₀ .1) (other _ _ _ (pre₀ .3) refl))
 
 -- src/items.rt:66:9
 present-requires : tie.Need-present-requires
-present-requires c κs = (ready-next _ _ (c .before .before .before .before .pre .1) (other _ _ _ (c .before .before .before .before .pre .3) refl))
+present-requires c κs = let pre₀ = c .before .before .before .before .pre in
+    (ready-next _ _ (pre₀ .1) (other _ _ _ (pre₀ .3) refl))
 
 -- src/items.rt:66:9
 returns : tie.Need-returns
-returns c = is-no (c .present .ensures) (λ p x. head-none _ _ (ready-next _ _ (c .before .before .before .before .before .pre .1) (other _ _ _ (c .before .before .before .before .before .pre .3) refl)) p (getD (c .before .before .before .before .before .args .tokens .now) (c .before .before .before .before .before .args .at + 4) 0) x (getD (c .before .before .before .before .before .args .tokens .now) (c .before .before .before .before .before .args .name + 2) 0) (getD (c .before .before .before .before .before .args .tokens .now) (c .before .before .before .before .before .args .name + 3) 0) (λ e. c .before .if1 .taken (c .before .before .kind .ensures ∙ e)))
+returns c = let w = c .before .before .before .before .before .args .tokens .now in
+    let at₀ = c .before .before .before .before .before .args .at in
+    let name₀ = c .before .before .before .before .before .args .name in
+    let pre₀ = c .before .before .before .before .before .pre in
+    is-no (c .present .ensures) (λ p x. head-none _ _ (ready-next _ _ (pre₀ .1) (other _ _ _ (pre₀ .3) refl)) p (getD w (at₀ + 4) 0) x (getD w (name₀ + 2) 0) (getD w (name₀ + 3) 0) (λ e. c .before .if1 .taken (c .before .before .kind .ensures
+    ∙ e)))
 
 -- src/items.rt:68:17
 add-first : tie.Need-add-first
-add-first c = let R = c .before .before .before .before .pre .1 in let h = c .before .before .before .before .pre .2 in omega arith
+add-first c = let pre₀ = c .before .before .before .before .pre in
+    let R = pre₀ .1 in let h = pre₀ .2 in omega arith
 
 -- src/items.rt:69:9
 block-requires : tie.Need-block-requires
-block-requires c κs = let k₇ : getD (c .before .before .before .before .before .args .tokens .now) (c .before .before .before .before .before .args .name + 6) 0 ≡ 7 = sym (c .before .before .kind .ensures) ∙ c .before .if1 .left in let h = c .before .before .before .before .before .pre .2 in ((ready-next _ _ (c .before .before .before .before .before .pre .1) (other _ _ _ (c .before .before .before .before .before .pre .3) refl)), omega arith, k₇)
+block-requires c κs = let w = c .before .before .before .before .before .args .tokens .now in
+    let name₀ = c .before .before .before .before .before .args .name in
+    let pre₀ = c .before .before .before .before .before .pre in
+    let k₇ : getD w (name₀ + 6) 0 ≡ 7 = sym (c .before .before .kind .ensures) ∙ c .before .if1 .left in
+    let h = pre₀ .2 in ((ready-next _ _ (pre₀ .1) (other _ _ _ (pre₀ .3) refl)), omega arith, k₇)
 
 -- src/items.rt:70:17
 enum-known-r : tie.Need-enum-known-r
@@ -58,19 +72,28 @@ same-length c = search needs
 
 -- src/items.rt:71:9
 returns-2 : tie.Need-returns-2
-returns-2 c = let k₇ : getD (c .before .before .before .before .before .before .before .before .before .before .args .tokens .now) (c .before .before .before .before .before .before .before .before .before .before .args .name + 6) 0 ≡ 7 = sym (c .before .before .before .before .before .before .before .kind .ensures) ∙ c .before .before .before .before .before .before .if1 .left in is-no (c .enum-told .given .1) (λ p x. head-open _ _ (ready-next _ _ (c .before .before .before .before .before .before .before .before .before .before .pre .1) (other _ _ _ (c .before .before .before .before .before .before .before .before .before .before .pre .3) refl)) p (getD (c .before .before .before .before .before .before .before .before .before .before .args .tokens .now) (c .before .before .before .before .before .before .before .before .before .before .args .at + 4) 0) x (getD (c .before .before .before .before .before .before .before .before .before .before .args .tokens .now) (c .before .before .before .before .before .before .before .before .before .before .args .name + 2) 0) (getD (c .before .before .before .before .before .before .before .before .before .before .args .tokens .now) (c .before .before .before .before .before .before .before .before .before .before .args .name + 3) 0) k₇ ∙ c .before .before .before .before .block .ensures .no _ _ _ _ _ (c .enum-told .given .1) (body p (getD (c .before .before .before .before .before .before .before .before .before .before .args .tokens .now) (c .before .before .before .before .before .before .before .before .before .before .args .at + 4) 0) x (getD (c .before .before .before .before .before .before .before .before .before .before .args .tokens .now) (c .before .before .before .before .before .before .before .before .before .before .args .name + 2) 0) (getD (c .before .before .before .before .before .before .before .before .before .before .args .tokens .now) (c .before .before .before .before .before .before .before .before .before .before .args .name + 3) 0)))
+returns-2 c = let w = c .before .before .before .before .before .before .before .before .before .before .args .tokens .now in
+    let at₀ = c .before .before .before .before .before .before .before .before .before .before .args .at in
+    let name₀ = c .before .before .before .before .before .before .before .before .before .before .args .name in
+    let pre₀ = c .before .before .before .before .before .before .before .before .before .before .pre in
+    let k₇ : getD w (name₀ + 6) 0 ≡ 7 = sym (c .before .before .before .before .before .before .before .kind .ensures) ∙ c .before .before .before .before .before .before .if1 .left in
+    is-no (c .enum-told .given .1) (λ p x. head-open _ _ (ready-next _ _ (pre₀ .1) (other _ _ _ (pre₀ .3) refl)) p (getD w (at₀ + 4) 0) x (getD w (name₀ + 2) 0) (getD w (name₀ + 3) 0) k₇
+    ∙ c .before .before .before .before .block .ensures .no _ _ _ _ _ (c .enum-told .given .1) (body p (getD w (at₀ + 4) 0) x (getD w (name₀ + 2) 0) (getD w (name₀ + 3) 0)))
 
 -- src/items.rt:78:9
 text-start-requires : tie.Need-text-start-requires
-text-start-requires c κs = c .before .before .before .before .before .before .before .before .before .before .before .before .pre .1
+text-start-requires c κs = let pre₀ = c .before .before .before .before .before .before .before .before .before .before .before .before .pre in
+    pre₀ .1
 
 -- src/items.rt:79:9
 text-len-requires : tie.Need-text-len-requires
-text-len-requires c κs = c .before .before .before .before .before .before .before .before .before .before .before .before .before .pre .1
+text-len-requires c κs = let pre₀ = c .before .before .before .before .before .before .before .before .before .before .before .before .before .pre in
+    pre₀ .1
 
 -- src/items.rt:80:9
 span-from-requires : tie.Need-span-from-requires
-span-from-requires c κs = c .before .before .before .before .before .before .before .before .before .before .before .before .before .before .pre .0
+span-from-requires c κs = let pre₀ = c .before .before .before .before .before .before .before .before .before .before .before .before .before .before .pre in
+    pre₀ .0
 
 -- src/items.rt:81:9
 end-before-requires : tie.Need-end-before-requires
@@ -78,7 +101,9 @@ end-before-requires c κs = let B = c .before .before .before .before .before .b
 
 -- src/items.rt:73:5
 put-node-requires : tie.Need-put-node-requires
-put-node-requires c κs = let B = c .before .before .before .before .before .before .before .before .before .before .block .ensures .at _ _ (c .before .before .before .before .before .before .r .given .1) in let R = B .ready in let v = B .few in let h = c .before .before .before .before .before .before .before .before .before .before .before .before .before .before .before .before .pre .2 in let g = c .before .before .before .before .before .before .before .before .before .before .before .before .before .before .before .before .pre .1 in (omega arith, omega arith)
+put-node-requires c κs = let pre₀ = c .before .before .before .before .before .before .before .before .before .before .before .before .before .before .before .before .pre in
+    let B = c .before .before .before .before .before .before .before .before .before .before .block .ensures .at _ _ (c .before .before .before .before .before .before .r .given .1) in
+    let R = B .ready in let v = B .few in let h = pre₀ .2 in let g = pre₀ .1 in (omega arith, omega arith)
 
 -- src/items.rt:60:1
 same-length-2 : tie.Need-same-length-2
@@ -86,8 +111,12 @@ same-length-2 c = search needs
 
 -- src/items.rt:60:1
 returns-3 : tie.Need-returns-3
-returns-3 c = let B = c .before .before .before .before .before .before .before .before .before .before .before .before .before .block .ensures .at _ _ (c .before .before .before .before .before .before .before .before .before .r .given .1) in
-    let k₇ : getD (c .before .before .before .before .before .before .before .before .before .before .before .before .before .before .before .before .before .before .before .args .tokens .now) (c .before .before .before .before .before .before .before .before .before .before .before .before .before .before .before .before .before .before .before .args .name + 6) 0 ≡ 7 = sym (c .before .before .before .before .before .before .before .before .before .before .before .before .before .before .before .before .kind .ensures) ∙ c .before .before .before .before .before .before .before .before .before .before .before .before .before .before .before .if1 .left in
+returns-3 c = let w = c .before .before .before .before .before .before .before .before .before .before .before .before .before .before .before .before .before .before .before .args .tokens .now in
+    let at₀ = c .before .before .before .before .before .before .before .before .before .before .before .before .before .before .before .before .before .before .before .args .at in
+    let name₀ = c .before .before .before .before .before .before .before .before .before .before .before .before .before .before .before .before .before .before .before .args .name in
+    let pre₀ = c .before .before .before .before .before .before .before .before .before .before .before .before .before .before .before .before .before .before .before .pre in
+    let B = c .before .before .before .before .before .before .before .before .before .before .before .before .before .block .ensures .at _ _ (c .before .before .before .before .before .before .before .before .before .r .given .1) in
+    let k₇ : getD w (name₀ + 6) 0 ≡ 7 = sym (c .before .before .before .before .before .before .before .before .before .before .before .before .before .before .before .before .kind .ensures) ∙ c .before .before .before .before .before .before .before .before .before .before .before .before .before .before .before .if1 .left in
     is-at refl (record {
       v = B .v;
       e = B .t .to;
@@ -96,7 +125,8 @@ returns-3 c = let B = c .before .before .before .before .before .before .before 
       few = B .few;
       rows = let h = B .rows in let l = B .last in cc;
       count = B .count;
-      means = λ p x. head-open _ _ (ready-next _ _ (c .before .before .before .before .before .before .before .before .before .before .before .before .before .before .before .before .before .before .before .pre .1) (other _ _ _ (c .before .before .before .before .before .before .before .before .before .before .before .before .before .before .before .before .before .before .before .pre .3) refl)) p (getD (c .before .before .before .before .before .before .before .before .before .before .before .before .before .before .before .before .before .before .before .args .tokens .now) (c .before .before .before .before .before .before .before .before .before .before .before .before .before .before .before .before .before .before .before .args .at + 4) 0) x (getD (c .before .before .before .before .before .before .before .before .before .before .before .before .before .before .before .before .before .before .before .args .tokens .now) (c .before .before .before .before .before .before .before .before .before .before .before .before .before .before .before .before .before .before .before .args .name + 2) 0) (getD (c .before .before .before .before .before .before .before .before .before .before .before .before .before .before .before .before .before .before .before .args .tokens .now) (c .before .before .before .before .before .before .before .before .before .before .before .before .before .before .before .before .before .before .before .args .name + 3) 0) k₇ ∙ B .means (body p (getD (c .before .before .before .before .before .before .before .before .before .before .before .before .before .before .before .before .before .before .before .args .tokens .now) (c .before .before .before .before .before .before .before .before .before .before .before .before .before .before .before .before .before .before .before .args .at + 4) 0) x (getD (c .before .before .before .before .before .before .before .before .before .before .before .before .before .before .before .before .before .before .before .args .tokens .now) (c .before .before .before .before .before .before .before .before .before .before .before .before .before .before .before .before .before .before .before .args .name + 2) 0) (getD (c .before .before .before .before .before .before .before .before .before .before .before .before .before .before .before .before .before .before .before .args .tokens .now) (c .before .before .before .before .before .before .before .before .before .before .before .before .before .before .before .before .before .before .before .args .name + 3) 0));
+      means = λ p x. head-open _ _ (ready-next _ _ (pre₀ .1) (other _ _ _ (pre₀ .3) refl)) p (getD w (at₀ + 4) 0) x (getD w (name₀ + 2) 0) (getD w (name₀ + 3) 0) k₇
+          ∙ B .means (body p (getD w (at₀ + 4) 0) x (getD w (name₀ + 2) 0) (getD w (name₀ + 3) 0));
     })
 
 pub function-spec : {M : Type 1} → statement M

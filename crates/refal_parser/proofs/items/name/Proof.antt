@@ -1,3 +1,4 @@
+-- `refal_parser::items::name` meets its contract: an identifier, or 31.
 use mathlib.Core.Path.{_≡_, refl, sym, ap, _∙_}
 use lib.ListN.{getD}
 use native.Mathlib.Omega.{arith}
@@ -24,7 +25,12 @@ taken-requires c κs = search needs
 
 -- src/items.rt:21:9
 returns : tie.Need-returns
-returns c = is-no (c .taken .ensures) (record { first = λ p a. first-none _ _ (c .before .before .before .before .before .pre .0) p a (λ e. c .before .if1 .taken (c .before .before .kind .ensures ∙ e)); more = λ p a ns. more-none _ _ (c .before .before .before .before .before .pre .0) p a ns (λ e. c .before .if1 .taken (c .before .before .kind .ensures ∙ e)) })
+returns c = let pre₀ = c .before .before .before .before .before .pre in
+    is-no (c .taken .ensures) (record {
+      first = λ p a. first-none _ _ (pre₀ .0) p a (λ e. c .before .if1 .taken (c .before .before .kind .ensures
+          ∙ e));
+      more = λ p a ns. more-none _ _ (pre₀ .0) p a ns (λ e. c .before .if1 .taken (c .before .before .kind .ensures ∙ e));
+    })
 
 -- src/items.rt:23:16
 add-next : tie.Need-add-next
@@ -52,14 +58,17 @@ same-length c = search needs
 
 -- src/items.rt:16:1
 returns-2 : tie.Need-returns-2
-returns-2 c = let k : getD (c .before .before .before .before .before .before .before .before .before .before .args .tokens .now) (c .before .before .before .before .before .before .before .before .before .before .args .at) 0 ≡ 3 = sym (c .before .before .before .before .before .before .before .kind .ensures) ∙ c .before .before .before .before .before .before .if1 .left in
+returns-2 c = let w = c .before .before .before .before .before .before .before .before .before .before .args .tokens .now in
+    let at₀ = c .before .before .before .before .before .before .before .before .before .before .args .at in
+    let pre₀ = c .before .before .before .before .before .before .before .before .before .before .pre in
+    let k : getD w at₀ 0 ≡ 3 = sym (c .before .before .before .before .before .before .before .kind .ensures) ∙ c .before .before .before .before .before .before .if1 .left in
     is-at refl (record {
-      ready = ready-next _ _ (c .before .before .before .before .before .before .before .before .before .before .pre .0) (other _ _ _ k refl);
+      ready = ready-next _ _ (pre₀ .0) (other _ _ _ k refl);
       next = refl;
       count = refl;
       rows = cc;
-      first = λ p a. first-name _ _ (c .before .before .before .before .before .before .before .before .before .before .pre .0) p a k;
-      more = λ p a ns. more-name _ _ (c .before .before .before .before .before .before .before .before .before .before .pre .0) p a ns k;
+      first = λ p a. first-name _ _ (pre₀ .0) p a k;
+      more = λ p a ns. more-name _ _ (pre₀ .0) p a ns k;
     })
 
 pub name-spec : {M : Type 1} → statement M

@@ -1,3 +1,4 @@
+-- `refal_parser::items::program` meets its contract: items up to Eof.
 use mathlib.Core.Path.{_≡_, refl, sym, ap, subst, _∙_}
 use Prim.Native.Nat.{ℕ, zero, suc, _+_, _-_, _<_, _≤_}
 use native.Mathlib.Omega.{arith}
@@ -27,7 +28,8 @@ abbrev μ-loop : tie.MeasureT-loop
 -- src/items.rt:116:5
 loop-holds : tie.Need-loop-holds Inv-loop μ-loop
 unfolding sizeP wP
-loop-holds c = record { t = p0; ready = c .before .before .pre; few = omega arith; same = refl; rows = refl; count = refl; means = refl }
+loop-holds c = let pre₀ = c .before .before .pre in
+    record { t = p0; ready = pre₀; few = omega arith; same = refl; rows = refl; count = refl; means = refl }
 
 -- src/items.rt:116:11
 kind-requires : tie.Need-kind-requires Inv-loop μ-loop
@@ -47,8 +49,10 @@ loop-less c = let I = c .before .before .before .before .loop .inv in let R = I 
 
 -- src/items.rt:116:5
 loop-again : tie.Need-loop-again Inv-loop μ-loop
-loop-again c = let I = c .before .before .before .before .loop .inv in
-    let k₁₆ : getD (c .before .before .before .before .before .before .before .args .tokens .now) (c .before .before .before .before .loop .i) 0 ≡ 16 = sym (c .before .kind2 .ensures) ∙ c .if2 .taken in
+loop-again c = let w = c .before .before .before .before .before .before .before .args .tokens .now in
+    let i₀ = c .before .before .before .before .loop .i in
+    let I = c .before .before .before .before .loop .inv in
+    let k₁₆ : getD w i₀ 0 ≡ 16 = sym (c .before .kind2 .ensures) ∙ c .if2 .taken in
     record {
       t = I .t;
       ready = ready-next _ _ (I .ready) (other _ _ _ k₁₆ refl);

@@ -1,3 +1,4 @@
+-- `refal_parser::nodes::put_symbol` meets its contract: the row of a symbol, by what it is.
 use mathlib.Core.Path.{_≡_, refl, sym, ap, _∙_}
 use Prim.Native.Nat.{_+_}
 use Rattle.refal_ast.specs.Tree.{symbol}
@@ -45,7 +46,9 @@ same-length c = search needs
 
 -- src/nodes.rt:34:1
 returns : tie.Need-returns
-returns c = c .before .before .put-node .ensures ∙ ap (λ (z : Symbol). putNode (c .before .before .before .before .before .before .before .before .args .rows .now) (c .before .before .before .before .before .before .before .before .args .m) (leafRow (symbol z) (c .before .before .before .before .before .before .before .before .args .from) (c .before .before .before .before .before .before .before .before .args .to) (c .before .before .before .before .before .before .before .before .args .m + 1))) (sym (c .before .before .before .before .before .s .given .1))
+returns c = let b₀ = c .before .before .before .before .before .before .before .before .args .rows .now in
+    let m₀ = c .before .before .before .before .before .before .before .before .args .m in
+    c .before .before .put-node .ensures ∙ ap (λ (z : Symbol). putNode b₀ m₀ (leafRow (symbol z) (c .before .before .before .before .before .before .before .before .args .from) (c .before .before .before .before .before .before .before .before .args .to) (m₀ + 1))) (sym (c .before .before .before .before .before .s .given .1))
 
 -- src/nodes.rt:34:1
 same-length-2 : tie.Need-same-length-2
@@ -53,7 +56,9 @@ same-length-2 c = search needs
 
 -- src/nodes.rt:34:1
 returns-2 : tie.Need-returns-2
-returns-2 c = c .before .before .put-node2 .ensures ∙ ap (λ (z : Symbol). putNode (c .before .before .before .before .before .before .before .before .args .rows .now) (c .before .before .before .before .before .before .before .before .args .m) (leafRow (symbol z) (c .before .before .before .before .before .before .before .before .args .from) (c .before .before .before .before .before .before .before .before .args .to) (c .before .before .before .before .before .before .before .before .args .m + 1))) (sym (c .before .before .before .before .before .s2 .given .1))
+returns-2 c = let b₀ = c .before .before .before .before .before .before .before .before .args .rows .now in
+    let m₀ = c .before .before .before .before .before .before .before .before .args .m in
+    c .before .before .put-node2 .ensures ∙ ap (λ (z : Symbol). putNode b₀ m₀ (leafRow (symbol z) (c .before .before .before .before .before .before .before .before .args .from) (c .before .before .before .before .before .before .before .before .args .to) (m₀ + 1))) (sym (c .before .before .before .before .before .s2 .given .1))
 
 -- src/nodes.rt:34:1
 same-length-3 : tie.Need-same-length-3
@@ -61,7 +66,9 @@ same-length-3 c = search needs
 
 -- src/nodes.rt:34:1
 returns-3 : tie.Need-returns-3
-returns-3 c = c .before .before .put-node3 .ensures ∙ ap (λ (z : Symbol). putNode (c .before .before .before .before .before .before .before .before .args .rows .now) (c .before .before .before .before .before .before .before .before .args .m) (leafRow (symbol z) (c .before .before .before .before .before .before .before .before .args .from) (c .before .before .before .before .before .before .before .before .args .to) (c .before .before .before .before .before .before .before .before .args .m + 1))) (sym (c .before .before .before .before .before .s3 .given .1))
+returns-3 c = let b₀ = c .before .before .before .before .before .before .before .before .args .rows .now in
+    let m₀ = c .before .before .before .before .before .before .before .before .args .m in
+    c .before .before .put-node3 .ensures ∙ ap (λ (z : Symbol). putNode b₀ m₀ (leafRow (symbol z) (c .before .before .before .before .before .before .before .before .args .from) (c .before .before .before .before .before .before .before .before .args .to) (m₀ + 1))) (sym (c .before .before .before .before .before .s3 .given .1))
 
 pub put-symbol-spec : {M : Type 1} → statement M
 put-symbol-spec =

@@ -1,3 +1,4 @@
+-- `refal_parser::nodes::put_variable` meets its contract: the row of a variable.
 use mathlib.Core.Path.{_≡_, refl, sym, ap, _∙_}
 use Prim.Native.Nat.{ℕ, _+_}
 use Rattle.refal_ast.specs.Kinds.{nodeVariable}
@@ -29,7 +30,10 @@ same-length c = search needs
 
 -- src/nodes.rt:62:1
 returns : tie.Need-returns
-returns c = c .before .before .put-node .ensures ∙ ap (λ (z : ℕ). putNode (c .before .before .before .before .before .before .args .rows .now) (c .before .before .before .before .before .before .args .m) (node nodeVariable z (c .before .before .before .before .before .before .args .start) (c .before .before .before .before .before .before .args .len) (c .before .before .before .before .before .before .args .from) (c .before .before .before .before .before .before .args .to) (c .before .before .before .before .before .before .args .m + 1))) (c .before .before .before .letter .ensures)
+returns c = let b₀ = c .before .before .before .before .before .before .args .rows .now in
+    let m₀ = c .before .before .before .before .before .before .args .m in
+    c .before .before .put-node .ensures
+    ∙ ap (λ (z : ℕ). putNode b₀ m₀ (node nodeVariable z (c .before .before .before .before .before .before .args .start) (c .before .before .before .before .before .before .args .len) (c .before .before .before .before .before .before .args .from) (c .before .before .before .before .before .before .args .to) (m₀ + 1))) (c .before .before .before .letter .ensures)
 
 pub put-variable-spec : {M : Type 1} → statement M
 put-variable-spec =

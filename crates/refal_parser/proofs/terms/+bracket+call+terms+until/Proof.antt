@@ -1,3 +1,4 @@
+-- `refal_parser::terms::bracket`, `refal_parser::terms::call`, `refal_parser::terms::terms`, `refal_parser::terms::until` meet their contracts: terms, brackets and calls as the machine reads them; the falling number is the depth left.
 use mathlib.Core.Path.{_≡_, refl, sym, ap, subst, _∙_}
 use Prim.Native.Nat.{ℕ, zero, suc, _+_, _-_, _<_, _≤_}
 use native.Mathlib.Omega.{arith}
@@ -110,7 +111,8 @@ bracket-returns : (t : ℕ) → bracket-lts.Need-returns (
   put-node-reads.Asked,
   put-node-reads.Learnt,
 ) (bracket-at t) bracket.Post
-bracket-returns t c = is-no (c .present .ensures) (λ x f. bracket-deep _ _ (c .before .before .before .before .pre .1 .0) _ x f (c .before .before .before .before .pre .1 .2) (c .before .if1 .taken))
+bracket-returns t c = let pre₀ = c .before .before .before .before .pre .1 in
+    is-no (c .present .ensures) (λ x f. bracket-deep _ _ (pre₀ .0) _ x f (pre₀ .2) (c .before .if1 .taken))
 
 -- src/terms.rt:130:16
 bracket-add-body : (t : ℕ) → bracket-lts.Need-add-body (
@@ -125,7 +127,8 @@ bracket-add-body : (t : ℕ) → bracket-lts.Need-add-body (
   put-node-reads.Asked,
   put-node-reads.Learnt,
 ) (bracket-at t) bracket.Post
-bracket-add-body t c = let R = (ready-term _ _ _ (c .before .before .before .pre .1 .0) (c .before .before .before .pre .1 .2) refl) in omega arith
+bracket-add-body t c = let pre₀ = c .before .before .before .pre .1 in
+    let R = (ready-term _ _ _ (pre₀ .0) (pre₀ .2) refl) in omega arith
 
 -- src/terms.rt:131:17
 bracket-add-first : (t : ℕ) → bracket-lts.Need-add-first (
@@ -140,7 +143,8 @@ bracket-add-first : (t : ℕ) → bracket-lts.Need-add-first (
   put-node-reads.Asked,
   put-node-reads.Learnt,
 ) (bracket-at t) bracket.Post
-bracket-add-first t c = let R = (ready-term _ _ _ (c .before .before .before .pre .1 .0) (c .before .before .before .pre .1 .2) refl) in let h = c .before .before .before .pre .1 .1 in omega arith
+bracket-add-first t c = let pre₀ = c .before .before .before .pre .1 in
+    let R = (ready-term _ _ _ (pre₀ .0) (pre₀ .2) refl) in let h = pre₀ .1 in omega arith
 
 -- src/terms.rt:132:46
 bracket-sub-until : (t : ℕ) → bracket-lts.Need-sub-until (
@@ -170,7 +174,8 @@ bracket-until-requires : (t : ℕ) → bracket-lts.Need-until-requires (
   put-node-reads.Asked,
   put-node-reads.Learnt,
 ) (bracket-at t) bracket.Post
-bracket-until-requires t c κs = let R = (ready-term _ _ _ (c .before .before .before .before .pre .1 .0) (c .before .before .before .before .pre .1 .2) refl) in let h = c .before .before .before .before .pre .1 .1 in (omega arith, (R, omega arith, omega arith))
+bracket-until-requires t c κs = let pre₀ = c .before .before .before .before .pre .1 in
+    let R = (ready-term _ _ _ (pre₀ .0) (pre₀ .2) refl) in let h = pre₀ .1 in (omega arith, (R, omega arith, omega arith))
 
 -- src/terms.rt:133:17
 bracket-enum-known-r : (t : ℕ) → bracket-lts.Need-enum-known-r (
@@ -230,7 +235,12 @@ bracket-returns-2 : (t : ℕ) → bracket-lts.Need-returns-2 (
   put-node-reads.Asked,
   put-node-reads.Learnt,
 ) (bracket-at t) bracket.Post
-bracket-returns-2 t c = is-no (c .enum-told .given .1) (λ x f. bracket-open _ _ (c .before .before .before .before .before .before .before .before .before .pre .1 .0) _ x f (c .before .before .before .before .before .before .before .before .before .pre .1 .2) (c .before .before .before .before .before .before .if1 .left) ∙ c .before .before .before .before .until .ensures .no _ _ _ _ _ (c .enum-told .given .1) (inBracket x f (getD (c .before .before .before .before .before .before .before .before .before .args .tokens .now) (c .before .before .before .before .before .before .before .before .before .args .at + 4) 0)) (λ (g : Terms) (e : ℕ). within (suc (c .before .before .before .before .before .before .before .before .before .args .left - 1)) x (tBracket f (getD (c .before .before .before .before .before .before .before .before .before .args .tokens .now) (c .before .before .before .before .before .before .before .before .before .args .at + 4) 0) g e)) (λ h t y z. refl))
+bracket-returns-2 t c = let w = c .before .before .before .before .before .before .before .before .before .args .tokens .now in
+    let at₀ = c .before .before .before .before .before .before .before .before .before .args .at in
+    let left₀ = c .before .before .before .before .before .before .before .before .before .args .left in
+    let pre₀ = c .before .before .before .before .before .before .before .before .before .pre .1 in
+    is-no (c .enum-told .given .1) (λ x f. bracket-open _ _ (pre₀ .0) _ x f (pre₀ .2) (c .before .before .before .before .before .before .if1 .left)
+    ∙ c .before .before .before .before .until .ensures .no _ _ _ _ _ (c .enum-told .given .1) (inBracket x f (getD w (at₀ + 4) 0)) (λ (g : Terms) (e : ℕ). within (suc (left₀ - 1)) x (tBracket f (getD w (at₀ + 4) 0) g e)) (λ h t y z. refl))
 
 -- src/terms.rt:136:47
 bracket-span-from-requires : (t : ℕ) → bracket-lts.Need-span-from-requires (
@@ -245,7 +255,8 @@ bracket-span-from-requires : (t : ℕ) → bracket-lts.Need-span-from-requires (
   put-node-reads.Asked,
   put-node-reads.Learnt,
 ) (bracket-at t) bracket.Post
-bracket-span-from-requires t c κs = c .before .before .before .before .before .before .before .before .before .before .before .pre .1 .0
+bracket-span-from-requires t c κs = let pre₀ = c .before .before .before .before .before .before .before .before .before .before .before .pre .1 in
+    pre₀ .0
 
 -- src/terms.rt:136:70
 bracket-end-before-requires : (t : ℕ) → bracket-lts.Need-end-before-requires (
@@ -275,7 +286,9 @@ bracket-put-node-requires : (t : ℕ) → bracket-lts.Need-put-node-requires (
   put-node-reads.Asked,
   put-node-reads.Learnt,
 ) (bracket-at t) bracket.Post
-bracket-put-node-requires t c κs = let U = c .before .before .before .before .before .before .before .before .until .ensures .at _ _ (c .before .before .before .before .r .given .1) in let R = U .closed .ready in let f = U .few in let h = c .before .before .before .before .before .before .before .before .before .before .before .before .before .pre .1 .1 in let g = c .before .before .before .before .before .before .before .before .before .before .before .before .before .pre .1 .0 in (omega arith, omega arith)
+bracket-put-node-requires t c κs = let pre₀ = c .before .before .before .before .before .before .before .before .before .before .before .before .before .pre .1 in
+    let U = c .before .before .before .before .before .before .before .before .until .ensures .at _ _ (c .before .before .before .before .r .given .1) in
+    let R = U .closed .ready in let f = U .few in let h = pre₀ .1 in let g = pre₀ .0 in (omega arith, omega arith)
 
 -- src/terms.rt:123:1
 bracket-same-length-2 : (t : ℕ) → bracket-lts.Need-same-length-2 (
@@ -305,7 +318,12 @@ bracket-returns-3 : (t : ℕ) → bracket-lts.Need-returns-3 (
   put-node-reads.Asked,
   put-node-reads.Learnt,
 ) (bracket-at t) bracket.Post
-bracket-returns-3 t c = let U = c .before .before .before .before .before .before .before .before .before .before .before .until .ensures .at _ _ (c .before .before .before .before .before .before .before .r .given .1) in
+bracket-returns-3 t c = let w = c .before .before .before .before .before .before .before .before .before .before .before .before .before .before .before .before .args .tokens .now in
+    let j₁ = c .before .before .before .before .before .before .before .r .given .0 .0 in
+    let at₀ = c .before .before .before .before .before .before .before .before .before .before .before .before .before .before .before .before .args .at in
+    let left₀ = c .before .before .before .before .before .before .before .before .before .before .before .before .before .before .before .before .args .left in
+    let pre₀ = c .before .before .before .before .before .before .before .before .before .before .before .before .before .before .before .before .pre .1 in
+    let U = c .before .before .before .before .before .before .before .before .before .before .before .until .ensures .at _ _ (c .before .before .before .before .before .before .before .r .given .1) in
     is-at refl (record {
       g = U .g;
       e = U .closed .e;
@@ -315,7 +333,9 @@ bracket-returns-3 t c = let U = c .before .before .before .before .before .befor
       rows = let h = U .rows in let l = U .closed .last in cc;
       count = U .count;
       last = U .closed .last;
-      means = λ x f. bracket-open _ _ (c .before .before .before .before .before .before .before .before .before .before .before .before .before .before .before .before .pre .1 .0) _ x f (c .before .before .before .before .before .before .before .before .before .before .before .before .before .before .before .before .pre .1 .2) (c .before .before .before .before .before .before .before .before .before .before .before .before .before .if1 .left) ∙ U .closed .means (inBracket x f (getD (c .before .before .before .before .before .before .before .before .before .before .before .before .before .before .before .before .args .tokens .now) (c .before .before .before .before .before .before .before .before .before .before .before .before .before .before .before .before .args .at + 4) 0)) (λ (g : Terms) (e : ℕ). within (suc (c .before .before .before .before .before .before .before .before .before .before .before .before .before .before .before .before .args .left - 1)) x (tBracket f (getD (c .before .before .before .before .before .before .before .before .before .before .before .before .before .before .before .before .args .tokens .now) (c .before .before .before .before .before .before .before .before .before .before .before .before .before .before .before .before .args .at + 4) 0) g e)) (λ h t y z. refl) ∙ leveled (c .before .before .before .before .before .before .before .before .before .before .before .before .before .before .before .before .args .tokens .now) (c .before .before .before .before .before .before .before .r .given .0 .0) (c .before .before .before .before .before .before .before .before .before .before .before .before .before .before .before .before .args .left) (λ (d : ℕ). within d x (tBracket f (getD (c .before .before .before .before .before .before .before .before .before .before .before .before .before .before .before .before .args .tokens .now) (c .before .before .before .before .before .before .before .before .before .before .before .before .before .before .before .before .args .at + 4) 0) (U .g) (U .closed .e))) (c .before .before .before .before .before .before .before .before .before .before .before .before .before .if1 .left);
+      means = λ x f. bracket-open _ _ (pre₀ .0) _ x f (pre₀ .2) (c .before .before .before .before .before .before .before .before .before .before .before .before .before .if1 .left)
+          ∙ U .closed .means (inBracket x f (getD w (at₀ + 4) 0)) (λ (g : Terms) (e : ℕ). within (suc (left₀ - 1)) x (tBracket f (getD w (at₀ + 4) 0) g e)) (λ h t y z. refl)
+          ∙ leveled w j₁ left₀ (λ (d : ℕ). within d x (tBracket f (getD w (at₀ + 4) 0) (U .g) (U .closed .e))) (c .before .before .before .before .before .before .before .before .before .before .before .before .before .if1 .left);
     })
 
 -- src/terms.rt:146:9
@@ -362,7 +382,8 @@ call-returns : (t : ℕ) → call-lts.Need-returns (
   put-node-reads.Asked,
   put-node-reads.Learnt,
 ) (call-at t) call.Post
-call-returns t c = is-no (c .present .ensures) (λ x f. call-deep _ _ (c .before .before .before .before .pre .1 .0) _ x f (c .before .before .before .before .pre .1 .2) (c .before .if1 .taken))
+call-returns t c = let pre₀ = c .before .before .before .before .pre .1 in
+    is-no (c .present .ensures) (λ x f. call-deep _ _ (pre₀ .0) _ x f (pre₀ .2) (c .before .if1 .taken))
 
 -- src/terms.rt:148:16
 call-add-name : (t : ℕ) → call-lts.Need-add-name (
@@ -385,7 +406,8 @@ call-add-name : (t : ℕ) → call-lts.Need-add-name (
   put-node-reads.Asked,
   put-node-reads.Learnt,
 ) (call-at t) call.Post
-call-add-name t c = let R = (ready-term _ _ _ (c .before .before .before .pre .1 .0) (c .before .before .before .pre .1 .2) refl) in let h = c .before .before .before .pre .1 .1 in omega arith
+call-add-name t c = let pre₀ = c .before .before .before .pre .1 in
+    let R = (ready-term _ _ _ (pre₀ .0) (pre₀ .2) refl) in let h = pre₀ .1 in omega arith
 
 -- src/terms.rt:149:8
 call-kind-requires : (t : ℕ) → call-lts.Need-kind-requires (
@@ -408,7 +430,8 @@ call-kind-requires : (t : ℕ) → call-lts.Need-kind-requires (
   put-node-reads.Asked,
   put-node-reads.Learnt,
 ) (call-at t) call.Post
-call-kind-requires t c κs = (ready-term _ _ _ (c .before .before .before .pre .1 .0) (c .before .before .before .pre .1 .2) refl)
+call-kind-requires t c κs = let pre₀ = c .before .before .before .pre .1 in
+    (ready-term _ _ _ (pre₀ .0) (pre₀ .2) refl)
 
 -- src/terms.rt:150:9
 call-taken-requires : (t : ℕ) → call-lts.Need-taken-requires (
@@ -431,7 +454,8 @@ call-taken-requires : (t : ℕ) → call-lts.Need-taken-requires (
   put-node-reads.Asked,
   put-node-reads.Learnt,
 ) (call-at t) call.Post
-call-taken-requires t c κs = (ready-term _ _ _ (c .before .before .before .before .before .pre .1 .0) (c .before .before .before .before .before .pre .1 .2) refl)
+call-taken-requires t c κs = let pre₀ = c .before .before .before .before .before .pre .1 in
+    (ready-term _ _ _ (pre₀ .0) (pre₀ .2) refl)
 
 -- src/terms.rt:150:9
 call-returns-2 : (t : ℕ) → call-lts.Need-returns-2 (
@@ -454,7 +478,9 @@ call-returns-2 : (t : ℕ) → call-lts.Need-returns-2 (
   put-node-reads.Asked,
   put-node-reads.Learnt,
 ) (call-at t) call.Post
-call-returns-2 t c = is-no (c .taken .ensures) (λ x f. call-open _ _ (c .before .before .before .before .before .before .pre .1 .0) _ x f (c .before .before .before .before .before .before .pre .1 .2) (c .before .before .before .if1 .left) ∙ call-nameless _ _ (ready-term _ _ _ (c .before .before .before .before .before .before .pre .1 .0) (c .before .before .before .before .before .before .pre .1 .2) refl) _ x f _ (λ e. c .before .if2 .taken (c .before .before .kind .ensures ∙ e)))
+call-returns-2 t c = let pre₀ = c .before .before .before .before .before .before .pre .1 in
+    is-no (c .taken .ensures) (λ x f. call-open _ _ (pre₀ .0) _ x f (pre₀ .2) (c .before .before .before .if1 .left)
+    ∙ call-nameless _ _ (ready-term _ _ _ (pre₀ .0) (pre₀ .2) refl) _ x f _ (λ e. c .before .if2 .taken (c .before .before .kind .ensures ∙ e)))
 
 -- src/terms.rt:152:16
 call-add-body : (t : ℕ) → call-lts.Need-add-body (
@@ -477,7 +503,8 @@ call-add-body : (t : ℕ) → call-lts.Need-add-body (
   put-node-reads.Asked,
   put-node-reads.Learnt,
 ) (call-at t) call.Post
-call-add-body t c = let R = (ready-term _ _ _ (c .before .before .before .before .before .pre .1 .0) (c .before .before .before .before .before .pre .1 .2) refl) in let h = c .before .before .before .before .before .pre .1 .1 in omega arith
+call-add-body t c = let pre₀ = c .before .before .before .before .before .pre .1 in
+    let R = (ready-term _ _ _ (pre₀ .0) (pre₀ .2) refl) in let h = pre₀ .1 in omega arith
 
 -- src/terms.rt:153:17
 call-add-first : (t : ℕ) → call-lts.Need-add-first (
@@ -500,7 +527,8 @@ call-add-first : (t : ℕ) → call-lts.Need-add-first (
   put-node-reads.Asked,
   put-node-reads.Learnt,
 ) (call-at t) call.Post
-call-add-first t c = let R = (ready-term _ _ _ (c .before .before .before .before .before .pre .1 .0) (c .before .before .before .before .before .pre .1 .2) refl) in let h = c .before .before .before .before .before .pre .1 .1 in omega arith
+call-add-first t c = let pre₀ = c .before .before .before .before .before .pre .1 in
+    let R = (ready-term _ _ _ (pre₀ .0) (pre₀ .2) refl) in let h = pre₀ .1 in omega arith
 
 -- src/terms.rt:154:46
 call-sub-until : (t : ℕ) → call-lts.Need-sub-until (
@@ -546,7 +574,12 @@ call-until-requires : (t : ℕ) → call-lts.Need-until-requires (
   put-node-reads.Asked,
   put-node-reads.Learnt,
 ) (call-at t) call.Post
-call-until-requires t c κs = let k₃ : getD (c .before .before .before .before .before .before .args .tokens .now) (c .before .before .before .before .before .before .args .at + 6) 0 ≡ 3 = sym (c .before .before .kind .ensures) ∙ c .before .if2 .left in let R = (ready-term _ _ _ (c .before .before .before .before .before .before .pre .1 .0) (c .before .before .before .before .before .before .pre .1 .2) refl) in let h = c .before .before .before .before .before .before .pre .1 .1 in (omega arith, (ready-next _ _ R (other _ _ _ k₃ refl), omega arith, omega arith))
+call-until-requires t c κs = let w = c .before .before .before .before .before .before .args .tokens .now in
+    let at₀ = c .before .before .before .before .before .before .args .at in
+    let pre₀ = c .before .before .before .before .before .before .pre .1 in
+    let k₃ : getD w (at₀ + 6) 0 ≡ 3 = sym (c .before .before .kind .ensures) ∙ c .before .if2 .left in
+    let R = (ready-term _ _ _ (pre₀ .0) (pre₀ .2) refl) in
+    let h = pre₀ .1 in (omega arith, (ready-next _ _ R (other _ _ _ k₃ refl), omega arith, omega arith))
 
 -- src/terms.rt:155:17
 call-enum-known-r : (t : ℕ) → call-lts.Need-enum-known-r (
@@ -638,7 +671,14 @@ call-returns-3 : (t : ℕ) → call-lts.Need-returns-3 (
   put-node-reads.Asked,
   put-node-reads.Learnt,
 ) (call-at t) call.Post
-call-returns-3 t c = let k₃ : getD (c .before .before .before .before .before .before .before .before .before .before .before .args .tokens .now) (c .before .before .before .before .before .before .before .before .before .before .before .args .at + 6) 0 ≡ 3 = sym (c .before .before .before .before .before .before .before .kind .ensures) ∙ c .before .before .before .before .before .before .if2 .left in is-no (c .enum-told .given .1) (λ x f. call-open _ _ (c .before .before .before .before .before .before .before .before .before .before .before .pre .1 .0) _ x f (c .before .before .before .before .before .before .before .before .before .before .before .pre .1 .2) (c .before .before .before .before .before .before .before .before .if1 .left) ∙ call-name _ _ (ready-term _ _ _ (c .before .before .before .before .before .before .before .before .before .before .before .pre .1 .0) (c .before .before .before .before .before .before .before .before .before .before .before .pre .1 .2) refl) _ x f _ k₃ ∙ c .before .before .before .before .until .ensures .no _ _ _ _ _ (c .enum-told .given .1) (inCall x f (getD (c .before .before .before .before .before .before .before .before .before .before .before .args .tokens .now) (c .before .before .before .before .before .before .before .before .before .before .before .args .at + 4) 0) (getD (c .before .before .before .before .before .before .before .before .before .before .before .args .tokens .now) (c .before .before .before .before .before .before .before .before .before .before .before .args .at + 6 + 2) 0) (getD (c .before .before .before .before .before .before .before .before .before .before .before .args .tokens .now) (c .before .before .before .before .before .before .before .before .before .before .before .args .at + 6 + 3) 0)) (λ (g : Terms) (e : ℕ). within (suc (c .before .before .before .before .before .before .before .before .before .before .before .args .left - 1)) x (tCall f (getD (c .before .before .before .before .before .before .before .before .before .before .before .args .tokens .now) (c .before .before .before .before .before .before .before .before .before .before .before .args .at + 4) 0) (getD (c .before .before .before .before .before .before .before .before .before .before .before .args .tokens .now) (c .before .before .before .before .before .before .before .before .before .before .before .args .at + 6 + 2) 0) (getD (c .before .before .before .before .before .before .before .before .before .before .before .args .tokens .now) (c .before .before .before .before .before .before .before .before .before .before .before .args .at + 6 + 3) 0) g e)) (λ h t y z. refl))
+call-returns-3 t c = let w = c .before .before .before .before .before .before .before .before .before .before .before .args .tokens .now in
+    let at₀ = c .before .before .before .before .before .before .before .before .before .before .before .args .at in
+    let left₀ = c .before .before .before .before .before .before .before .before .before .before .before .args .left in
+    let pre₀ = c .before .before .before .before .before .before .before .before .before .before .before .pre .1 in
+    let k₃ : getD w (at₀ + 6) 0 ≡ 3 = sym (c .before .before .before .before .before .before .before .kind .ensures) ∙ c .before .before .before .before .before .before .if2 .left in
+    is-no (c .enum-told .given .1) (λ x f. call-open _ _ (pre₀ .0) _ x f (pre₀ .2) (c .before .before .before .before .before .before .before .before .if1 .left)
+    ∙ call-name _ _ (ready-term _ _ _ (pre₀ .0) (pre₀ .2) refl) _ x f _ k₃
+    ∙ c .before .before .before .before .until .ensures .no _ _ _ _ _ (c .enum-told .given .1) (inCall x f (getD w (at₀ + 4) 0) (getD w (at₀ + 6 + 2) 0) (getD w (at₀ + 6 + 3) 0)) (λ (g : Terms) (e : ℕ). within (suc (left₀ - 1)) x (tCall f (getD w (at₀ + 4) 0) (getD w (at₀ + 6 + 2) 0) (getD w (at₀ + 6 + 3) 0) g e)) (λ h t y z. refl))
 
 -- src/terms.rt:163:9
 call-text-start-requires : (t : ℕ) → call-lts.Need-text-start-requires (
@@ -661,7 +701,8 @@ call-text-start-requires : (t : ℕ) → call-lts.Need-text-start-requires (
   put-node-reads.Asked,
   put-node-reads.Learnt,
 ) (call-at t) call.Post
-call-text-start-requires t c κs = (ready-term _ _ _ (c .before .before .before .before .before .before .before .before .before .before .before .before .before .pre .1 .0) (c .before .before .before .before .before .before .before .before .before .before .before .before .before .pre .1 .2) refl)
+call-text-start-requires t c κs = let pre₀ = c .before .before .before .before .before .before .before .before .before .before .before .before .before .pre .1 in
+    (ready-term _ _ _ (pre₀ .0) (pre₀ .2) refl)
 
 -- src/terms.rt:164:9
 call-text-len-requires : (t : ℕ) → call-lts.Need-text-len-requires (
@@ -684,7 +725,8 @@ call-text-len-requires : (t : ℕ) → call-lts.Need-text-len-requires (
   put-node-reads.Asked,
   put-node-reads.Learnt,
 ) (call-at t) call.Post
-call-text-len-requires t c κs = (ready-term _ _ _ (c .before .before .before .before .before .before .before .before .before .before .before .before .before .before .pre .1 .0) (c .before .before .before .before .before .before .before .before .before .before .before .before .before .before .pre .1 .2) refl)
+call-text-len-requires t c κs = let pre₀ = c .before .before .before .before .before .before .before .before .before .before .before .before .before .before .pre .1 in
+    (ready-term _ _ _ (pre₀ .0) (pre₀ .2) refl)
 
 -- src/terms.rt:165:9
 call-span-from-requires : (t : ℕ) → call-lts.Need-span-from-requires (
@@ -707,7 +749,8 @@ call-span-from-requires : (t : ℕ) → call-lts.Need-span-from-requires (
   put-node-reads.Asked,
   put-node-reads.Learnt,
 ) (call-at t) call.Post
-call-span-from-requires t c κs = c .before .before .before .before .before .before .before .before .before .before .before .before .before .before .before .pre .1 .0
+call-span-from-requires t c κs = let pre₀ = c .before .before .before .before .before .before .before .before .before .before .before .before .before .before .before .pre .1 in
+    pre₀ .0
 
 -- src/terms.rt:166:9
 call-end-before-requires : (t : ℕ) → call-lts.Need-end-before-requires (
@@ -753,7 +796,9 @@ call-put-node-requires : (t : ℕ) → call-lts.Need-put-node-requires (
   put-node-reads.Asked,
   put-node-reads.Learnt,
 ) (call-at t) call.Post
-call-put-node-requires t c κs = let U = c .before .before .before .before .before .before .before .before .before .before .until .ensures .at _ _ (c .before .before .before .before .before .before .r .given .1) in let R = U .closed .ready in let f = U .few in let h = c .before .before .before .before .before .before .before .before .before .before .before .before .before .before .before .before .before .pre .1 .1 in let g = c .before .before .before .before .before .before .before .before .before .before .before .before .before .before .before .before .before .pre .1 .0 in (omega arith, omega arith)
+call-put-node-requires t c κs = let pre₀ = c .before .before .before .before .before .before .before .before .before .before .before .before .before .before .before .before .before .pre .1 in
+    let U = c .before .before .before .before .before .before .before .before .before .before .until .ensures .at _ _ (c .before .before .before .before .before .before .r .given .1) in
+    let R = U .closed .ready in let f = U .few in let h = pre₀ .1 in let g = pre₀ .0 in (omega arith, omega arith)
 
 -- src/terms.rt:141:1
 call-same-length-2 : (t : ℕ) → call-lts.Need-same-length-2 (
@@ -799,8 +844,13 @@ call-returns-4 : (t : ℕ) → call-lts.Need-returns-4 (
   put-node-reads.Asked,
   put-node-reads.Learnt,
 ) (call-at t) call.Post
-call-returns-4 t c = let U = c .before .before .before .before .before .before .before .before .before .before .before .before .before .until .ensures .at _ _ (c .before .before .before .before .before .before .before .before .before .r .given .1) in
-    let k₃ : getD (c .before .before .before .before .before .before .before .before .before .before .before .before .before .before .before .before .before .before .before .before .args .tokens .now) (c .before .before .before .before .before .before .before .before .before .before .before .before .before .before .before .before .before .before .before .before .args .at + 6) 0 ≡ 3 = sym (c .before .before .before .before .before .before .before .before .before .before .before .before .before .before .before .before .kind .ensures) ∙ c .before .before .before .before .before .before .before .before .before .before .before .before .before .before .before .if2 .left in
+call-returns-4 t c = let w = c .before .before .before .before .before .before .before .before .before .before .before .before .before .before .before .before .before .before .before .before .args .tokens .now in
+    let j₁ = c .before .before .before .before .before .before .before .before .before .r .given .0 .0 in
+    let at₀ = c .before .before .before .before .before .before .before .before .before .before .before .before .before .before .before .before .before .before .before .before .args .at in
+    let left₀ = c .before .before .before .before .before .before .before .before .before .before .before .before .before .before .before .before .before .before .before .before .args .left in
+    let pre₀ = c .before .before .before .before .before .before .before .before .before .before .before .before .before .before .before .before .before .before .before .before .pre .1 in
+    let U = c .before .before .before .before .before .before .before .before .before .before .before .before .before .until .ensures .at _ _ (c .before .before .before .before .before .before .before .before .before .r .given .1) in
+    let k₃ : getD w (at₀ + 6) 0 ≡ 3 = sym (c .before .before .before .before .before .before .before .before .before .before .before .before .before .before .before .before .kind .ensures) ∙ c .before .before .before .before .before .before .before .before .before .before .before .before .before .before .before .if2 .left in
     is-at refl (record {
       g = U .g;
       e = U .closed .e;
@@ -810,7 +860,10 @@ call-returns-4 t c = let U = c .before .before .before .before .before .before .
       rows = let h = U .rows in let l = U .closed .last in cc;
       count = U .count;
       last = U .closed .last;
-      means = λ x f. call-open _ _ (c .before .before .before .before .before .before .before .before .before .before .before .before .before .before .before .before .before .before .before .before .pre .1 .0) _ x f (c .before .before .before .before .before .before .before .before .before .before .before .before .before .before .before .before .before .before .before .before .pre .1 .2) (c .before .before .before .before .before .before .before .before .before .before .before .before .before .before .before .before .before .if1 .left) ∙ call-name _ _ (ready-term _ _ _ (c .before .before .before .before .before .before .before .before .before .before .before .before .before .before .before .before .before .before .before .before .pre .1 .0) (c .before .before .before .before .before .before .before .before .before .before .before .before .before .before .before .before .before .before .before .before .pre .1 .2) refl) _ x f _ k₃ ∙ U .closed .means (inCall x f (getD (c .before .before .before .before .before .before .before .before .before .before .before .before .before .before .before .before .before .before .before .before .args .tokens .now) (c .before .before .before .before .before .before .before .before .before .before .before .before .before .before .before .before .before .before .before .before .args .at + 4) 0) (getD (c .before .before .before .before .before .before .before .before .before .before .before .before .before .before .before .before .before .before .before .before .args .tokens .now) (c .before .before .before .before .before .before .before .before .before .before .before .before .before .before .before .before .before .before .before .before .args .at + 6 + 2) 0) (getD (c .before .before .before .before .before .before .before .before .before .before .before .before .before .before .before .before .before .before .before .before .args .tokens .now) (c .before .before .before .before .before .before .before .before .before .before .before .before .before .before .before .before .before .before .before .before .args .at + 6 + 3) 0)) (λ (g : Terms) (e : ℕ). within (suc (c .before .before .before .before .before .before .before .before .before .before .before .before .before .before .before .before .before .before .before .before .args .left - 1)) x (tCall f (getD (c .before .before .before .before .before .before .before .before .before .before .before .before .before .before .before .before .before .before .before .before .args .tokens .now) (c .before .before .before .before .before .before .before .before .before .before .before .before .before .before .before .before .before .before .before .before .args .at + 4) 0) (getD (c .before .before .before .before .before .before .before .before .before .before .before .before .before .before .before .before .before .before .before .before .args .tokens .now) (c .before .before .before .before .before .before .before .before .before .before .before .before .before .before .before .before .before .before .before .before .args .at + 6 + 2) 0) (getD (c .before .before .before .before .before .before .before .before .before .before .before .before .before .before .before .before .before .before .before .before .args .tokens .now) (c .before .before .before .before .before .before .before .before .before .before .before .before .before .before .before .before .before .before .before .before .args .at + 6 + 3) 0) g e)) (λ h t y z. refl) ∙ leveled (c .before .before .before .before .before .before .before .before .before .before .before .before .before .before .before .before .before .before .before .before .args .tokens .now) (c .before .before .before .before .before .before .before .before .before .r .given .0 .0) (c .before .before .before .before .before .before .before .before .before .before .before .before .before .before .before .before .before .before .before .before .args .left) (λ (d : ℕ). within d x (tCall f (getD (c .before .before .before .before .before .before .before .before .before .before .before .before .before .before .before .before .before .before .before .before .args .tokens .now) (c .before .before .before .before .before .before .before .before .before .before .before .before .before .before .before .before .before .before .before .before .args .at + 4) 0) (getD (c .before .before .before .before .before .before .before .before .before .before .before .before .before .before .before .before .before .before .before .before .args .tokens .now) (c .before .before .before .before .before .before .before .before .before .before .before .before .before .before .before .before .before .before .before .before .args .at + 6 + 2) 0) (getD (c .before .before .before .before .before .before .before .before .before .before .before .before .before .before .before .before .before .before .before .before .args .tokens .now) (c .before .before .before .before .before .before .before .before .before .before .before .before .before .before .before .before .before .before .before .before .args .at + 6 + 3) 0) (U .g) (U .closed .e))) (c .before .before .before .before .before .before .before .before .before .before .before .before .before .before .before .before .before .if1 .left);
+      means = λ x f. call-open _ _ (pre₀ .0) _ x f (pre₀ .2) (c .before .before .before .before .before .before .before .before .before .before .before .before .before .before .before .before .before .if1 .left)
+          ∙ call-name _ _ (ready-term _ _ _ (pre₀ .0) (pre₀ .2) refl) _ x f _ k₃
+          ∙ U .closed .means (inCall x f (getD w (at₀ + 4) 0) (getD w (at₀ + 6 + 2) 0) (getD w (at₀ + 6 + 3) 0)) (λ (g : Terms) (e : ℕ). within (suc (left₀ - 1)) x (tCall f (getD w (at₀ + 4) 0) (getD w (at₀ + 6 + 2) 0) (getD w (at₀ + 6 + 3) 0) g e)) (λ h t y z. refl)
+          ∙ leveled w j₁ left₀ (λ (d : ℕ). within d x (tCall f (getD w (at₀ + 4) 0) (getD w (at₀ + 6 + 2) 0) (getD w (at₀ + 6 + 3) 0) (U .g) (U .closed .e))) (c .before .before .before .before .before .before .before .before .before .before .before .before .before .before .before .before .before .if1 .left);
     })
 
 abbrev terms-Inv-loop : terms-lts.InvT-loop
@@ -839,7 +892,8 @@ terms-loop-holds : (t : ℕ) → terms-lts.Need-loop-holds (
   taken-reads.Learnt,
 ) (terms-at t) terms.Post terms-Inv-loop terms-μ-loop
 unfolding sizeT wT
-terms-loop-holds t c = record { g = t0; ready = c .before .before .pre .1 .0; on = omega arith; few = omega arith; same = refl; rows = refl; count = omega arith; last = refl; means = λ x. refl }
+terms-loop-holds t c = let pre₀ = c .before .before .pre .1 in
+    record { g = t0; ready = pre₀ .0; on = omega arith; few = omega arith; same = refl; rows = refl; count = omega arith; last = refl; means = λ x. refl }
 
 -- src/terms.rt:71:13
 terms-term-at-requires : (t : ℕ) → terms-lts.Need-term-at-requires (
@@ -1029,16 +1083,18 @@ terms-loop-again : (t : ℕ) → terms-lts.Need-loop-again (
   taken-reads.Learnt,
 ) (terms-at t) terms.Post terms-Inv-loop terms-μ-loop
 unfolding sizeT wT
-terms-loop-again t c = let I = c .before .before .before .before .before .before .before .before .before .before .loop .inv in
+terms-loop-again t c = let w = c .before .before .before .before .before .before .before .before .before .before .before .before .before .args .tokens .now in
+    let i₀ = c .before .before .before .before .before .before .before .before .before .before .loop .i in
+    let I = c .before .before .before .before .before .before .before .before .before .before .loop .inv in
     record {
-      g = tLeaf (I .g) (symbol (c .before .before .before .before .before .before .before .t .given .0 .0)) (getD (c .before .before .before .before .before .before .before .before .before .before .before .before .before .args .tokens .now) (c .before .before .before .before .before .before .before .before .before .before .loop .i + 4) 0) (getD (c .before .before .before .before .before .before .before .before .before .before .before .before .before .args .tokens .now) (c .before .before .before .before .before .before .before .before .before .before .loop .i + 5) 0);
+      g = tLeaf (I .g) (symbol (c .before .before .before .before .before .before .before .t .given .0 .0)) (getD w (i₀ + 4) 0) (getD w (i₀ + 5) 0);
       ready = ready-term _ _ _ (I .ready) (sym (c .before .before .before .before .before .before .before .before .before .term-at .ensures) ∙ c .before .before .before .before .before .before .before .t .given .1) refl;
       on = let h = I .on in omega arith;
       few = let h = I .few in omega arith;
       same = c .before .before .put-symbol .kept .0 ∙ I .same;
       rows = let h = I .rows in let k = I .count in cc;
       count = let k = I .count in omega arith;
-      last = end-before (c .before .before .before .before .before .before .before .before .before .before .before .before .before .args .tokens .now) (c .before .before .before .before .before .before .before .before .before .before .loop .i);
+      last = end-before w i₀;
       means = λ x. I .means x ∙ term-step _ _ (I .ready) _ x (I .g) _ (sym (c .before .before .before .before .before .before .before .before .before .term-at .ensures) ∙ c .before .before .before .before .before .before .before .t .given .1);
     }
 
@@ -1209,16 +1265,18 @@ terms-loop-again-2 : (t : ℕ) → terms-lts.Need-loop-again-2 (
   taken-reads.Learnt,
 ) (terms-at t) terms.Post terms-Inv-loop terms-μ-loop
 unfolding sizeT wT
-terms-loop-again-2 t c = let I = c .before .before .before .before .before .before .before .before .before .before .loop .inv in
+terms-loop-again-2 t c = let w = c .before .before .before .before .before .before .before .before .before .before .before .before .before .args .tokens .now in
+    let i₀ = c .before .before .before .before .before .before .before .before .before .before .loop .i in
+    let I = c .before .before .before .before .before .before .before .before .before .before .loop .inv in
     record {
-      g = tLeaf (I .g) (variable (c .before .before .before .before .before .before .before .t2 .given .0 .0) (c .before .before .before .before .before .before .before .t2 .given .0 .1 .0) (c .before .before .before .before .before .before .before .t2 .given .0 .1 .1 .0)) (getD (c .before .before .before .before .before .before .before .before .before .before .before .before .before .args .tokens .now) (c .before .before .before .before .before .before .before .before .before .before .loop .i + 4) 0) (getD (c .before .before .before .before .before .before .before .before .before .before .before .before .before .args .tokens .now) (c .before .before .before .before .before .before .before .before .before .before .loop .i + 5) 0);
+      g = tLeaf (I .g) (variable (c .before .before .before .before .before .before .before .t2 .given .0 .0) (c .before .before .before .before .before .before .before .t2 .given .0 .1 .0) (c .before .before .before .before .before .before .before .t2 .given .0 .1 .1 .0)) (getD w (i₀ + 4) 0) (getD w (i₀ + 5) 0);
       ready = ready-term _ _ _ (I .ready) (sym (c .before .before .before .before .before .before .before .before .before .term-at .ensures) ∙ c .before .before .before .before .before .before .before .t2 .given .1) refl;
       on = let h = I .on in omega arith;
       few = let h = I .few in omega arith;
       same = c .before .before .put-variable .kept .0 ∙ I .same;
       rows = let h = I .rows in let k = I .count in cc;
       count = let k = I .count in omega arith;
-      last = end-before (c .before .before .before .before .before .before .before .before .before .before .before .before .before .args .tokens .now) (c .before .before .before .before .before .before .before .before .before .before .loop .i);
+      last = end-before w i₀;
       means = λ x. I .means x ∙ term-step _ _ (I .ready) _ x (I .g) _ (sym (c .before .before .before .before .before .before .before .before .before .term-at .ensures) ∙ c .before .before .before .before .before .before .before .t2 .given .1);
     }
 
@@ -1346,7 +1404,8 @@ terms-returns : (t : ℕ) → terms-lts.Need-returns (
   taken-reads.Asked,
   taken-reads.Learnt,
 ) (terms-at t) terms.Post terms-Inv-loop terms-μ-loop
-terms-returns t c = let I = c .before .before .before .before .before .before .before .before .before .loop .inv in is-no (c .enum-told2 .given .1) (λ x. I .means x ∙ c .before .before .before .before .bracket .ensures .no _ _ _ _ _ (c .enum-told2 .given .1) x (I .g))
+terms-returns t c = let I = c .before .before .before .before .before .before .before .before .before .loop .inv in
+    is-no (c .enum-told2 .given .1) (λ x. I .means x ∙ c .before .before .before .before .bracket .ensures .no _ _ _ _ _ (c .enum-told2 .given .1) x (I .g))
 
 -- src/terms.rt:70:5
 terms-loop-less-3 : (t : ℕ) → terms-lts.Need-loop-less-3 (
@@ -1389,10 +1448,12 @@ terms-loop-again-3 : (t : ℕ) → terms-lts.Need-loop-again-3 (
   taken-reads.Learnt,
 ) (terms-at t) terms.Post terms-Inv-loop terms-μ-loop
 unfolding sizeT wT
-terms-loop-again-3 t c = let I = c .before .before .before .before .before .before .before .before .before .before .loop .inv in
+terms-loop-again-3 t c = let w = c .before .before .before .before .before .before .before .before .before .before .before .before .before .args .tokens .now in
+    let i₀ = c .before .before .before .before .before .before .before .before .before .before .loop .i in
+    let I = c .before .before .before .before .before .before .before .before .before .before .loop .inv in
     let b = c .before .before .before .before .before .bracket .ensures .at _ _ (c .before .r .given .1) in
     record {
-      g = tBracket (I .g) (getD (c .before .before .before .before .before .before .before .before .before .before .before .before .before .args .tokens .now) (c .before .before .before .before .before .before .before .before .before .before .loop .i + 4) 0) (b .g) (b .e);
+      g = tBracket (I .g) (getD w (i₀ + 4) 0) (b .g) (b .e);
       ready = b .ready;
       on = let h = b .on in let k = I .on in omega arith;
       few = let h = b .few in omega arith;
@@ -1527,7 +1588,8 @@ terms-returns-2 : (t : ℕ) → terms-lts.Need-returns-2 (
   taken-reads.Asked,
   taken-reads.Learnt,
 ) (terms-at t) terms.Post terms-Inv-loop terms-μ-loop
-terms-returns-2 t c = let I = c .before .before .before .before .before .before .before .before .before .loop .inv in is-no (c .enum-told4 .given .1) (λ x. I .means x ∙ c .before .before .before .before .call .ensures .no _ _ _ _ _ (c .enum-told4 .given .1) x (I .g))
+terms-returns-2 t c = let I = c .before .before .before .before .before .before .before .before .before .loop .inv in
+    is-no (c .enum-told4 .given .1) (λ x. I .means x ∙ c .before .before .before .before .call .ensures .no _ _ _ _ _ (c .enum-told4 .given .1) x (I .g))
 
 -- src/terms.rt:70:5
 terms-loop-less-4 : (t : ℕ) → terms-lts.Need-loop-less-4 (
@@ -1570,10 +1632,12 @@ terms-loop-again-4 : (t : ℕ) → terms-lts.Need-loop-again-4 (
   taken-reads.Learnt,
 ) (terms-at t) terms.Post terms-Inv-loop terms-μ-loop
 unfolding sizeT wT
-terms-loop-again-4 t c = let I = c .before .before .before .before .before .before .before .before .before .before .loop .inv in
+terms-loop-again-4 t c = let w = c .before .before .before .before .before .before .before .before .before .before .before .before .before .args .tokens .now in
+    let i₀ = c .before .before .before .before .before .before .before .before .before .before .loop .i in
+    let I = c .before .before .before .before .before .before .before .before .before .before .loop .inv in
     let b = c .before .before .before .before .before .call .ensures .at _ _ (c .before .r2 .given .1) in
     record {
-      g = tCall (I .g) (getD (c .before .before .before .before .before .before .before .before .before .before .before .before .before .args .tokens .now) (c .before .before .before .before .before .before .before .before .before .before .loop .i + 4) 0) (getD (c .before .before .before .before .before .before .before .before .before .before .before .before .before .args .tokens .now) (c .before .before .before .before .before .before .before .before .before .before .loop .i + 6 + 2) 0) (getD (c .before .before .before .before .before .before .before .before .before .before .before .before .before .args .tokens .now) (c .before .before .before .before .before .before .before .before .before .before .loop .i + 6 + 3) 0) (b .g) (b .e);
+      g = tCall (I .g) (getD w (i₀ + 4) 0) (getD w (i₀ + 6 + 2) 0) (getD w (i₀ + 6 + 3) 0) (b .g) (b .e);
       ready = b .ready;
       on = let h = b .on in let k = I .on in omega arith;
       few = let h = b .few in omega arith;
@@ -1666,7 +1730,8 @@ terms-returns-3 : (t : ℕ) → terms-lts.Need-returns-3 (
   taken-reads.Asked,
   taken-reads.Learnt,
 ) (terms-at t) terms.Post terms-Inv-loop terms-μ-loop
-terms-returns-3 t c = let I = c .before .before .before .before .loop .inv in is-no (c .taken .ensures) (λ x. I .means x ∙ term-step _ _ (I .ready) _ x (I .g) _ (sym (c .before .before .before .term-at .ensures) ∙ c .before .enum-told5 .given .1))
+terms-returns-3 t c = let I = c .before .before .before .before .loop .inv in
+    is-no (c .taken .ensures) (λ x. I .means x ∙ term-step _ _ (I .ready) _ x (I .g) _ (sym (c .before .before .before .term-at .ensures) ∙ c .before .enum-told5 .given .1))
 
 -- src/terms.rt:103:17
 terms-enum-told-6 : (t : ℕ) → terms-lts.Need-enum-told-6 (
@@ -1749,7 +1814,8 @@ until-terms-requires : (t : ℕ) → until-lts.Need-terms-requires (
   closes-reads.Asked,
   closes-reads.Learnt,
 ) (until-at t) until.Post
-until-terms-requires t c κs = (omega arith, (c .before .before .before .pre .1 .0, c .before .before .before .pre .1 .1))
+until-terms-requires t c κs = let pre₀ = c .before .before .before .pre .1 in
+    (omega arith, (pre₀ .0, pre₀ .1))
 
 -- src/terms.rt:116:17
 until-enum-known-r : (t : ℕ) → until-lts.Need-enum-known-r (
@@ -1794,7 +1860,8 @@ until-closes-requires : (t : ℕ) → until-lts.Need-closes-requires (
   closes-reads.Asked,
   closes-reads.Learnt,
 ) (until-at t) until.Post
-until-closes-requires t c κs = let T = c .before .before .before .before .before .terms .ensures .at _ _ (c .before .r .given .1) in (T .ready, c .before .before .before .before .before .before .before .before .before .pre .1 .2)
+until-closes-requires t c κs = let pre₀ = c .before .before .before .before .before .before .before .before .before .pre .1 in
+    let T = c .before .before .before .before .before .terms .ensures .at _ _ (c .before .r .given .1) in (T .ready, pre₀ .2)
 
 -- src/terms.rt:111:1
 until-same-length-2 : (t : ℕ) → until-lts.Need-same-length-2 (
@@ -1812,24 +1879,30 @@ until-returns-2 : (t : ℕ) → until-lts.Need-returns-2 (
   closes-reads.Asked,
   closes-reads.Learnt,
 ) (until-at t) until.Post
-until-returns-2 t c = let T = c .before .before .before .before .before .before .terms .ensures .at _ _ (c .before .before .r .given .1) in
+until-returns-2 t c = let w = c .before .before .before .before .before .before .before .before .before .before .args .tokens .now in
+    let j₁ = c .before .before .r .given .0 .0 in
+    let T = c .before .before .before .before .before .before .terms .ensures .at _ _ (c .before .before .r .given .1) in
     record {
       at = λ j m e.
           let K = c .closes .ensures .at j m e in
           record {
             g = T .g;
             closed = record {
-              e = getD (c .before .before .before .before .before .before .before .before .before .before .args .tokens .now) ((c .before .before .r .given .0 .0) + 5) 0;
+              e = getD w (j₁ + 5) 0;
               ready = K .ready;
               on = let a = T .on in let b = K .next in omega arith;
               last = K .last;
-              means = λ x st h. T .means x ∙ term-step _ _ (T .ready) _ x (T .g) NoTerm (T .none) ∙ ap (λ (y : Step). after (c .before .before .before .before .before .before .before .before .before .before .args .tokens .now) (c .before .before .r .given .0 .0) y) (h (T .g) (tok (c .before .before .before .before .before .before .before .before .before .before .args .tokens .now) (c .before .before .r .given .0 .0)) (afterFrom (c .before .before .before .before .before .before .before .before .before .before .args .tokens .now) (c .before .before .r .given .0 .0)) (afterTo (c .before .before .before .before .before .before .before .before .before .before .args .tokens .now) (c .before .before .r .given .0 .0))) ∙ K .means (st (T .g) (getD (c .before .before .before .before .before .before .before .before .before .before .args .tokens .now) ((c .before .before .r .given .0 .0) + 5) 0));
+              means = λ x st h. T .means x ∙ term-step _ _ (T .ready) _ x (T .g) NoTerm (T .none)
+                  ∙ ap (λ (y : Step). after w j₁ y) (h (T .g) (tok w j₁) (afterFrom w j₁) (afterTo w j₁))
+                  ∙ K .means (st (T .g) (getD w (j₁ + 5) 0));
             };
             few = let a = T .few in let b = K .next in let d = K .rows in omega arith;
             rows = T .rows;
             count = K .rows ∙ T .count;
           };
-      no = λ a b k d e q. λ x st h. T .means x ∙ term-step _ _ (T .ready) _ x (T .g) NoTerm (T .none) ∙ ap (λ (y : Step). after (c .before .before .before .before .before .before .before .before .before .before .args .tokens .now) (c .before .before .r .given .0 .0) y) (h (T .g) (tok (c .before .before .before .before .before .before .before .before .before .before .args .tokens .now) (c .before .before .r .given .0 .0)) (afterFrom (c .before .before .before .before .before .before .before .before .before .before .args .tokens .now) (c .before .before .r .given .0 .0)) (afterTo (c .before .before .before .before .before .before .before .before .before .before .args .tokens .now) (c .before .before .r .given .0 .0))) ∙ c .closes .ensures .no a b k d e q (st (T .g) (getD (c .before .before .before .before .before .before .before .before .before .before .args .tokens .now) ((c .before .before .r .given .0 .0) + 5) 0));
+      no = λ a b k d e q. λ x st h. T .means x ∙ term-step _ _ (T .ready) _ x (T .g) NoTerm (T .none)
+          ∙ ap (λ (y : Step). after w j₁ y) (h (T .g) (tok w j₁) (afterFrom w j₁) (afterTo w j₁))
+          ∙ c .closes .ensures .no a b k d e q (st (T .g) (getD w (j₁ + 5) 0));
     }
 
 pub +bracket+call+terms+until-spec : {M : Type 1} → statement M

@@ -1,3 +1,4 @@
+-- `refal_parser::terms::clause` meets its contract: terms closed, with their row.
 use mathlib.Core.Path.{_≡_, refl, sym, ap, _∙_}
 use native.Mathlib.Omega.{arith}
 use Rattle.refal_parser.proofs.Steps.{is-at, is-no}
@@ -11,11 +12,13 @@ use Rattle.refal_parser.proofs.terms.until.Reads as until-reads
 
 -- src/terms.rt:177:17
 add-first : tie.Need-add-first
-add-first c = let R = c .before .before .pre .0 in let h = c .before .before .pre .1 in omega arith
+add-first c = let pre₀ = c .before .before .pre in
+    let R = pre₀ .0 in let h = pre₀ .1 in omega arith
 
 -- src/terms.rt:178:9
 until-requires : tie.Need-until-requires
-until-requires c κs = let h = c .before .before .before .pre .1 in (c .before .before .before .pre .0, omega arith, c .before .before .before .pre .2)
+until-requires c κs = let pre₀ = c .before .before .before .pre in
+    let h = pre₀ .1 in (pre₀ .0, omega arith, pre₀ .2)
 
 -- src/terms.rt:179:17
 enum-known-r : tie.Need-enum-known-r
@@ -35,7 +38,9 @@ returns c = is-no (c .enum-told .given .1) (c .before .before .before .before .u
 
 -- src/terms.rt:182:5
 put-terms-requires : tie.Need-put-terms-requires
-put-terms-requires c κs = let U = c .before .before .before .before .before .before .until .ensures .at _ _ (c .before .before .r .given .1) in let R = U .closed .ready in let f = U .few in let h = c .before .before .before .before .before .before .before .before .before .before .pre .1 in let g = c .before .before .before .before .before .before .before .before .before .before .pre .0 in (omega arith, omega arith)
+put-terms-requires c κs = let pre₀ = c .before .before .before .before .before .before .before .before .before .before .pre in
+    let U = c .before .before .before .before .before .before .until .ensures .at _ _ (c .before .before .r .given .1) in
+    let R = U .closed .ready in let f = U .few in let h = pre₀ .1 in let g = pre₀ .0 in (omega arith, omega arith)
 
 -- src/terms.rt:173:1
 same-length-2 : tie.Need-same-length-2

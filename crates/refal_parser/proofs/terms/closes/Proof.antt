@@ -1,3 +1,4 @@
+-- `refal_parser::terms::closes` meets its contract: the closing kind, Eof, or another.
 use mathlib.Core.Path.{_≡_, refl, sym, ap, _∙_}
 use Prim.Native.Nat.{ℕ, _+_, _≤_}
 use native.Mathlib.Omega.{arith}
@@ -23,13 +24,16 @@ add-t7 c = search needs
 
 -- src/terms.rt:55:9
 returns : tie.Need-returns
-returns c = let k : getD (c .before .before .before .args .tokens .now) (c .before .before .before .args .at) 0 ≡ c .before .before .before .args .want = sym (c .before .kind .ensures) ∙ c .if1 .taken in
+returns c = let w = c .before .before .before .args .tokens .now in
+    let at₀ = c .before .before .before .args .at in
+    let pre₀ = c .before .before .before .pre in
+    let k : getD w at₀ 0 ≡ c .before .before .before .args .want = sym (c .before .kind .ensures) ∙ c .if1 .taken in
     is-at refl (record {
-      ready = ready-next _ _ (c .before .before .before .pre .0) (λ e. let l = c .before .before .before .pre .1 in let z : ⊥ = omega arith in z);
+      ready = ready-next _ _ (pre₀ .0) (λ e. let l = pre₀ .1 in let z : ⊥ = omega arith in z);
       next = refl;
       rows = refl;
-      last = end-before (c .before .before .before .args .tokens .now) (c .before .before .before .args .at);
-      means = λ st. closes-here (c .before .before .before .args .tokens .now) (c .before .before .before .args .at) (c .before .before .before .args .want) st k;
+      last = end-before w at₀;
+      means = λ st. closes-here w at₀ (c .before .before .before .args .want) st k;
     })
 
 -- src/terms.rt:58:9
@@ -38,7 +42,10 @@ present-requires c κs = search needs
 
 -- src/terms.rt:58:9
 returns-2 : tie.Need-returns-2
-returns-2 c = is-no (c .present .ensures) (λ st. closes-eof (c .before .before .before .before .before .args .tokens .now) (c .before .before .before .before .before .args .at) (c .before .before .before .before .before .args .want) st (λ e. c .before .before .if1 .left (c .before .before .before .kind .ensures ∙ e)) (sym (c .before .before .before .kind .ensures) ∙ c .before .if2 .taken))
+returns-2 c = let w = c .before .before .before .before .before .args .tokens .now in
+    let at₀ = c .before .before .before .before .before .args .at in
+    is-no (c .present .ensures) (λ st. closes-eof w at₀ (c .before .before .before .before .before .args .want) st (λ e. c .before .before .if1 .left (c .before .before .before .kind .ensures
+    ∙ e)) (sym (c .before .before .before .kind .ensures) ∙ c .before .if2 .taken))
 
 -- src/terms.rt:60:5
 taken-requires : tie.Need-taken-requires
@@ -46,7 +53,10 @@ taken-requires c κs = search needs
 
 -- src/terms.rt:49:1
 returns-3 : tie.Need-returns-3
-returns-3 c = is-no (c .taken .ensures) (λ st. closes-none (c .before .before .before .before .before .args .tokens .now) (c .before .before .before .before .before .args .at) (c .before .before .before .before .before .args .want) st (λ e. c .before .before .if1 .left (c .before .before .before .kind .ensures ∙ e)) (λ e. c .before .if2 .left (c .before .before .before .kind .ensures ∙ e)))
+returns-3 c = let w = c .before .before .before .before .before .args .tokens .now in
+    let at₀ = c .before .before .before .before .before .args .at in
+    is-no (c .taken .ensures) (λ st. closes-none w at₀ (c .before .before .before .before .before .args .want) st (λ e. c .before .before .if1 .left (c .before .before .before .kind .ensures
+    ∙ e)) (λ e. c .before .if2 .left (c .before .before .before .kind .ensures ∙ e)))
 
 pub closes-spec : {M : Type 1} → statement M
 closes-spec =

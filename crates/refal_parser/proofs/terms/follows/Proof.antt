@@ -1,3 +1,4 @@
+-- `refal_parser::terms::follows` meets its contract: a comma, `=`, Eof, or another kind.
 use mathlib.Core.Path.{_≡_, refl, sym, ap, _∙_}
 use Rattle.refal_parser.proofs.Steps.{is-at, is-no, joint-comma, joint-equals, joint-eof, joint-none}
 use borrow.Author.Needs.{needs}
@@ -15,24 +16,26 @@ kind-requires c κs = search needs
 
 -- src/terms.rt:193:9
 returns : tie.Need-returns
-returns c = let k = sym (c .before .kind .ensures) ∙ c .if1 .taken in
+returns c = let pre₀ = c .before .before .before .pre in
+    let k = sym (c .before .kind .ensures) ∙ c .if1 .taken in
     is-at refl (record {
-      ready = c .before .before .before .pre;
+      ready = pre₀;
       stays = refl;
       rows = refl;
       joint = λ n. absurd (n k);
-      means = λ d p s st f cs. joint-comma _ _ (c .before .before .before .pre) d p s st f cs k;
+      means = λ d p s st f cs. joint-comma _ _ pre₀ d p s st f cs k;
     })
 
 -- src/terms.rt:196:9
 returns-2 : tie.Need-returns-2
-returns-2 c = let k = sym (c .before .before .kind .ensures) ∙ c .if2 .taken in
+returns-2 c = let pre₀ = c .before .before .before .before .pre in
+    let k = sym (c .before .before .kind .ensures) ∙ c .if2 .taken in
     is-at refl (record {
-      ready = c .before .before .before .before .pre;
+      ready = pre₀;
       stays = refl;
       rows = refl;
       joint = λ n. k;
-      means = λ d p s st f cs. joint-equals _ _ (c .before .before .before .before .pre) d p s st f cs k;
+      means = λ d p s st f cs. joint-equals _ _ pre₀ d p s st f cs k;
     })
 
 -- src/terms.rt:199:9
@@ -41,7 +44,8 @@ present-requires c κs = search needs
 
 -- src/terms.rt:199:9
 returns-3 : tie.Need-returns-3
-returns-3 c = is-no (c .present .ensures) (λ d p s st f cs. joint-eof _ _ (c .before .before .before .before .before .before .pre) d p s st f cs (sym (c .before .before .before .before .kind .ensures) ∙ c .before .if3 .taken))
+returns-3 c = let pre₀ = c .before .before .before .before .before .before .pre in
+    is-no (c .present .ensures) (λ d p s st f cs. joint-eof _ _ pre₀ d p s st f cs (sym (c .before .before .before .before .kind .ensures) ∙ c .before .if3 .taken))
 
 -- src/terms.rt:201:5
 taken-requires : tie.Need-taken-requires
@@ -49,7 +53,9 @@ taken-requires c κs = search needs
 
 -- src/terms.rt:187:1
 returns-4 : tie.Need-returns-4
-returns-4 c = is-no (c .taken .ensures) (λ d p s st f cs. joint-none _ _ (c .before .before .before .before .before .before .pre) d p s st f cs (λ e. c .before .before .before .if1 .left (c .before .before .before .before .kind .ensures ∙ e)) (λ e. c .before .before .if2 .left (c .before .before .before .before .kind .ensures ∙ e)) (λ e. c .before .if3 .left (c .before .before .before .before .kind .ensures ∙ e)))
+returns-4 c = let pre₀ = c .before .before .before .before .before .before .pre in
+    is-no (c .taken .ensures) (λ d p s st f cs. joint-none _ _ pre₀ d p s st f cs (λ e. c .before .before .before .if1 .left (c .before .before .before .before .kind .ensures
+    ∙ e)) (λ e. c .before .before .if2 .left (c .before .before .before .before .kind .ensures ∙ e)) (λ e. c .before .if3 .left (c .before .before .before .before .kind .ensures ∙ e)))
 
 pub follows-spec : {M : Type 1} → statement M
 follows-spec =

@@ -1,3 +1,4 @@
+-- `refal_parser::terms::pattern` meets its contract: terms up to a comma or `=`, with their row.
 use mathlib.Core.Path.{_≡_, refl, sym, ap, _∙_}
 use Prim.Native.Nat.{ℕ, _+_}
 use native.Mathlib.Omega.{arith}
@@ -17,11 +18,13 @@ use Rattle.refal_parser.proofs.terms.terms.Reads as terms-reads
 
 -- src/terms.rt:209:17
 add-first : tie.Need-add-first
-add-first c = let R = c .before .before .pre .0 in let h = c .before .before .pre .1 in omega arith
+add-first c = let pre₀ = c .before .before .pre in
+    let R = pre₀ .0 in let h = pre₀ .1 in omega arith
 
 -- src/terms.rt:210:9
 terms-requires : tie.Need-terms-requires
-terms-requires c κs = let h = c .before .before .before .pre .1 in (c .before .before .before .pre .0, omega arith)
+terms-requires c κs = let pre₀ = c .before .before .before .pre in
+    let h = pre₀ .1 in (pre₀ .0, omega arith)
 
 -- src/terms.rt:211:17
 enum-known-r : tie.Need-enum-known-r
@@ -41,7 +44,9 @@ returns c = is-no (c .enum-told .given .1) (λ q p s st f cs h. c .before .befor
 
 -- src/terms.rt:214:5
 put-terms-requires : tie.Need-put-terms-requires
-put-terms-requires c κs = let T = c .before .before .before .before .before .before .terms .ensures .at _ _ (c .before .before .r .given .1) in let R = T .ready in let f = T .few in let h = c .before .before .before .before .before .before .before .before .before .before .pre .1 in let g = c .before .before .before .before .before .before .before .before .before .before .pre .0 in (omega arith, omega arith)
+put-terms-requires c κs = let pre₀ = c .before .before .before .before .before .before .before .before .before .before .pre in
+    let T = c .before .before .before .before .before .before .terms .ensures .at _ _ (c .before .before .r .given .1) in
+    let R = T .ready in let f = T .few in let h = pre₀ .1 in let g = pre₀ .0 in (omega arith, omega arith)
 
 -- src/terms.rt:215:5
 follows-requires : tie.Need-follows-requires
@@ -53,7 +58,10 @@ same-length-2 c = search needs
 
 -- src/terms.rt:205:1
 returns-2 : tie.Need-returns-2
-returns-2 c = let T = c .before .before .before .before .before .before .before .before .before .before .terms .ensures .at _ _ (c .before .before .before .before .before .before .r .given .1) in
+returns-2 c = let w = c .before .before .before .before .before .before .before .before .before .before .before .before .before .before .args .tokens .now in
+    let j₁ = c .before .before .before .before .before .before .r .given .0 .0 in
+    let left₀ = c .before .before .before .before .before .before .before .before .before .before .before .before .before .before .args .left in
+    let T = c .before .before .before .before .before .before .before .before .before .before .terms .ensures .at _ _ (c .before .before .before .before .before .before .r .given .1) in
     record {
       at = λ j m e.
           let K = c .follows .ensures .at j m e in
@@ -64,11 +72,15 @@ returns-2 c = let T = c .before .before .before .before .before .before .before 
             few = let a = T .few in let b = K .stays in let d = K .rows in omega arith;
             rows = let h = T .rows in let k = T .count in cc;
             count = K .rows ∙ T .count;
-            last = T .last ∙ ap (λ (i : ℕ). endBefore (c .before .before .before .before .before .before .before .before .before .before .before .before .before .before .args .tokens .now) i) (sym (K .stays));
+            last = T .last ∙ ap (λ (i : ℕ). endBefore w i) (sym (K .stays));
             joint = K .joint;
-            means = λ q p s st f cs h. T .means q ∙ term-step _ _ (T .ready) _ q (T .g) NoTerm (T .none) ∙ ap (λ (y : Step). after (c .before .before .before .before .before .before .before .before .before .before .before .before .before .before .args .tokens .now) (c .before .before .before .before .before .before .r .given .0 .0) y) (h (T .g) (tok (c .before .before .before .before .before .before .before .before .before .before .before .before .before .before .args .tokens .now) (c .before .before .before .before .before .before .r .given .0 .0)) (afterFrom (c .before .before .before .before .before .before .before .before .before .before .before .before .before .before .args .tokens .now) (c .before .before .before .before .before .before .r .given .0 .0)) (afterTo (c .before .before .before .before .before .before .before .before .before .before .before .before .before .before .args .tokens .now) (c .before .before .before .before .before .before .r .given .0 .0))) ∙ K .means (c .before .before .before .before .before .before .before .before .before .before .before .before .before .before .args .left) p s st (f (T .g)) (cs (T .g));
+            means = λ q p s st f cs h. T .means q ∙ term-step _ _ (T .ready) _ q (T .g) NoTerm (T .none)
+                ∙ ap (λ (y : Step). after w j₁ y) (h (T .g) (tok w j₁) (afterFrom w j₁) (afterTo w j₁))
+                ∙ K .means left₀ p s st (f (T .g)) (cs (T .g));
           };
-      no = λ a b k d e r. λ q p s st f cs h. T .means q ∙ term-step _ _ (T .ready) _ q (T .g) NoTerm (T .none) ∙ ap (λ (y : Step). after (c .before .before .before .before .before .before .before .before .before .before .before .before .before .before .args .tokens .now) (c .before .before .before .before .before .before .r .given .0 .0) y) (h (T .g) (tok (c .before .before .before .before .before .before .before .before .before .before .before .before .before .before .args .tokens .now) (c .before .before .before .before .before .before .r .given .0 .0)) (afterFrom (c .before .before .before .before .before .before .before .before .before .before .before .before .before .before .args .tokens .now) (c .before .before .before .before .before .before .r .given .0 .0)) (afterTo (c .before .before .before .before .before .before .before .before .before .before .before .before .before .before .args .tokens .now) (c .before .before .before .before .before .before .r .given .0 .0))) ∙ c .follows .ensures .no a b k d e r (c .before .before .before .before .before .before .before .before .before .before .before .before .before .before .args .left) p s st (f (T .g)) (cs (T .g));
+      no = λ a b k d e r. λ q p s st f cs h. T .means q ∙ term-step _ _ (T .ready) _ q (T .g) NoTerm (T .none)
+          ∙ ap (λ (y : Step). after w j₁ y) (h (T .g) (tok w j₁) (afterFrom w j₁) (afterTo w j₁))
+          ∙ c .follows .ensures .no a b k d e r left₀ p s st (f (T .g)) (cs (T .g));
     }
 
 pub pattern-spec : {M : Type 1} → statement M

@@ -1,3 +1,4 @@
+-- `refal_parser::terms::term_at` meets its contract: the token at a word.
 use borrow.Author.Needs.{needs}
 use Rattle.refal_parser.proofs.terms.term_at.Statement.{statement}
 use Rattle.refal_parser.proofs.terms.term_at.Tie as tie
