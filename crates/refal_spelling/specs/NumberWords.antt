@@ -209,7 +209,7 @@ module _ (at from : ℕ) (sign : List ℕ) (g : Signed at from sign) (b : ℕ) (
       let a₃ = digits-count in
       let i : value 0 (b ∷ ds) ≡ value 0 (b ∷ s) = ap (value 0) (sym digits-are) ∙ value-span 0 (b ∷ s) in
       let j : sign ++ (b ∷ s) ≡ (b ∷ ds) ++ (ps ++ (qs ++ rest)) = ap (λ (l : List ℕ). l ++ (b ∷ s)) f ∙ parts-are in
-      a-number {len = end - at} {end = end} (b ∷ ds) (ps ++ (qs ++ rest)) j (omega arith) (omega arith) (macrodigit b ds d (every-span digit s) (rw i v))
+      a-number {len = end - at} {end = end} (b ∷ ds) (ps ++ (qs ++ rest)) j (omega arith) (omega arith) (macrodigit b ds d (every-span digit s) (omega arith))
 
   sees-of : (m : ℕ) → m ≡ from + n + p + q → SeesNumber at (sign ++ (b ∷ s)) (numberOf at from (from + n) (value 0 (b ∷ s)) (from + n + p) m)
   sees-of m e =

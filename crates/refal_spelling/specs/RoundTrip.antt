@@ -6,11 +6,12 @@ use native.Mathlib.Nat.{zero-add}
 use mathlib.Core.Bool.{true}
 use mathlib.Core.List.{List, [], _∷_, _++_, append-nil}
 use mathlib.Core.Path.{_≡_, refl, ap, sym, _∙_}
-use lib.ListN.{length, drop, length-append}
+use lib.ListN.{length, take, drop, length-append}
+use lib.Seq.{take-append-seam}
 use Rattle.refal_ast.specs.Kinds.{tokEof}
 use Rattle.refal_ast.specs.Check.{wellFormed}
 use Rattle.refal_ast.specs.Flatten.{flatsOf}
-use Rattle.refal_ast.specs.Tokens.{Token, token, flat}
+use Rattle.refal_ast.specs.Tokens.{Token, token, flat, length-flat}
 use Rattle.refal_ast.specs.declared.Answer.the-variants.{Done}
 use Rattle.refal_lexer.specs.Lex.{Out, moreAll, eofAt, lex}
 use Rattle.refal_lexer.specs.Read.{readAnswer, readRows}
@@ -89,7 +90,7 @@ text-reads ts a =
 pub text-views : (ts : List Spelled) → AllGood ts → views (text ts) (flatsOf (tokensAt 0 ts)) ≡ ts
 text-views ts a = views-text ts a (text ts) 0 [] (sym (append-nil (text ts)))
 
-length-at : (ts : List Spelled) (at : ℕ) → length (tokensAt at ts) ≡ length ts
+pub length-at : (ts : List Spelled) (at : ℕ) → length (tokensAt at ts) ≡ length ts
 unfolding tokensAt
 length-at [] at = refl
 length-at (t ∷ ts) at = ap suc (length-at ts _)
@@ -116,3 +117,20 @@ text-reads-back ts a m f =
 
 pub round-trip : RoundTrip
 round-trip s m n e g m′ f = text-reads-back (views s (flatsOf (g .ts))) (sound-good s (flatsOf (g .ts)) (g .sound)) m′ f
+
+-- the first n rows of what is left are the tokens' own
+pub rows-first : (ts : List Token) (r : List ℕ) (n : ℕ) → length ts ≡ n → take (6 * n) (flat ts ++ r) ≡ flat ts
+rows-first ts r n e = ap (λ (k : ℕ). take k (flat ts ++ r)) (ap (λ (k : ℕ). 6 * k) (sym e) ∙ sym (length-flat ts)) ∙ take-append-seam (flat ts) r
+
+pub length-withEof : (ts : List Token) (at : ℕ) → length (withEof ts at) ≡ length ts + 1
+length-withEof ts at = length-append ts (token tokEof 0 0 0 at at ∷ [])
+
+-- so parsing is handed these words
+pub first-rows : (s m : List ℕ) (n : ℕ) (g : LeavesGood s m n) → take (6 * n) (readRows s m) ≡ flat (withEof (g .ts) (g .at))
+first-rows s m n g = ap (take (6 * n)) (g .rows) ∙ rows-first (withEof (g .ts) (g .at)) (drop (6 * n) m) n (length-withEof (g .ts) (g .at) ∙ sym (g .count))
+
+pub first-rows-back : (ts : List Spelled) (m : List ℕ) → ReadsBack ts m → take (6 * (length ts + 1)) (readRows (text ts) m) ≡ flat (withEof (tokensAt 0 ts) (length (text ts)))
+first-rows-back ts m g =
+    ap (take (6 * (length ts + 1))) (g .rows)
+    ∙ rows-first (withEof (tokensAt 0 ts) (length (text ts))) (drop (6 * (length ts + 1)) m) (length ts + 1)
+    (length-withEof (tokensAt 0 ts) (length (text ts)) ∙ ap (λ (k : ℕ). k + 1) (length-at ts 0))

@@ -19,7 +19,7 @@ use Rattle.refal_lexer.specs.Lex.{Out, more, moreAll, after, lex}
 use Rattle.refal_lexer.specs.LexLaws.{lex-skip}
 use Rattle.refal_lexer.specs.declared.Scan.{Scan}
 use Rattle.refal_lexer.specs.declared.Scan.the-variants as S
-use Rattle.refal_spelling.specs.Spell.{Spelled, spelled, entryWord, externWord, body, markByte, spelling, text}
+use Rattle.refal_spelling.specs.Spell.{Spelled, spelled, entryWord, externWord, body, dotted, markByte, spelling, text}
 use Rattle.refal_spelling.specs.Places.{tokenAt, tokensAt, lineBehind}
 use Rattle.refal_spelling.specs.Good.{Good, entry, extern, identifier, variableOf, number, character, mark, AllGood, no-more, and-more}
 use Rattle.refal_spelling.specs.Runs.{at-space}
@@ -96,7 +96,7 @@ unfolding spelling tokenAt
 reads-one t entry at line r = lex-token at line 1 0 0 0 entryWord r (ap (S.Token 1 0 0 0) (omega arith)) (omega arith)
 reads-one t extern at line r = lex-token at line 2 0 0 0 externWord r (ap (S.Token 2 0 0 0) (omega arith)) (omega arith)
 reads-one t (identifier b s u a h) at line r = lex-token at line 3 0 at (suc (length s)) (b ∷ s) r (scan-identifier at line b s (32 ∷ r) u a h (at-space r)) (omega arith)
-reads-one t (variableOf v w u a lo hi) at line r = lex-token at line 4 v (at + 2) (length w) (v ∷ 46 ∷ w) r (scan-index at line v w (32 ∷ r) u a lo hi (at-space r)) (omega arith)
+reads-one t (variableOf v w u a lo hi) at line r = lex-token at line 4 v (at + 2) (length w) (dotted v w) r (scan-index at line v w (32 ∷ r) u a lo hi (at-space r)) (omega arith)
 reads-one t (number w h) at line r = lex-token at line 5 0 at (length w) w r (scan-number w h at line (32 ∷ r) (at-space r)) (number-some w h)
 reads-one t (character x sc n) at line r = let c = scan-char x sc n at line r in lex-literal at line (token 6 x 0 0 at (at + suc (length (body x ++ (39 ∷ []))))) (body x ++ (39 ∷ [])) r (c .0) (c .1)
 reads-one t (mark k lo hi) at line r =
