@@ -1,0 +1,3 @@
+// Writing: from the rows of a tree and its source to a text that reads back the same.
+mod bytes;
+mod token;
