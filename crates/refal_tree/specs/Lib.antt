@@ -10,3 +10,6 @@ pub mod TypedRules
 pub mod Views
 pub mod Sound
 pub mod Lawful
+pub mod Ranges
+pub mod Tables
+pub mod Whole

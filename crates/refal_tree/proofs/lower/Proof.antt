@@ -1,0 +1,19 @@
+-- `refal_tree::lower` meets its contract.
+use Rattle.refal_tree.specs.Tables.{lower-is}
+use borrow.Author.Needs.{needs}
+use Rattle.refal_tree.proofs.lower.Statement.{statement}
+use Rattle.refal_tree.proofs.lower.Tie as tie
+use Rattle.refal_tree.proofs.lower.Reads as reads
+use Rattle.refal_tree.proofs.lower.Lts as lts
+
+returns : tie.Need-returns
+returns c = search needs
+
+sub-result : tie.Need-sub-result
+sub-result c = search needs
+
+returns-2 : tie.Need-returns-2
+returns-2 c = lower-is _ (c .if1 .left)
+
+pub lower-spec : {M : Type 1} → statement M
+lower-spec = tie.close (tie.spec returns sub-result returns-2)

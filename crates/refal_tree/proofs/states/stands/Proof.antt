@@ -1,0 +1,16 @@
+-- `refal_tree::states::stands` meets its contract: a row may stand where the state after it is not 0.
+use borrow.Author.Needs.{needs}
+use Rattle.refal_tree.proofs.states.stands.Statement.{statement}
+use Rattle.refal_tree.proofs.states.stands.Tie as tie
+use Rattle.refal_tree.proofs.states.stands.Reads as reads
+use Rattle.refal_tree.proofs.states.stands.Lts as lts
+use Rattle.refal_tree.proofs.states.after.Reads as after-reads
+
+after-requires : tie.Need-after-requires
+after-requires c κs = search needs
+
+returns : tie.Need-returns
+returns c = rw (c .after .ensures)
+
+pub stands-spec : {M : Type 1} → statement M
+stands-spec = tie.close (tie.spec after-requires returns)

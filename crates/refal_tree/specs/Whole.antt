@@ -1,0 +1,43 @@
+-- The test for refusal 40 as a check of all rows.
+use Prim.Native.Nat.{ℕ, _*_, _/_, _%_, _≤_, _<_}
+use mathlib.Core.Bool.{Bool, true, false, _&&_, and-false}
+use mathlib.Core.List.{List}
+use mathlib.Core.Option.{Option, none, some}
+use mathlib.Core.Path.{_≡_, refl, sym, ap, _∙_}
+use native.Mathlib.Omega.{arith}
+use lib.Dec.{eqb, leb}
+use lib.ListN.{length}
+use borrow.Author.Tests.{eq-eqb, ne-eqb, le-leb, lt-leb}
+use Rattle.refal_ast.specs.Tree.{Program}
+use Rattle.refal_tree.specs.Forest.{Forest, forestOf}
+use Rattle.refal_tree.specs.States.{atItems}
+use Rattle.refal_tree.specs.Rules.{okG}
+use Rattle.refal_tree.specs.Typed.{programOf}
+use Rattle.refal_tree.specs.Lawful.{pickTree, treeIn, treeOf, found, mostRows, mostLevels, lawful}
+use Rattle.refal_tree.specs.Ranges.{forestAt, forest-all, okIn, okAt}
+
+pub not-whole : (w : List ℕ) → (length w % 7 ≡ 0 → ⊥) → lawful w ≡ false
+unfolding lawful
+not-whole w h = rw (ne-eqb (length w % 7) 0 h)
+
+pub too-many : (w : List ℕ) → 7 * mostRows < length w → lawful w ≡ false
+unfolding lawful
+too-many w h =
+    ap (λ (b : Bool). (eqb (length w % 7) 0 && b) && found (treeOf mostLevels w)) (lt-leb (length w) (7 * mostRows) h)
+    ∙ ap (λ (b : Bool). b && found (treeOf mostLevels w)) (and-false (eqb (length w % 7) 0))
+
+found-is : (left : ℕ) (o : Option Forest) → found (treeIn left o) ≡ okIn atItems left o
+found-is left none = refl
+found-is left (some f) = go (okG atItems left f)
+  where
+    go : (b : Bool) → found (pickTree b (programOf f)) ≡ b
+    go true = refl
+    go false = refl
+
+pub all-rows : (w : List ℕ) (n : ℕ) → length w ≡ 7 * n → n ≤ mostRows → lawful w ≡ okAt w 0 n atItems mostLevels
+unfolding lawful treeOf
+all-rows w n e h =
+    ap (λ (b : Bool). (b && leb (length w) (7 * mostRows)) && found (treeIn mostLevels (forestOf w 0))) (eq-eqb (length w % 7) 0 (omega arith))
+    ∙ ap (λ (b : Bool). b && found (treeIn mostLevels (forestOf w 0))) (le-leb (length w) (7 * mostRows) (omega arith))
+    ∙ found-is mostLevels (forestOf w 0)
+    ∙ ap (okIn atItems mostLevels) (sym (forest-all w n e))
