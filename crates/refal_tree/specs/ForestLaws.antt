@@ -85,7 +85,8 @@ cut-is empty m x g h e = go (eqb m x) refl e
     go false q e = let z : _≡_ {A = ℕ} 0 1 = cc in absurd (omega arith)
 cut-is (tree r f k) m x g h e = go (λ (g' h' : Forest). cut-is k (m + 1 + sizeG f) x g' h') (eqb m x) refl e
   where
-    more : ((g' h' : Forest) → cut k (m + 1 + sizeG f) x ≡ cutAt g' h' → IsCut k (m + 1 + sizeG f) x g' h') → (c : Cut) → cut k (m + 1 + sizeG f) x ≡ c → cutMore r f c ≡ cutAt g h → IsCut (tree r f k) m x g h
+    more : ((g' h' : Forest) → cut k (m + 1 + sizeG f) x ≡ cutAt g' h' → IsCut k (m + 1 + sizeG f) x g' h') → (c : Cut) → cut k (m + 1 + sizeG f) x ≡ c → cutMore r f c ≡ cutAt g h
+        → IsCut (tree r f k) m x g h
     more ih noCut q e = let z : _≡_ {A = ℕ} 0 1 = cc in absurd (omega arith)
     more ih (cutAt g' h') q e =
         let u : tree r f g' ≡ g = cc in
@@ -95,7 +96,8 @@ cut-is (tree r f k) m x g h e = go (λ (g' h' : Forest). cut-is k (m + 1 + sizeG
         subst (λ (y : Forest). IsCut (tree r f k) m x y h) u
         (subst (λ (y : Forest). IsCut (tree r f k) m x (tree r f g') y) v (record { parts = ap (λ (y : Forest). tree r f y) (i .parts); place = p }))
 
-    go : ((g' h' : Forest) → cut k (m + 1 + sizeG f) x ≡ cutAt g' h' → IsCut k (m + 1 + sizeG f) x g' h') → (b : Bool) → eqb m x ≡ b → pickCut b (cutAt empty (tree r f k)) (cutMore r f (cut k (m + 1 + sizeG f) x)) ≡ cutAt g h → IsCut (tree r f k) m x g h
+    go : ((g' h' : Forest) → cut k (m + 1 + sizeG f) x ≡ cutAt g' h' → IsCut k (m + 1 + sizeG f) x g' h') → (b : Bool) → eqb m x ≡ b
+        → pickCut b (cutAt empty (tree r f k)) (cutMore r f (cut k (m + 1 + sizeG f) x)) ≡ cutAt g h → IsCut (tree r f k) m x g h
     go ih true q e =
         let u : empty ≡ g = cc in
         let v : tree r f k ≡ h = cc in

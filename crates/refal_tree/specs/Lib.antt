@@ -1,5 +1,7 @@
 -- Definitions: Forest (rows with their children), States (which rows may stand where), Rules (what lawful rows keep), Typed (trees as
--- forests), Lawful (the tree that words are; refusal 40). Laws: ForestLaws, TypedWords, TypedRules, Views, Sound.
+-- forests), Lawful (the tree that words are; the test for refusal 40), FlattenRows (flattening row by row), Ranges (rows i to j).
+-- Laws: ForestLaws (words and forests), TypedWords, TypedRules, Views and Sound (trees and forests), Walk (a walk of lawful rows),
+-- Whole (the test as a check of all rows), Tables.
 pub mod Forest
 pub mod ForestLaws
 pub mod States
@@ -10,6 +12,8 @@ pub mod TypedRules
 pub mod Views
 pub mod Sound
 pub mod Lawful
+pub mod FlattenRows
 pub mod Ranges
-pub mod Tables
+pub mod Walk
 pub mod Whole
+pub mod Tables

@@ -19,9 +19,12 @@ use Rattle.refal_tree.specs.Rules.{rowOk, okG}
 abbrev pub rowsAt : List ℕ → ℕ → ℕ → List ℕ
 rowsAt w i j = slice (7 * i) (7 * j) w
 
--- the own words of row i, and its next row
+-- the own words of row i, its kind, and its next row
 abbrev pub rowAt : List ℕ → ℕ → Row
 rowAt w i = row (getD w (7 * i) 0) (getD w (7 * i + 1) 0) (getD w (7 * i + 2) 0) (getD w (7 * i + 3) 0) (getD w (7 * i + 4) 0) (getD w (7 * i + 5) 0)
+
+abbrev pub kindAt : List ℕ → ℕ → ℕ
+kindAt w i = getD w (7 * i) 0
 
 abbrev pub nextAt : List ℕ → ℕ → ℕ
 nextAt w i = getD w (7 * i + 6) 0
@@ -178,14 +181,16 @@ forest-all w n e = ap (λ (y : List ℕ). forestOf y 0) (take-all (7 * n) w (let
 
 -- ---- the rules, along a walk
 
-ok-joined : (st left : ℕ) (r : Row) (o p : Option Forest) → okIn st left (joined r o p) ≡ rowOk st left r && (okIn (inside (r .kind)) (below st (r .kind) left) o && okIn (after st (r .kind)) left p)
+ok-joined : (st left : ℕ) (r : Row) (o p : Option Forest)
+    → okIn st left (joined r o p) ≡ rowOk st left r && (okIn (inside (r .kind)) (below st (r .kind) left) o && okIn (after st (r .kind)) left p)
 unfolding okG
 ok-joined st left r none p = sym (and-false (rowOk st left r))
 ok-joined st left r (some f) none =
     sym (ap (λ (b : Bool). rowOk st left r && b) (and-false (okG (inside (r .kind)) (below st (r .kind) left) f)) ∙ and-false (rowOk st left r))
 ok-joined st left r (some f) (some g) = refl
 
-pub ok-turn : (w : List ℕ) (i j st left : ℕ) → 7 * j ≤ length w → i < nextAt w i → nextAt w i ≤ j → okAt w i j st left ≡ rowOk st left (rowAt w i) && (okAt w (i + 1) (nextAt w i) (inside (getD w (7 * i) 0)) (below st (getD w (7 * i) 0) left) && okAt w (nextAt w i) j (after st (getD w (7 * i) 0)) left)
+pub ok-turn : (w : List ℕ) (i j st left : ℕ) → 7 * j ≤ length w → i < nextAt w i → nextAt w i ≤ j
+    → okAt w i j st left ≡ rowOk st left (rowAt w i) && (okAt w (i + 1) (nextAt w i) (inside (kindAt w i)) (below st (kindAt w i) left) && okAt w (nextAt w i) j (after st (kindAt w i)) left)
 ok-turn w i j st left l lo hi =
     ap (okIn st left) (forest-turn w i j l lo hi) ∙ ok-joined st left (rowAt w i) (forestAt w (i + 1) (nextAt w i)) (forestAt w (nextAt w i) j)
 
@@ -197,10 +202,10 @@ pub ok-bad : (w : List ℕ) (i j st left : ℕ) → 7 * j ≤ length w → i < j
 ok-bad w i j st left l h bad = ap (okIn st left) (forest-bad w i j l h bad)
 
 -- a turn of the check at row i, of the kind k and with the next row x
-module _ (w : List ℕ) (i j st left k x : ℕ) (kind : k ≡ getD w (7 * i) 0) (next : x ≡ nextAt w i) (long : 7 * j ≤ length w) (lo : i < x) (hi : x ≤ j) where
+module _ (w : List ℕ) (i j st left k x : ℕ) (kind : k ≡ kindAt w i) (next : x ≡ nextAt w i) (long : 7 * j ≤ length w) (lo : i < x) (hi : x ≤ j) where
   turn : okAt w i j st left ≡ rowOk st left (rowAt w i) && (okAt w (i + 1) x (inside k) (below st k left) && okAt w x j (after st k) left)
   turn =
-      let K : ℕ = getD w (7 * i) 0 in
+      let K : ℕ = kindAt w i in
       ok-turn w i j st left long (subst (λ (y : ℕ). i < y) next lo) (subst (λ (y : ℕ). y ≤ j) next hi)
       ∙ ap (λ (y : ℕ). rowOk st left (rowAt w i) && (okAt w (i + 1) y (inside K) (below st K left) && okAt w y j (after st K) left)) (sym next)
       ∙ ap (λ (y : ℕ). rowOk st left (rowAt w i) && (okAt w (i + 1) x (inside y) (below st y left) && okAt w x j (after st y) left)) (sym kind)

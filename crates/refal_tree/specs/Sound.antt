@@ -6,16 +6,20 @@ use native.Mathlib.Omega.{arith}
 use lib.Dec.{eqb, leb}
 use borrow.Author.Tests.{leb-true}
 use Rattle.refal_rows.specs.Tests.{and-left, and-right}
-use Rattle.refal_ast.specs.Tree.{Leaf, symbol, variable, Terms, t0, tLeaf, tBracket, tCall, Conditions, c0, cTerms, cBlock, Sentences, s0, sTerms, sBlock, Names, nOne, nMore, Program, p0, pDeclaration, pFunction, depthT, depthC, depthS, depthP}
+use Rattle.refal_ast.specs.Tree.{Leaf, symbol, variable, Terms, t0, tLeaf, tBracket, tCall, Conditions, c0, cTerms, cBlock, Sentences, s0, sTerms, sBlock, Names, nOne}
+use Rattle.refal_ast.specs.Tree.{nMore, Program, p0, pDeclaration, pFunction, depthT, depthC, depthS, depthP}
 use Rattle.refal_ast.specs.Encode.{entryWord, letterOf}
 use Rattle.refal_ast.specs.declared.tree.Symbol.{Symbol}
 use Rattle.refal_ast.specs.declared.tree.Symbol.the-variants.{Char, Identifier, Number}
 use Rattle.refal_tree.specs.Forest.{Row, row, Forest, empty, tree}
 use Rattle.refal_tree.specs.States.{wrong, atItems, atName, atNames, atSentences, atPattern, atConditions, atCondition, atColon, atTerms, atArgument, closed, inside, after, below, lower}
 use Rattle.refal_tree.specs.Rules.{rowOk, okG}
-use Rattle.refal_tree.specs.Typed.{leafR, plain, forT, forTerms, forC, forS, nameR, forN, forP, toForest, addTerm, addItem, getT, getS, getSentence, getTail, getBlock, getCondition, getRight, getNs, getN, getP, programOf}
+use Rattle.refal_tree.specs.Typed.{leafR, plain, forT, forTerms, forC, forS, nameR, forN, forP, toForest, addTerm, addItem, getT, getS, getSentence, getTail}
+use Rattle.refal_tree.specs.Typed.{getBlock, getCondition, getRight, getNs, getN, getP, programOf}
 use Rattle.refal_tree.specs.TypedRules.{leaf-back, entry-back}
-use Rattle.refal_tree.specs.Views.{never, TermRow, isLeaf, isBracket, isCall, ItemRow, isDeclaration, isFunction, NameRow, isName, PlainRow, isPlain, TermsRow, isTerms, TailRow, isCondition, isResult, isEnding, RightRow, isRight, isBlock, Kept, kept, item-row, name-row, names-row, sentence-row, pattern-row, condition-row, argument-row, tail-row, right-row, term-row}
+use Rattle.refal_tree.specs.Views.{never, TermRow, isLeaf, isBracket, isCall, ItemRow, isDeclaration, isFunction, NameRow, isName, PlainRow, isPlain, TermsRow}
+use Rattle.refal_tree.specs.Views.{isTerms, TailRow, isCondition, isResult, isEnding, RightRow, isRight, isBlock, Kept, kept, item-row, name-row, names-row}
+use Rattle.refal_tree.specs.Views.{sentence-row, pattern-row, condition-row, argument-row, tail-row, right-row, term-row}
 
 -- what keeping the rules says of a row, of its children and of what follows
 pub record Parts (st left : ℕ) (r : Row) (f g : Forest) : Type 0 where
@@ -172,7 +176,8 @@ pattern-step _ f g left s r isTerms p rest =
       deep = λ d. n .deep d t (omega arith);
     }
 
-tail-step : (z : Row) (f g : Forest) (left : ℕ) (s : Sentences) (r : Row) (p : Terms) (cs : Conditions) → TailRow z → Parts atConditions left z f g → AllCondition f → AllBlock f → AllTail g → TailOf left s r p cs (tree z f g)
+tail-step : (z : Row) (f g : Forest) (left : ℕ) (s : Sentences) (r : Row) (p : Terms) (cs : Conditions) → TailRow z → Parts atConditions left z f g → AllCondition f → AllBlock f
+    → AllTail g → TailOf left s r p cs (tree z f g)
 unfolding getTail forC forS depthS
 tail-step _ f g left s r p cs (isCondition a b) q kids blocks rest =
     let k = kids left cs (plain 5 a b) (q .kids) in
@@ -199,16 +204,18 @@ tail-step _ f g left s r p cs (isEnding a b) q kids blocks rest =
       deep = λ d u c. let i : depthS (getBlock s r p cs (plain 7 a b) f) ≤ suc (lower left) = k .deep (omega arith) (omega arith) (omega arith) in omega arith;
     }
 
-block-step : (z : Row) (f g : Forest) (left : ℕ) (s : Sentences) (r : Row) (p : Terms) (cs : Conditions) (q : Row) → TermsRow z → Parts atArgument left z f g → AllS g → BlockOf left s r p cs q (tree z f g)
+block-step : (z : Row) (f g : Forest) (left : ℕ) (s : Sentences) (r : Row) (p : Terms) (cs : Conditions) (q : Row) → TermsRow z → Parts atArgument left z f g → AllS g
+    → BlockOf left s r p cs q (tree z f g)
 unfolding getBlock forS depthS
 block-step _ f g left s r p cs q isTerms o rest =
     let t = terms-deep f (suc left) (o .kids) in
     let n = rest left s0 (o .rest) in
     let v : depthS (getS s0 g) ≤ left = n .deep (omega arith) in
+    let whole : Forest → Forest → Forest = λ h y. forS s (tree (plain 4 (r .from) (r .to)) (forTerms p (forC cs (tree (plain 7 (q .from) (q .to)) y empty))) h) in
     record {
       forest = λ h.
-          ap (λ (y : Forest). forS s (tree (plain 4 (r .from) (r .to)) (forTerms p (forC cs (tree (plain 7 (q .from) (q .to)) (tree (plain 6 0 0) y (forS (getS s0 g) empty)) empty))) h)) (terms-of f (suc left) (o .kids))
-          ∙ ap (λ (y : Forest). forS s (tree (plain 4 (r .from) (r .to)) (forTerms p (forC cs (tree (plain 7 (q .from) (q .to)) (tree (plain 6 0 0) f y) empty))) h)) (n .forest);
+          ap (λ (y : Forest). whole h (tree (plain 6 0 0) y (forS (getS s0 g) empty))) (terms-of f (suc left) (o .kids))
+          ∙ ap (λ (y : Forest). whole h (tree (plain 6 0 0) f y)) (n .forest);
       deep = λ d u c. omega arith;
     }
 
@@ -248,7 +255,9 @@ mutual
   pub sound-S : (f : Forest) (left : ℕ) (s : Sentences) → okG atSentences left f ≡ true → SentencesOf left s f
   sound-S empty left s h = record { forest = refl; deep = λ d. d }
   sound-S (tree r f g) left s h =
-      let p = parts atSentences left r f g h in sentence-step r f g left s (sentence-row (p .here)) p (λ (l : ℕ) (s : Sentences) (r : Row). λ h. sound-sentence f l s r h) (λ (l : ℕ) (s : Sentences). λ h. sound-S g l s h)
+      let p = parts atSentences left r f g h in
+      sentence-step r f g left s (sentence-row (p .here)) p
+      (λ (l : ℕ) (s : Sentences) (r : Row). λ h. sound-sentence f l s r h) (λ (l : ℕ) (s : Sentences). λ h. sound-S g l s h)
 
   sound-sentence : (f : Forest) (left : ℕ) (s : Sentences) (r : Row) → okG atPattern left f ≡ true → SentenceOf left s r f
   sound-sentence empty left s r h = never h
@@ -258,7 +267,11 @@ mutual
   sound-tail : (f : Forest) (left : ℕ) (s : Sentences) (r : Row) (p : Terms) (cs : Conditions) → okG atConditions left f ≡ true → TailOf left s r p cs f
   sound-tail empty left s r p cs h = never h
   sound-tail (tree z f g) left s r p cs h =
-      let q = parts atConditions left z f g h in tail-step z f g left s r p cs (tail-row (q .here)) q (λ (l : ℕ) (cs : Conditions) (r : Row). λ h. sound-condition f l cs r h) (λ (l : ℕ) (s : Sentences) (r : Row) (p : Terms) (cs : Conditions) (q : Row). λ h. sound-block f l s r p cs q h) (λ (l : ℕ) (s : Sentences) (r : Row) (p : Terms) (cs : Conditions). λ h. sound-tail g l s r p cs h)
+      let q = parts atConditions left z f g h in
+      tail-step z f g left s r p cs (tail-row (q .here)) q
+      (λ (l : ℕ) (cs : Conditions) (r : Row). λ h. sound-condition f l cs r h)
+      (λ (l : ℕ) (s : Sentences) (r : Row) (p : Terms) (cs : Conditions) (q : Row). λ h. sound-block f l s r p cs q h)
+      (λ (l : ℕ) (s : Sentences) (r : Row) (p : Terms) (cs : Conditions). λ h. sound-tail g l s r p cs h)
 
   sound-block : (f : Forest) (left : ℕ) (s : Sentences) (r : Row) (p : Terms) (cs : Conditions) (q : Row) → okG atArgument left f ≡ true → BlockOf left s r p cs q f
   sound-block empty left s r p cs q h = never h
@@ -276,7 +289,8 @@ mutual
       let q = parts atColon left z f g h in right-step z f g left cs r p (right-row (q .here)) q (λ (l : ℕ) (s : Sentences). λ h. sound-S f l s h)
 
 -- ---- names
-names-step : (r : Row) (f g : Forest) (left : ℕ) (ns : Names) → NameRow r → Parts atNames left r f g → ((ns : Names) → okG atNames left g ≡ true → forN (getNs ns g) empty ≡ forN ns g) → forN (getNs ns (tree r f g)) empty ≡ forN ns (tree r f g)
+names-step : (r : Row) (f g : Forest) (left : ℕ) (ns : Names) → NameRow r → Parts atNames left r f g → ((ns : Names) → okG atNames left g ≡ true → forN (getNs ns g) empty ≡ forN ns g)
+    → forN (getNs ns (tree r f g)) empty ≡ forN ns (tree r f g)
 unfolding forN getNs
 names-step _ f g left ns (isName s l) p rest = rest (nMore ns s l) (p .rest) ∙ ap (λ (y : Forest). forN ns (tree (nameR s l) y g)) (sym (closed-empty left f (p .kids)))
 

@@ -5,7 +5,8 @@ use mathlib.Core.Path.{_≡_, refl, sym, ap, subst, _∙_}
 use native.Mathlib.Omega.{arith}
 use lib.Dec.{eqb, leb}
 use borrow.Author.Tests.{le-leb}
-use Rattle.refal_ast.specs.Tree.{Leaf, symbol, variable, Terms, t0, tLeaf, tBracket, tCall, Conditions, c0, cTerms, cBlock, Sentences, s0, sTerms, sBlock, Names, nOne, nMore, Program, p0, pDeclaration, pFunction, depthT, depthC, depthS, depthP}
+use Rattle.refal_ast.specs.Tree.{Leaf, symbol, variable, Terms, t0, tLeaf, tBracket, tCall, Conditions, c0, cTerms, cBlock, Sentences, s0, sTerms, sBlock, Names, nOne}
+use Rattle.refal_ast.specs.Tree.{nMore, Program, p0, pDeclaration, pFunction, depthT, depthC, depthS, depthP}
 use Rattle.refal_ast.specs.Encode.{entryWord, letterOf}
 use Rattle.refal_ast.specs.declared.tree.Symbol.{Symbol}
 use Rattle.refal_ast.specs.declared.tree.Symbol.the-variants.{Char, Identifier, Number}
@@ -14,10 +15,12 @@ use Rattle.refal_ast.specs.declared.tree.VariableKind.the-variants.{Symbol as k
 use Rattle.refal_tree.specs.Forest.{Row, row, Forest, empty, tree}
 use Rattle.refal_tree.specs.States.{atItems, atName, atNames, atSentences, atPattern, atConditions, atCondition, atColon, atTerms, atArgument, closed, inside, after, below, lower}
 use Rattle.refal_tree.specs.Rules.{rowOk, okG}
-use Rattle.refal_tree.specs.Typed.{leafR, plain, forT, forTerms, forC, forS, nameR, forN, forP, toForest, kindOf, addTerm, addItem, getT, getS, getSentence, getTail, getBlock, getCondition, getRight, getNs, getN, getP, programOf}
+use Rattle.refal_tree.specs.Typed.{leafR, plain, forT, forTerms, forC, forS, nameR, forN, forP, toForest, kindOf, addTerm, addItem, getT, getS, getSentence}
+use Rattle.refal_tree.specs.Typed.{getTail, getBlock, getCondition, getRight, getNs, getN, getP, programOf}
 
 -- a row that keeps the rules, over children that do
-pub ok-tree : (st left : ℕ) (r : Row) (f g : Forest) → rowOk st left r ≡ true → okG (inside (r .kind)) (below st (r .kind) left) f ≡ true → okG st left (tree r f g) ≡ okG (after st (r .kind)) left g
+pub ok-tree : (st left : ℕ) (r : Row) (f g : Forest) → rowOk st left r ≡ true → okG (inside (r .kind)) (below st (r .kind) left) f ≡ true
+    → okG st left (tree r f g) ≡ okG (after st (r .kind)) left g
 unfolding okG
 ok-tree st left r f g h i =
     ap (λ (x : Bool). x && (okG (inside (r .kind)) (below st (r .kind) left) f && okG (after st (r .kind)) left g)) h

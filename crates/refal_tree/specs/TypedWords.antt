@@ -3,7 +3,8 @@ use Prim.Native.Nat.{ℕ, zero, suc, _+_}
 use mathlib.Core.List.{List, [], _∷_, _++_, append-assoc, append-nil}
 use mathlib.Core.Path.{_≡_, refl, sym, ap, subst, _∙_}
 use native.Mathlib.Omega.{arith}
-use Rattle.refal_ast.specs.Tree.{Leaf, symbol, variable, Terms, t0, tLeaf, tBracket, tCall, Conditions, c0, cTerms, cBlock, Sentences, s0, sTerms, sBlock, Names, nOne, nMore, Program, p0, pDeclaration, pFunction, sizeT, sizeC, sizeS, sizeN, sizeP}
+use Rattle.refal_ast.specs.Tree.{Leaf, symbol, variable, Terms, t0, tLeaf, tBracket, tCall, Conditions, c0, cTerms, cBlock, Sentences, s0, sTerms, sBlock, Names, nOne}
+use Rattle.refal_ast.specs.Tree.{nMore, Program, p0, pDeclaration, pFunction, sizeT, sizeC, sizeS, sizeN, sizeP}
 use Rattle.refal_ast.specs.Encode.{entryWord, node, leafRow, encT, encTerms, encC, encS, encN, encP}
 use Rattle.refal_ast.specs.declared.tree.Symbol.{Symbol}
 use Rattle.refal_ast.specs.declared.tree.Symbol.the-variants.{Char, Identifier, Number}

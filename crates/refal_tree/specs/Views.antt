@@ -94,10 +94,12 @@ module _ (r : Row) where
 
   terms-is : r .kind ≡ 6 → Fields 6 → TermsRow r
   terms-is e h =
-      let d = eqb-true (r .detail) 0 (and-left (eqb (r .detail) 0) ((eqb (r .start) 0 && eqb (r .len) 0) && (eqb (r .from) 0 && eqb (r .to) 0)) h) in
-      let q : (eqb (r .start) 0 && eqb (r .len) 0) && (eqb (r .from) 0 && eqb (r .to) 0) ≡ true = and-right (eqb (r .detail) 0) ((eqb (r .start) 0 && eqb (r .len) 0) && (eqb (r .from) 0 && eqb (r .to) 0)) h in
-      let t = zeros (r .start) (r .len) (and-left (eqb (r .start) 0 && eqb (r .len) 0) (eqb (r .from) 0 && eqb (r .to) 0) q) in
-      let u = zeros (r .from) (r .to) (and-right (eqb (r .start) 0 && eqb (r .len) 0) (eqb (r .from) 0 && eqb (r .to) 0) q) in
+      let x : Bool = eqb (r .detail) 0 in
+      let y : Bool = eqb (r .start) 0 && eqb (r .len) 0 in
+      let z : Bool = eqb (r .from) 0 && eqb (r .to) 0 in
+      let d = eqb-true (r .detail) 0 (and-left x (y && z) h) in
+      let t = zeros (r .start) (r .len) (and-left y z (and-right x (y && z) h)) in
+      let u = zeros (r .from) (r .to) (and-right y z (and-right x (y && z) h)) in
       subst TermsRow (sym (row-is r 6 0 0 0 0 0 e d (t .0) (t .1) (u .0) (u .1))) isTerms
 
   name-is : r .kind ≡ 2 → Fields 2 → NameRow r

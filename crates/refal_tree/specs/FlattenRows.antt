@@ -1,0 +1,170 @@
+-- Flattening row by row: what a row puts before its children, and after them, by its own words and the state in which it stands.
+-- For a tree this is the flattening of `refal_ast`.
+use Prim.Native.Nat.{ℕ}
+use mathlib.Core.Bool.{Bool, true, false}
+use mathlib.Core.List.{List, [], _∷_, _++_, append-assoc, append-nil}
+use mathlib.Core.Path.{_≡_, refl, sym, ap, _∙_}
+use lib.Dec.{eqb}
+use Rattle.refal_ast.specs.Kinds.{tokEntry, tokExtern, tokIdentifier, tokVariable, tokNumber, tokChar, tokLBrace, tokRBrace, tokLParen, tokRParen, tokLAngle, tokRAngle}
+use Rattle.refal_ast.specs.Kinds.{tokComma, tokColon, tokEquals, tokSemicolon}
+use Rattle.refal_ast.specs.Kinds.{nodeDeclaration, nodeName, nodeFunction, nodeSentence, nodeCondition, nodeTerms, nodeEndingBlock, nodeConditionBlock}
+use Rattle.refal_ast.specs.Kinds.{nodeIdentifier, nodeNumber, nodeChar, nodeVariable, nodeBracket, nodeCall}
+use Rattle.refal_ast.specs.Tree.{Leaf, symbol, variable, Terms, t0, tLeaf, tBracket, tCall, Conditions, c0, cTerms, cBlock, Sentences, s0, sTerms, sBlock}
+use Rattle.refal_ast.specs.Tree.{Names, nOne, nMore, Program, p0, pDeclaration, pFunction}
+use Rattle.refal_ast.specs.Encode.{entryWord}
+use Rattle.refal_ast.specs.Flatten.{Flat, flatToken, mark, nameOf, flatLeaf, flattenT, flattenC, flattenS, flattenN, flatEntry, flatFunction, flattenP}
+use Rattle.refal_ast.specs.declared.tree.Symbol.{Symbol}
+use Rattle.refal_ast.specs.declared.tree.Symbol.the-variants.{Char, Identifier, Number}
+use Rattle.refal_tree.specs.Forest.{Row, row, Forest, empty, tree}
+use Rattle.refal_tree.specs.States.{atItems, atName, atNames, atSentences, atPattern, atConditions, atCondition, atColon, atTerms, atArgument, closed, inside, after}
+use Rattle.refal_tree.specs.Typed.{leafR, plain, forT, forTerms, forC, forS, nameR, forN, forP, toForest}
+
+abbrev pub pickF : Bool → List Flat → List Flat → List Flat
+pickF true x y = x
+pickF false x y = y
+
+abbrev pub onF : ℕ → ℕ → List Flat → List Flat → List Flat
+onF k n x y = pickF (eqb k n) x y
+
+-- before a row's children; here are all tokens that have a detail or a text
+abbrev pub opening : ℕ → Row → List Flat
+opening st r =
+    onF (r .kind) nodeDeclaration (mark tokExtern ∷ [])
+    (onF (r .kind) nodeName (onF st atNames (mark tokComma ∷ nameOf (r .start) (r .len) ∷ []) (nameOf (r .start) (r .len) ∷ []))
+    (onF (r .kind) nodeFunction (flatEntry (eqb (r .detail) 1) ++ (nameOf (r .start) (r .len) ∷ mark tokLBrace ∷ []))
+    (onF (r .kind) nodeCondition (mark tokComma ∷ [])
+    (onF (r .kind) nodeTerms (onF st atConditions (mark tokEquals ∷ []) [])
+    (onF (r .kind) nodeEndingBlock (mark tokEquals ∷ mark tokComma ∷ [])
+    (onF (r .kind) nodeConditionBlock (mark tokLBrace ∷ [])
+    (onF (r .kind) nodeIdentifier (nameOf (r .start) (r .len) ∷ [])
+    (onF (r .kind) nodeNumber (flatToken tokNumber 0 (r .start) (r .len) ∷ [])
+    (onF (r .kind) nodeChar (flatToken tokChar (r .detail) 0 0 ∷ [])
+    (onF (r .kind) nodeVariable (flatToken tokVariable (r .detail) (r .start) (r .len) ∷ [])
+    (onF (r .kind) nodeBracket (mark tokLParen ∷ [])
+    (onF (r .kind) nodeCall (mark tokLAngle ∷ nameOf (r .start) (r .len) ∷ []) []))))))))))))
+
+-- after the children of a row of the kind k
+abbrev pub closing : ℕ → ℕ → List Flat
+closing st k =
+    onF k nodeDeclaration (mark tokSemicolon ∷ [])
+    (onF k nodeFunction (mark tokRBrace ∷ [])
+    (onF k nodeSentence (mark tokSemicolon ∷ [])
+    (onF k nodeTerms (onF st atCondition (mark tokColon ∷ []) (onF st atArgument (mark tokColon ∷ mark tokLBrace ∷ []) []))
+    (onF k nodeEndingBlock (mark tokRBrace ∷ [])
+    (onF k nodeConditionBlock (mark tokRBrace ∷ [])
+    (onF k nodeBracket (mark tokRParen ∷ [])
+    (onF k nodeCall (mark tokRAngle ∷ []) [])))))))
+
+unfoldable pub flattenG : ℕ → Forest → List Flat
+flattenG st empty = []
+flattenG st (tree r f g) =
+    opening st r ++ (flattenG (inside (r .kind)) f ++ (closing st (r .kind) ++ flattenG (after st (r .kind)) g))
+
+-- ---- a tree's flattening
+
+-- what op puts before a forest flattens to E, between the states st and st'
+pub record Flows (st st' : ℕ) (op : Forest → Forest) (E : List Flat) : Type 0 where
+  pub flat : (g : Forest) → flattenG st (op g) ≡ E ++ flattenG st' g
+
+flows-none : (st : ℕ) → Flows st st (λ (g : Forest). g) []
+flows-none st = record { flat = λ g. refl }
+
+flows-then : {st₁ st₂ st₃ : ℕ} {op₁ op₂ : Forest → Forest} {E₁ E₂ : List Flat} → Flows st₁ st₂ op₁ E₁ → Flows st₂ st₃ op₂ E₂ → Flows st₁ st₃ (λ (g : Forest). op₁ (op₂ g)) (E₁ ++ E₂)
+flows-then {st₁} {st₂} {st₃} {op₁} {op₂} {E₁} {E₂} p q = record {
+  flat = λ g. p .flat (op₂ g) ∙ ap (λ (l : List Flat). E₁ ++ l) (q .flat g) ∙ sym (append-assoc E₁ E₂ (flattenG st₃ g));
+}
+
+-- a row above what op puts
+flows-row : {st' : ℕ} {op : Forest → Forest} {E : List Flat} (st : ℕ) (r : Row) → Flows (inside (r .kind)) st' op E
+    → Flows st (after st (r .kind)) (λ (g : Forest). tree r (op empty) g) (opening st r ++ (E ++ closing st (r .kind)))
+unfolding flattenG
+flows-row {st'} {op} {E} st r p = record {
+  flat = λ g.
+      let R : List Flat = flattenG (after st (r .kind)) g in
+      let Z : List Flat = closing st (r .kind) in
+      ap (λ (l : List Flat). opening st r ++ (l ++ (Z ++ R))) (p .flat empty ∙ append-nil E)
+      ∙ ap (λ (l : List Flat). opening st r ++ l) (sym (append-assoc E Z R))
+      ∙ sym (append-assoc (opening st r) (E ++ Z) R);
+}
+
+flows-as : {st st' : ℕ} {op : Forest → Forest} {E E' : List Flat} → E ≡ E' → Flows st st' op E → Flows st st' op E'
+flows-as {st} {st'} {op} {E} {E'} e p = record { flat = λ g. p .flat g ∙ ap (λ (l : List Flat). l ++ flattenG st' g) e }
+
+flows-leaf : (x : Leaf) (a b : ℕ) → Flows atTerms atTerms (λ (g : Forest). tree (leafR x a b) empty g) (flatLeaf x ∷ [])
+unfolding flattenG
+flows-leaf (symbol (Char x)) a b = record { flat = λ g. refl }
+flows-leaf (symbol (Identifier s l)) a b = record { flat = λ g. refl }
+flows-leaf (symbol (Number s l)) a b = record { flat = λ g. refl }
+flows-leaf (variable v s l) a b = record { flat = λ g. refl }
+
+pub flows-T : (f : Terms) → Flows atTerms atTerms (forT f) (flattenT f)
+unfolding flattenT forT
+flows-T t0 = flows-none atTerms
+flows-T (tLeaf f x a b) = flows-then (flows-T f) (flows-leaf x a b)
+flows-T (tBracket f a t b) = flows-then (flows-T f) (flows-row atTerms (plain 13 a b) (flows-T t))
+flows-T (tCall f a s l t b) = flows-then (flows-T f) (flows-row atTerms (row 14 0 s l a b) (flows-T t))
+
+-- a Terms row, in each place
+flows-terms : (st : ℕ) (f : Terms) → Flows st (after st 6) (forTerms f) (opening st (plain 6 0 0) ++ (flattenT f ++ closing st 6))
+flows-terms st f = flows-row st (plain 6 0 0) (flows-T f)
+
+at-pattern : (f : Terms) → Flows atPattern atConditions (forTerms f) (flattenT f)
+at-pattern f = flows-as (append-nil (flattenT f)) (flows-terms atPattern f)
+
+at-colon : (f : Terms) → Flows atColon closed (forTerms f) (flattenT f)
+at-colon f = flows-as (append-nil (flattenT f)) (flows-terms atColon f)
+
+at-result : (f : Terms) → Flows atConditions closed (forTerms f) (mark tokEquals ∷ flattenT f)
+at-result f = flows-as (ap (λ (l : List Flat). mark tokEquals ∷ l) (append-nil (flattenT f))) (flows-terms atConditions f)
+
+mutual
+  unfolding flattenC flattenS forC forS
+
+  pub flows-C : (cs : Conditions) → Flows atConditions atConditions (forC cs) (flattenC cs)
+  flows-C c0 = flows-none atConditions
+  flows-C (cTerms cs a f t b) =
+      flows-then (flows-C cs)
+      (flows-as (simp (append-assoc, append-nil)) (flows-row atConditions (plain 5 a b) (flows-then (flows-terms atCondition f) (at-colon t))))
+  flows-C (cBlock cs a f o v e b) =
+      flows-then (flows-C cs)
+      (flows-as (simp (append-assoc, append-nil)) (flows-row atConditions (plain 5 a b) (flows-then (flows-terms atCondition f) (flows-row atColon (plain 8 o e) (flows-S v)))))
+
+  pub flows-S : (s : Sentences) → Flows atSentences atSentences (forS s) (flattenS s)
+  flows-S s0 = flows-none atSentences
+  flows-S (sTerms s a f cs t b) =
+      flows-then (flows-S s)
+      (flows-as (simp append-assoc) (flows-row atSentences (plain 4 a b) (flows-then (at-pattern f) (flows-then (flows-C cs) (at-result t)))))
+  flows-S (sBlock s a f cs o t v e b) =
+      flows-then (flows-S s)
+      (flows-as (simp append-assoc)
+      (flows-row atSentences (plain 4 a b)
+      (flows-then (at-pattern f)
+      (flows-then (flows-C cs)
+      (flows-row atConditions (plain 7 o e) (flows-then (flows-terms atArgument t) (flows-S v)))))))
+
+flows-name : (s l : ℕ) → Flows atName atNames (λ (g : Forest). tree (nameR s l) empty g) (nameOf s l ∷ [])
+unfolding flattenG
+flows-name s l = record { flat = λ g. refl }
+
+flows-more : (s l : ℕ) → Flows atNames atNames (λ (g : Forest). tree (nameR s l) empty g) (mark tokComma ∷ nameOf s l ∷ [])
+unfolding flattenG
+flows-more s l = record { flat = λ g. refl }
+
+pub flows-N : (ns : Names) → Flows atName atNames (forN ns) (flattenN ns)
+unfolding flattenN forN
+flows-N (nOne s l) = flows-name s l
+flows-N (nMore ns s l) = flows-then (flows-N ns) (flows-more s l)
+
+flows-function : (x : Bool) (s l a b : ℕ) (v : Sentences) → Flows atItems atItems (λ (g : Forest). tree (row 3 (entryWord x) s l a b) (forS v empty) g) (flatFunction x s l v)
+flows-function true s l a b v = flows-row atItems (row 3 1 s l a b) (flows-S v)
+flows-function false s l a b v = flows-row atItems (row 3 0 s l a b) (flows-S v)
+
+pub flows-P : (p : Program) → Flows atItems atItems (forP p) (flattenP p)
+unfolding flattenP forP
+flows-P p0 = flows-none atItems
+flows-P (pDeclaration p a ns b) = flows-then (flows-P p) (flows-row atItems (plain 1 a b) (flows-N ns))
+flows-P (pFunction p a x s l v b) = flows-then (flows-P p) (flows-function x s l a b v)
+
+pub flatten-tree : (p : Program) → flattenG atItems (toForest p) ≡ flattenP p
+unfolding flattenG
+flatten-tree p = flows-P p .flat empty ∙ append-nil (flattenP p)
