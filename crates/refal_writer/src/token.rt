@@ -1,11 +1,11 @@
 // The writers of tokens: a token's spelling and one space at the front of out if they fit; their length in any case. Each
 // lends the rest of out, after the bytes written, to the writer of what comes next.
 use crate::bytes::copy;
+use crate::bytes::put_word;
 use crate::bytes::put1;
 use crate::bytes::put2;
 use crate::bytes::put3;
 use crate::bytes::put4;
-use crate::bytes::put_word;
 use refal_rows::least;
 ghost use mathlib.Core.Path.{_≡_};
 ghost use mathlib.Core.List.{[], _∷_, _++_};
@@ -16,7 +16,25 @@ ghost use Rattle.refal_writer.specs.Puts.{Puts};
 ghost use Rattle.refal_writer.specs.Token.{tokenText, Mark, Writable};
 
 // The bytes of the marks, by kind: { } ( ) < > , : = ;
-const MARK: [u8; 17] = [0, 0, 0, 0, 0, 0, 0, 123, 125, 40, 41, 60, 62, 44, 58, 61, 59];
+const MARK: [u8; 17] = [
+    0,
+    0,
+    0,
+    0,
+    0,
+    0,
+    0,
+    123,
+    125,
+    40,
+    41,
+    60,
+    62,
+    44,
+    58,
+    61,
+    59,
+];
 
 fn mark_byte(kind: u32) -> u8
     requires { ⌜ kind ≤ 16 ⌝ }
@@ -94,7 +112,7 @@ fn write_char(x: u32, out: &mut [u8]) -> usize
 }
 
 // A token that is its kind alone, $ENTRY, $EXTRN or a mark; and a space.
-fn write_mark(kind: u32, out: &mut [u8]) -> usize
+pub fn write_mark(kind: u32, out: &mut [u8]) -> usize
     requires { ⌜ Mark kind ⌝ }
     ensures { λ r. ⌜ Puts (tokenText (spelled kind 0 [])) r (now (out .entry)) (now (out .exit)) × (r ≤ 8) ⌝ }
 {
@@ -108,7 +126,14 @@ fn write_mark(kind: u32, out: &mut [u8]) -> usize
 }
 
 // Any token but Eof.
-pub fn write_token(src: &[u8], kind: u32, detail: u32, start: u32, len: u32, out: &mut [u8]) -> usize
+pub fn write_token(
+    src: &[u8],
+    kind: u32,
+    detail: u32,
+    start: u32,
+    len: u32,
+    out: &mut [u8],
+) -> usize
     requires { ⌜ Writable kind detail ⌝ }
     ensures { λ r. ⌜ Puts (tokenText (view (now (src .entry)) (flatToken kind detail start len))) r (now (out .entry)) (now (out .exit)) × (r ≤ 4294967300) ⌝ }
 {
