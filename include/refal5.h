@@ -27,6 +27,15 @@ void refal5_canonical_index(const uint8_t *name, size_t n, uint8_t *out, size_t 
 /* Whether two names are equal: their canonical forms are. */
 bool refal5_names_equal(const uint8_t *a, size_t n, const uint8_t *b, size_t m);
 
+/* Reading: src as tokens. A row of rows has six words (kind, detail, text start, text length, span start, span end); m counts
+ * words, and a row is put down only whole. A source of n bytes has at most n + 1 tokens. Refusals 1, 2, 10 to 25. */
+void refal5_read(const uint8_t *src, size_t n, uint32_t *rows, size_t m, uint64_t answer[7]);
+
+/* Parsing: token words, as reading puts them down, as the tree's rows. A row has seven words (kind, detail, text start, text
+ * length, span start, span end, next: the row after its subtree), parent first; n and m count words. k tokens have at most 2 * k
+ * nodes. Refusals 30 to 38. */
+void refal5_parse(const uint32_t *tokens, size_t n, uint32_t *rows, size_t m, uint64_t answer[7]);
+
 #ifdef __cplusplus
 }
 #endif

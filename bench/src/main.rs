@@ -21,8 +21,8 @@ bench: times the original, the proved library and an unverified mark in one run
   --svg FILE   writes a plot of the time over the size of a delivery
 
 Everything lent is made and touched before it is timed. The three are timed in turn, in processor
-time of one thread, and medians are given; what the original allocates is dropped outside its time, and the copy of the tokens
-that its parser takes is not timed.
+time of one thread, and medians are given. The copy of the tokens that the original's parser takes
+is not timed; giving back what the original allocates is timed apart, and a second ratio has it.
 ";
 
 fn main() -> ExitCode {

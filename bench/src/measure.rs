@@ -10,7 +10,10 @@ use std::time::{Duration, Instant};
 /// Medians in seconds; None for what is not there.
 #[derive(Debug, Clone, Copy, Default)]
 pub struct Times {
+    /// The call alone.
     pub original: Option<f64>,
+    /// The call, and giving back what it allocated.
+    pub released: Option<f64>,
     pub ours: Option<f64>,
     pub mark: Option<f64>,
 }
@@ -20,6 +23,7 @@ impl Times {
         let add = |a: Option<f64>, b: Option<f64>| Some(a? + b?);
         Self {
             original: add(self.original, other.original),
+            released: add(self.released, other.released),
             ours: add(self.ours, other.ours),
             mark: add(self.mark, other.mark),
         }
@@ -77,13 +81,15 @@ pub fn measure(name: &str, src: &str, effort: Effort) -> Measured {
     let reading = {
         let mut out = vec![1u32; rows.len()];
         let mut theirs = Vec::new();
+        let mut released = Vec::new();
         let mut ours = Vec::new();
         let mut marks = Vec::new();
         repeat(effort, || {
             if original::PRESENT {
-                let (time, tokens) = time(|| original::tokenize(black_box(src)));
-                drop(tokens);
-                theirs.push(time);
+                let (called, tokens) = time(|| original::tokenize(black_box(src)));
+                let (freed, ()) = time(|| drop(tokens));
+                theirs.push(called);
+                released.push(called + freed);
             }
             if reads {
                 ours.push(time(|| Library.read(black_box(src.as_bytes()), &mut out)).0);
@@ -92,7 +98,7 @@ pub fn measure(name: &str, src: &str, effort: Effort) -> Measured {
             marks.push(time(|| mark::read(black_box(src.as_bytes()), &mut out)).0);
             assert!(out == rows);
         });
-        medians(theirs, ours, marks)
+        medians(theirs, released, ours, marks)
     };
     let need = mark::parse(&rows, &mut [])[6] as usize;
     let mut tree = vec![1u32; 7 * need];
@@ -100,15 +106,17 @@ pub fn measure(name: &str, src: &str, effort: Effort) -> Measured {
     let parsing = {
         let mut out = vec![1u32; tree.len()];
         let mut theirs = Vec::new();
+        let mut released = Vec::new();
         let mut ours = Vec::new();
         let mut marks = Vec::new();
         let tokens = original::tokenize(src);
         repeat(effort, || {
             if let Some(tokens) = &tokens {
                 let copy = tokens.copy();
-                let (time, tree) = time(|| original::parse_tokens(black_box(copy)));
-                drop(tree);
-                theirs.push(time);
+                let (called, tree) = time(|| original::parse_tokens(black_box(copy)));
+                let (freed, ()) = time(|| drop(tree));
+                theirs.push(called);
+                released.push(called + freed);
             }
             if parses {
                 ours.push(time(|| Library.parse(black_box(&rows), &mut out)).0);
@@ -117,7 +125,7 @@ pub fn measure(name: &str, src: &str, effort: Effort) -> Measured {
             marks.push(time(|| mark::parse(black_box(&rows), &mut out)).0);
             assert!(out == tree);
         });
-        medians(theirs, ours, marks)
+        medians(theirs, released, ours, marks)
     };
     let writing = (reads && writes)
         .then(|| writing(src, &tree, effort))
@@ -178,9 +186,10 @@ fn repeat(effort: Effort, mut round: impl FnMut()) {
     }
 }
 
-fn medians(original: Vec<f64>, ours: Vec<f64>, mark: Vec<f64>) -> Times {
+fn medians(original: Vec<f64>, released: Vec<f64>, ours: Vec<f64>, mark: Vec<f64>) -> Times {
     Times {
         original: median(original),
+        released: median(released),
         ours: median(ours),
         mark: median(mark),
     }

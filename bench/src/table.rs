@@ -34,18 +34,20 @@ pub fn size(bytes: usize) -> String {
     }
 }
 
-/// Speeds of one step, with ratios of medians.
+/// Speeds of one step, with ratios of medians. Two ratios for the original: of its call, and of its
+/// call together with giving back what it allocated.
 pub fn step(title: &str, measured: &[Measured], times: fn(&Measured) -> Times) -> String {
     let mut text = format!(
         "## {title}\n\n\
          | input | size | tokens | original MB/s | ours MB/s | mark MB/s \
          | original ns/token | ours ns/token | mark ns/token \
-         | times as fast as the original | time against the mark |\n\
-         |---|---|---|---|---|---|---|---|---|---|---|\n"
+         | times as fast as the original | its release included | time against the mark |\n\
+         |---|---|---|---|---|---|---|---|---|---|---|---|\n"
     );
     for input in measured {
         let Times {
             original,
+            released,
             ours,
             mark,
         } = times(input);
@@ -59,7 +61,8 @@ pub fn step(title: &str, measured: &[Measured], times: fn(&Measured) -> Times) -
             nanoseconds(input.tokens, original),
             nanoseconds(input.tokens, ours),
             nanoseconds(input.tokens, mark),
-            ratio(original, ours.or(mark)),
+            ratio(original, ours),
+            ratio(released, ours),
             ratio(ours, mark),
         ];
         text.push_str(&format!("| {} |\n", cells.join(" | ")));

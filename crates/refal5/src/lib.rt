@@ -3,7 +3,10 @@
 // start, 5 span end, 6 need.
 use refal_ast::Answer;
 ghost use mathlib.Core.Path.{_≡_};
+ghost use lib.ListN.{length};
 ghost use Rattle.refal_ast.specs.Names.{canonicalName, canonicalIndex, namesEqual, formAnswer, formBytes};
+ghost use Rattle.refal_lexer.specs.Read.{readAnswer, readRows};
+ghost use Rattle.refal_parser.specs.Parse.{parseAnswer, parseRows};
 ghost use Rattle.refal5.specs.Words.{answerWords};
 
 // An answer's seven words.
@@ -48,4 +51,22 @@ pub extern "C" fn refal5_names_equal(a: &[u8], b: &[u8]) -> bool
     ensures { λ r. ⌜ r ≡ namesEqual (now (a .entry)) (now (b .entry)) ⌝ }
 {
     refal_ast::names::identifiers_equal(a, b)
+}
+
+// Reading: the rows of the source's tokens.
+#[no_mangle]
+pub extern "C" fn refal5_read(src: &[u8], rows: &mut [u32], answer: &mut [u64; 7])
+    ensures told { λ _. ⌜ now (answer .exit) ≡ answerWords (readAnswer (now (src .entry)) (length (now (rows .entry)))) ⌝ }
+    ensures left { λ _. ⌜ now (rows .exit) ≡ readRows (now (src .entry)) (now (rows .entry)) ⌝ }
+{
+    *answer = words(refal_lexer::read(src, rows));
+}
+
+// Parsing: the rows of the tokens' tree.
+#[no_mangle]
+pub extern "C" fn refal5_parse(tokens: &[u32], rows: &mut [u32], answer: &mut [u64; 7])
+    ensures told { λ _. ⌜ now (answer .exit) ≡ answerWords (parseAnswer (now (tokens .entry)) (now (rows .entry))) ⌝ }
+    ensures left { λ _. ⌜ now (rows .exit) ≡ parseRows (now (tokens .entry)) (now (rows .entry)) ⌝ }
+{
+    *answer = words(refal_parser::parse(tokens, rows));
 }

@@ -1,17 +1,17 @@
 -- Laws of characters: what is encoded decodes to it, and what decoding gives is a scalar value.
-use Prim.Native.Nat.{ℕ, zero, suc, _+_, _-_, _*_, _/_, _%_, _<_, _≤_}
+use Prim.Native.Nat.{ℕ, suc, _+_, _-_, _*_, _/_, _%_, _<_, _≤_}
 use native.Mathlib.Omega.{arith}
 use native.Mathlib.Decide.{decLe}
-use borrow.Author.Tests.{lt-ltb, le-ltb, le-leb, lt-leb, ltb-true, ltb-false, leb-true, leb-false, eq-eqb, ne-eqb, eqb-true}
-use mathlib.Core.Bool.{Bool, true, false, not, _&&_, true≢false}
+use borrow.Author.Tests.{lt-ltb, le-ltb, le-leb, lt-leb, ltb-true, ltb-false, leb-true, eqb-true}
+use mathlib.Core.Bool.{Bool, true, false, _&&_, true≢false}
 use mathlib.Core.List.{List, [], _∷_, _++_}
-use mathlib.Core.Path.{_≡_, refl, ap, ap₂, sym, subst, _∙_}
+use mathlib.Core.Path.{_≡_, sym, _∙_}
 use lib.Dec.{leb, ltb, eqb}
 use lib.ListN.{length, getD}
 use Rattle.refal_rows.specs.Tests.{and-left, and-right, range-lo, range-hi}
-use Rattle.refal_text.specs.Pick.{pick, split}
+use Rattle.refal_text.specs.Pick.{split}
 use Rattle.refal_text.specs.Encode.{enc2, enc3, enc4, encode, Scalar}
-use Rattle.refal_text.specs.Utf8.{char, ill, cont, leads, second, code2, code3, code4, two, three, four, charOf, decode, byLead}
+use Rattle.refal_text.specs.Utf8.{char, ill, cont, leads, second, code2, code3, code4, three, four, charOf, decode}
 use Rattle.refal_text.specs.Utf8Laws.{decode-ascii, Second, second-is}
 use Rattle.refal_text.specs.declared.Char.{Char}
 
@@ -37,7 +37,15 @@ dec2 : (x : ℕ) (r : List ℕ) → 128 ≤ x → x < 2048 → decode (enc2 x ++
 unfolding decode
 dec2 x r lo hi =
     let e : code2 (192 + x / 64) (128 + x % 64) ≡ x = omega arith in
-    simp (le-ltb (192 + x / 64) 128 (omega arith), le-ltb (192 + x / 64) 192 (omega arith), lt-ltb (192 + x / 64) 224 (omega arith), le-leb 194 (192 + x / 64) (omega arith), cont-of (x % 64) (omega arith), e)
+    simp (
+      le-ltb (192 + x / 64) 128 (omega arith),
+      le-ltb (192 + x / 64) 192 (omega arith),
+      lt-ltb (192 + x / 64) 224 (omega arith),
+      le-leb 194 (192 + x / 64) (omega arith),
+      cont-of
+          (x % 64) (omega arith),
+      e,
+    )
 
 below-surrogates : (x : ℕ) → leb 55296 x && leb x 57343 ≡ false → 224 + x / 4096 ≡ 237 → x < 65536 → 128 + x / 64 % 64 ≤ 159
 below-surrogates x p e h = go (decLe 55296 x) (decLe x 57343)
@@ -51,8 +59,26 @@ dec3 : (x : ℕ) (r : List ℕ) → 2048 ≤ x → x < 65536 → leb 55296 x && 
 unfolding decode
 dec3 x r lo hi p =
     let e : code3 (224 + x / 4096) (128 + x / 64 % 64) (128 + x % 64) ≡ x = omega arith in
-    let s : Second (224 + x / 4096) (128 + x / 64 % 64) = record { lo = omega arith; hi = omega arith; e0 = λ i. omega arith; ed = λ i. below-surrogates x p i hi; f0 = λ i. absurd (omega arith); f4 = λ i. absurd (omega arith) } in
-    simp (le-ltb (224 + x / 4096) 128 (omega arith), le-ltb (224 + x / 4096) 192 (omega arith), le-ltb (224 + x / 4096) 224 (omega arith), lt-ltb (224 + x / 4096) 240 (omega arith), is-second _ _ s, cont-of (x % 64) (omega arith), e)
+    let s : Second (224 + x / 4096)
+    (128 + x / 64 % 64) = record {
+      lo = omega arith;
+      hi = omega arith;
+      e0 = λ i. omega arith;
+      ed = λ i. below-surrogates x p i hi;
+      f0 = λ i. absurd (omega arith);
+      f4 = λ i. absurd
+          (omega arith);
+    } in
+    simp (
+      le-ltb (224 + x / 4096) 128 (omega arith),
+      le-ltb (224 + x / 4096) 192 (omega arith),
+      le-ltb (224 + x / 4096) 224 (omega arith),
+      lt-ltb (224 + x / 4096) 240
+          (omega arith),
+      is-second _ _ s,
+      cont-of (x % 64) (omega arith),
+      e,
+    )
 
 up : (x n : ℕ) → x / 262144 ≤ n → x / 4096 ≡ x / 262144 * 64 + x / 4096 % 64
 up x n h = omega arith
@@ -73,10 +99,25 @@ dec4 : (x : ℕ) (r : List ℕ) → 65536 ≤ x → x ≤ 1114111 → decode (en
 unfolding decode
 dec4 x r lo hi =
     let t : x / 262144 % 8 ≡ x / 262144 = top-of x hi in
-    let e : code4 (240 + x / 262144) (128 + x / 4096 % 64) (128 + x / 64 % 64) (128 + x % 64) ≡ x = join x (x / 262144) (x / 4096 % 64) (x / 64 % 64) (x % 64) (x / 4096) (x / 64) (up x 4 (omega arith)) (mid x) (low x) in
+    let e : code4 (240 + x / 262144) (128 + x / 4096 % 64) (128 + x / 64 % 64) (128 + x % 64) ≡ x = join x (x / 262144) (x / 4096 % 64) (x / 64 % 64) (x % 64) (x / 4096) (x / 64)
+    (up x 4 (omega arith)) (mid x) (low x) in
     let a = 240 + x / 262144 in
-    let s : Second (240 + x / 262144) (128 + x / 4096 % 64) = record { lo = omega arith; hi = omega arith; e0 = λ i. absurd (omega arith); ed = λ i. absurd (omega arith); f0 = λ i. omega arith; f4 = λ i. omega arith } in
-    simp (t, le-ltb a 128 (omega arith), le-ltb a 192 (omega arith), le-ltb a 224 (omega arith), le-ltb a 240 (omega arith), lt-ltb a 248 (omega arith), le-leb a 244 (omega arith), is-second _ _ s, cont-of (x / 64 % 64) (omega arith), cont-of (x % 64) (omega arith), e)
+    let s : Second (240 + x / 262144)
+    (128 + x / 4096 % 64) = record { lo = omega arith; hi = omega arith; e0 = λ i. absurd (omega arith); ed = λ i. absurd (omega arith); f0 = λ i. omega arith; f4 = λ i. omega arith } in
+    simp (
+      t,
+      le-ltb a 128 (omega arith),
+      le-ltb a 192 (omega arith),
+      le-ltb a 224 (omega arith),
+      le-ltb a 240 (omega arith),
+      lt-ltb a 248 (omega arith),
+      le-leb a 244
+          (omega arith),
+      is-second _ _ s,
+      cont-of (x / 64 % 64) (omega arith),
+      cont-of (x % 64) (omega arith),
+      e,
+    )
 
 -- what is encoded decodes
 pub decode-encode : (x : ℕ) → Scalar x → (r : List ℕ) → decode (encode x ++ r) ≡ char x (length (encode x))
@@ -113,7 +154,8 @@ leads-hi a =
     split (Hi a) (ltb a 128) _ _ (λ h. let k : a < 128 = ltb-true _ _ h in (λ e. k, λ e. absurd (omega arith), λ e. absurd (omega arith), λ e. absurd (omega arith))) (λ _.
     split (Hi a) (ltb a 192) _ _ (λ h. (λ e. absurd (omega arith), λ e. absurd (omega arith), λ e. absurd (omega arith), λ e. absurd (omega arith))) (λ _.
     split (Hi a) (ltb a 224) _ _ (λ h. let k : a < 224 = ltb-true _ _ h in (λ e. absurd (omega arith), λ e. k, λ e. absurd (omega arith), λ e. absurd (omega arith))) (λ g.
-    split (Hi a) (ltb a 240) _ _ (λ h. let k : a < 240 = ltb-true _ _ h in let j : 224 ≤ a = ltb-false _ _ g in (λ e. absurd (omega arith), λ e. absurd (omega arith), λ e. (j, k), λ e. absurd (omega arith))) (λ g′.
+    split (Hi a) (ltb a 240) _ _ (λ h. let k : a < 240 = ltb-true _ _ h in let j : 224 ≤ a = ltb-false _ _ g in
+    (λ e. absurd (omega arith), λ e. absurd (omega arith), λ e. (j, k), λ e. absurd (omega arith))) (λ g′.
     let j : 240 ≤ a = ltb-false _ _ g′ in
     split (Hi a) (ltb a 248) _ _ (λ h. (λ e. absurd (omega arith), λ e. absurd (omega arith), λ e. absurd (omega arith), λ e. j)) (λ _.
     split (Hi a) (ltb a 252) _ _ (λ h. (λ e. absurd (omega arith), λ e. absurd (omega arith), λ e. absurd (omega arith), λ e. j)) (λ _.
@@ -192,7 +234,11 @@ decoded a b c d =
     let v₁ = and-right (cont c) (cont d) v in
     let lo = up .3 (eqb-true _ _ n) in
     let w = four-lo a b c d lo h s (range-lo 128 c 191 v₀) (range-hi 128 c 191 v₀) (range-lo 128 d 191 v₁) (range-hi 128 d 191 v₁) in
-    d-wide (omega arith) (record { top = four-top a b c d lo h s (range-lo 128 c 191 v₀) (range-hi 128 c 191 v₀) (range-lo 128 d 191 v₁) (range-hi 128 d 191 v₁); plain = no-surrogate (code4 a b c d) (λ x y. omega arith) })) (λ _. d-ill)) (λ _.
+    d-wide (omega arith) (record {
+      top = four-top a b c d lo h s (range-lo 128 c 191 v₀) (range-hi 128 c 191 v₀) (range-lo 128 d 191 v₁) (range-hi 128 d 191 v₁);
+      plain = no-surrogate
+          (code4 a b c d) (λ x y. omega arith);
+    })) (λ _. d-ill)) (λ _.
     d-ill))))
   where
     P : Char → Type 0

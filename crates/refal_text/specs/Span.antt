@@ -1,6 +1,6 @@
 -- How many bytes of a class stand at the front of a list of bytes.
-use Prim.Native.Nat.{ℕ, zero, suc}
-use mathlib.Core.Bool.{Bool, true, false}
+use Prim.Native.Nat.{ℕ, suc}
+use mathlib.Core.Bool.{Bool}
 use mathlib.Core.List.{List, [], _∷_}
 use Rattle.refal_text.specs.Pick.{pick}
 

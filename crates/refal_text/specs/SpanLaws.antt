@@ -1,13 +1,13 @@
 -- Laws of `span`: a loop that stands at i is at the end, at a byte that fails, or goes one step on.
-use Prim.Native.Nat.{ℕ, zero, suc, _+_, _<_, _≤_}
+use Prim.Native.Nat.{ℕ, suc, _+_, _<_, _≤_}
 use native.Mathlib.Nat.{add-zero, le-refl}
 use native.Mathlib.Numerals.{add-one}
 use native.Mathlib.Omega.{arith}
 use mathlib.Core.List.{List, [], _∷_}
 use mathlib.Core.Bool.{Bool, true, false}
-use mathlib.Core.Path.{_≡_, refl, ap, _∙_, sym}
-use lib.ListN.{length, drop, getD, drop-of-length-le, length-drop}
-use lib.Seq.{drop-cons, drop-drop}
+use mathlib.Core.Path.{_≡_}
+use lib.ListN.{length, drop, getD, drop-of-length-le}
+use lib.Seq.{drop-cons}
 use Rattle.refal_text.specs.Pick.{pick}
 use Rattle.refal_text.specs.Span.{span}
 

@@ -1,21 +1,20 @@
 -- Laws of UTF-8: the count of leading ones, the ways out of `char_at` and `first_ill`, and that a character lies within its bytes.
-use Prim.Native.Nat.{ℕ, zero, suc, _+_, _-_, _*_, _<_, _≤_}
+use Prim.Native.Nat.{ℕ, zero, suc, _+_, _-_, _<_, _≤_}
 use native.Mathlib.Omega.{arith}
 use native.Mathlib.Decide.{decLe}
-use native.Mathlib.Numerals.{add-one}
 use native.Mathlib.Nat.{zero-add, add-zero, suc-add}
-use borrow.Author.Tests.{ltb-true, ltb-false, leb-true, eqb-true, eq-eqb, ne-eqb, lt-ltb}
-use mathlib.Core.Bool.{Bool, true, false, not, _&&_, true≢false}
-use mathlib.Core.List.{List, [], _∷_, _++_}
+use borrow.Author.Tests.{ltb-false, eqb-true, eq-eqb, ne-eqb}
+use mathlib.Core.Bool.{Bool, true, false, _&&_, true≢false}
+use mathlib.Core.List.{List, [], _∷_}
 use mathlib.Core.Path.{_≡_, refl, ap, ap₂, sym, subst, _∙_}
-use lib.Dec.{T, leb, ltb, eqb, eqb→eq}
+use lib.Dec.{leb, ltb, eqb, eqb→eq}
 use lib.Count.{leadingZeros}
 use lib.ListN.{length, drop, getD, List·getD-eq-default, drop-of-length-le, length-drop}
 use lib.Seq.{getD-drop, drop-cons, drop-drop}
-use Rattle.refal_rows.specs.Tests.{each-below, and-left, and-right, range-lo, range-hi}
-use Rattle.refal_text.specs.Pick.{pick, split}
+use Rattle.refal_rows.specs.Tests.{each-below, and-right, range-lo, range-hi}
+use Rattle.refal_text.specs.Pick.{split}
 use Rattle.refal_text.specs.Span.{span}
-use Rattle.refal_text.specs.Utf8.{char, ill, ascii, cont, leads, second, code2, code3, code4, two, three, four, byLead, charOf, decode, goOn, wellTo}
+use Rattle.refal_text.specs.Utf8.{char, ill, ascii, cont, leads, second, two, three, four, byLead, charOf, decode, goOn, wellTo}
 use Rattle.refal_text.specs.declared.Char.{Char}
 
 -- the character at a place
@@ -122,7 +121,15 @@ second-is a b =
     record { lo = omega arith; hi = u; e0 = λ i. absurd (omega arith); ed = λ i. absurd (omega arith); f0 = λ _. l; f4 = λ i. absurd (omega arith) }) (λ n₂.
     split P (eqb a 244) _ _ (λ t h. let e : a ≡ 244 = eqb-true _ _ t in let l = range-lo 128 b 143 h in let u = range-hi 128 b 143 h in
     record { lo = l; hi = omega arith; e0 = λ i. absurd (omega arith); ed = λ i. absurd (omega arith); f0 = λ i. absurd (omega arith); f4 = λ _. u }) (λ n₃ h.
-    record { lo = range-lo 128 b 191 h; hi = range-hi 128 b 191 h; e0 = λ i. absurd (neq _ _ n₀ i); ed = λ i. absurd (neq _ _ n₁ i); f0 = λ i. absurd (neq _ _ n₂ i); f4 = λ i. absurd (neq _ _ n₃ i) }))))
+    record {
+      lo = range-lo 128 b 191 h;
+      hi = range-hi 128 b 191 h;
+      e0 = λ i. absurd (neq _ _ n₀ i);
+      ed = λ i. absurd (neq _ _ n₁ i);
+      f0 = λ i. absurd (neq _ _ n₂ i);
+      f4 = λ i. absurd
+          (neq _ _ n₃ i);
+    }))))
   where
     P : Bool → Type 0
     P t = t ≡ true → Second a b
@@ -140,9 +147,14 @@ cont-in s i h = go (decLe (suc i) (length s))
 pub decode-in : (s : List ℕ) (at : ℕ) → at < length s → at + decode (drop at s) .len ≤ length s
 decode-in s at h = rw (decode-at s at h) (
     split P (eqb n 0) _ _ (λ _. omega arith) (λ _.
-    split P (eqb n 2) _ _ (λ _. split P (leb 194 a && cont b) _ _ (λ u. let l = cont-in s (at + 1) (range-lo 128 b 191 (and-right (leb 194 a) (cont b) u)) in omega arith) (λ _. omega arith)) (λ _.
-    split P (eqb n 3) _ _ (λ _. split P (second a b && cont c) _ _ (λ u. let l = cont-in s (at + 2) (range-lo 128 c 191 (and-right (second a b) (cont c) u)) in omega arith) (λ _. omega arith)) (λ _.
-    split P (eqb n 4) _ _ (λ _. split P ((leb a 244 && second a b) && (cont c && cont d)) _ _ (λ u. let l = cont-in s (at + 3) (range-lo 128 d 191 (and-right (cont c) (cont d) (and-right (leb a 244 && second a b) (cont c && cont d) u))) in omega arith) (λ _. omega arith)) (λ _.
+    split P (eqb n 2) _ _ (λ _. split P (leb 194 a && cont b) _ _ (λ u. let l = cont-in s (at + 1) (range-lo 128 b 191 (and-right (leb 194 a) (cont b) u)) in
+    omega arith) (λ _. omega arith)) (λ _.
+    split P (eqb n 3) _ _ (λ _. split P (second a b && cont c) _ _ (λ u. let l = cont-in s (at + 2) (range-lo 128 c 191 (and-right (second a b) (cont c) u)) in
+    omega arith) (λ _. omega arith)) (λ _.
+    split P (eqb n 4) _ _
+    (λ _. split P ((leb a 244 && second a b) && (cont c && cont d)) _ _
+    (λ u. let l = cont-in s (at + 3) (range-lo 128 d 191 (and-right (cont c) (cont d) (and-right (leb a 244 && second a b) (cont c && cont d) u))) in
+    omega arith) (λ _. omega arith)) (λ _.
     omega arith)))))
   where
     a : ℕ
@@ -177,10 +189,12 @@ module _ (s : List ℕ) (at n : ℕ) (h : at < length s) (e : n ≡ leads (getD 
   pub char-three : (r : Char) (b c : ℕ) → (n ≡ 0 → ⊥) → (n ≡ 2 → ⊥) → n ≡ 3 → b ≡ getD s (at + 1) 0 → c ≡ getD s (at + 2) 0 → r ≡ three (getD s at 0) b c → r ≡ decode (drop at s)
   char-three r b c n0 n2 z g g′ i = i ∙ sym (lead-by ∙ simp (ne-eqb _ _ n0, ne-eqb _ _ n2, eq-eqb _ _ z) (ap₂ (three (getD s at 0)) (sym g) (sym g′)))
 
-  pub char-four : (r : Char) (b c d : ℕ) → (n ≡ 0 → ⊥) → (n ≡ 2 → ⊥) → (n ≡ 3 → ⊥) → n ≡ 4 → b ≡ getD s (at + 1) 0 → c ≡ getD s (at + 2) 0 → d ≡ getD s (at + 3) 0 → r ≡ four (getD s at 0) b c d → r ≡ decode (drop at s)
+  pub char-four : (r : Char) (b c d : ℕ) → (n ≡ 0 → ⊥) → (n ≡ 2 → ⊥) → (n ≡ 3 → ⊥) → n ≡ 4 → b ≡ getD s (at + 1) 0 → c ≡ getD s (at + 2) 0 → d ≡ getD s (at + 3) 0
+      → r ≡ four (getD s at 0) b c d → r ≡ decode (drop at s)
   char-four r b c d n0 n2 n3 z g g′ g″ i =
       i ∙ sym (lead-by
-      ∙ simp (ne-eqb _ _ n0, ne-eqb _ _ n2, ne-eqb _ _ n3, eq-eqb _ _ z) (ap₂ (λ (x y : ℕ). four (getD s at 0) x y (getD s (at + 3) 0)) (sym g) (sym g′) ∙ ap (four (getD s at 0) b c) (sym g″)))
+      ∙ simp (ne-eqb _ _ n0, ne-eqb _ _ n2, ne-eqb _ _ n3, eq-eqb _ _ z) (ap₂ (λ (x y : ℕ). four (getD s at 0) x y (getD s (at + 3) 0)) (sym g) (sym g′)
+      ∙ ap (four (getD s at 0) b c) (sym g″)))
 
   pub char-none : (n ≡ 0 → ⊥) → (n ≡ 2 → ⊥) → (n ≡ 3 → ⊥) → (n ≡ 4 → ⊥) → ill ≡ decode (drop at s)
   char-none n0 n2 n3 n4 = sym (lead-by ∙ simp (ne-eqb _ _ n0, ne-eqb _ _ n2, ne-eqb _ _ n3, ne-eqb _ _ n4))

@@ -1,5 +1,5 @@
 -- `refal_text::ascii_end` meets its contract: a run of bytes below 128.
-use Prim.Native.Nat.{ℕ, _+_, _-_, _≤_, _<_}
+use Prim.Native.Nat.{_+_, _-_, _≤_}
 use native.Mathlib.Omega.{arith}
 use borrow.Author.Tests.{lt-ltb, le-ltb}
 use mathlib.Core.Path.{_≡_, refl, sym, _∙_}

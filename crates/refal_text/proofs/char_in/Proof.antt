@@ -1,5 +1,4 @@
 -- `refal_text::char_in` meets its contract: the lead byte decides how many bytes are read.
-use native.Mathlib.Omega.{arith}
 use mathlib.Core.Path.{sym, _∙_}
 use lib.ListN.{getD}
 use Rattle.refal_text.specs.Utf8Laws.{leads-lo, char-one, char-two, char-three, char-four, char-none}
@@ -77,7 +76,8 @@ four-at-requires c κs = let a = c .before .before .before .before .before .befo
 
 -- src/lib.rt:118:9
 returns-4 : tie.Need-returns-4
-returns-4 c = char-four _ _ _ (c .before .before .before .before .before .before .before .before .before .before .before .pre) (c .before .before .before .before .before .before .before .before .lead .ensures) _ _ _ _ (c .before .before .before .before .before .before .before .if1 .left) (c .before .before .before .before .before .if2 .left) (c .before .before .before .if3 .left) (c .before .if4 .taken) (c .before .before .before .before .before .before .byte .ensures) (c .before .before .before .before .byte2 .ensures) (c .before .before .byte3 .ensures) (c .four-at .ensures)
+returns-4 c = char-four _ _ _ (c .before .before .before .before .before .before .before .before .before .before .before .pre) (c .before .before .before .before .before .before .before .before .lead .ensures) _ _ _ _ (c .before .before .before .before .before .before .before .if1 .left) (c .before .before .before .before .before .if2 .left) (c .before .before .before .if3 .left) (c .before .if4 .taken) (c .before .before .before .before .before .before .byte .ensures)
+    (c .before .before .before .before .byte2 .ensures) (c .before .before .byte3 .ensures) (c .four-at .ensures)
 
 -- src/lib.rt:96:1
 returns-5 : tie.Need-returns-5

@@ -1,8 +1,8 @@
 -- `refal_text::first_ill` meets its contract: characters and runs of ASCII up to the first ill-formed sequence.
-use Prim.Native.Nat.{ℕ, _+_, _-_, _≤_, _<_}
+use Prim.Native.Nat.{_+_, _-_, _≤_}
 use native.Mathlib.Omega.{arith}
 use native.Mathlib.Nat.{zero-add}
-use mathlib.Core.Path.{_≡_, refl, sym, ap, _∙_}
+use mathlib.Core.Path.{_≡_, sym, ap, _∙_}
 use lib.ListN.{length, drop}
 use Rattle.refal_text.specs.declared.Char.{Char}
 use Rattle.refal_text.specs.Utf8.{wellTo}

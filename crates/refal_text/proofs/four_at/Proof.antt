@@ -1,10 +1,9 @@
 -- `refal_text::four_at` meets its contract: a sequence of four bytes.
-use mathlib.Core.Path.{_≡_, sym, subst, ap, _∙_}
-use mathlib.Core.Bool.{Bool, true, _&&_}
+use mathlib.Core.Path.{_≡_}
+use mathlib.Core.Bool.{true, _&&_}
 use lib.Dec.{leb}
 use Rattle.refal_text.specs.Utf8.{cont, second}
 use Rattle.refal_text.specs.Utf8Laws.{second-is}
-use native.Mathlib.Omega.{arith}
 use Rattle.refal_rows.specs.Tests.{and-left, and-right, range-lo}
 use borrow.Author.Needs.{needs}
 use Rattle.refal_text.proofs.four_at.Statement.{statement}

@@ -1,6 +1,5 @@
 -- `refal_text::is_second` meets its contract: the ranges of table 3-7.
-use borrow.Author.Tests.{eq-eqb, ne-eqb}
-use borrow.Author.Needs.{needs}
+use borrow.Author.Tests.{ne-eqb}
 use Rattle.refal_text.proofs.is_second.Statement.{statement}
 use Rattle.refal_text.proofs.is_second.Tie as tie
 use Rattle.refal_text.proofs.is_second.Reads as reads

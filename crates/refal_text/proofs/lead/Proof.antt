@@ -1,7 +1,5 @@
 -- `refal_text::lead` meets its contract: the complement's leading zeros.
-use native.Mathlib.Omega.{arith}
 use Rattle.refal_text.specs.Utf8Laws.{leads-is}
-use borrow.Author.Needs.{needs}
 use Rattle.refal_text.proofs.lead.Statement.{statement}
 use Rattle.refal_text.proofs.lead.Tie as tie
 use Rattle.refal_text.proofs.lead.Reads as reads

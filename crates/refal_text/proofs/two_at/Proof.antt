@@ -1,8 +1,7 @@
 -- `refal_text::two_at` meets its contract: a sequence of two bytes.
 use lib.Dec.{leb}
 use Rattle.refal_text.specs.Utf8.{cont}
-use native.Mathlib.Omega.{arith}
-use Rattle.refal_rows.specs.Tests.{and-left, and-right, range-lo}
+use Rattle.refal_rows.specs.Tests.{and-right, range-lo}
 use borrow.Author.Needs.{needs}
 use Rattle.refal_text.proofs.two_at.Statement.{statement}
 use Rattle.refal_text.proofs.two_at.Tie as tie

@@ -1,0 +1,49 @@
+-- `refal_lexer::lex_all` meets its contract: the table's rule, computed at each entry.
+use mathlib.Core.List.{List, [], _∷_}
+use Prim.Native.Nat.{ℕ}
+use mathlib.Core.Path.{refl}
+use Rattle.refal_rows.specs.Tests.{table-is}
+use Rattle.refal_lexer.specs.Classes.{classOf}
+use Rattle.refal_lexer.specs.ClassLaws.{Table}
+use borrow.Author.Needs.{needs}
+use Rattle.refal_lexer.proofs.lex_all.Statement.{statement}
+use Rattle.refal_lexer.proofs.lex_all.Tie as tie
+use Rattle.refal_lexer.proofs.lex_all.Reads as reads
+use Rattle.refal_lexer.proofs.lex_all.Lts as lts
+use Rattle.refal_lexer.proofs.lex_by.Reads as lex-by-reads
+
+table : List ℕ
+table =
+    0 ∷ 0 ∷ 0 ∷ 0 ∷ 0 ∷ 0 ∷ 0 ∷ 0 ∷ 0 ∷ 2 ∷ 2 ∷ 2 ∷ 2 ∷ 2 ∷ 0 ∷ 0 ∷ 0 ∷ 0 ∷ 0 ∷ 0 ∷ 0 ∷ 0 ∷ 0 ∷ 0 ∷ 0 ∷ 0 ∷ 0 ∷ 0 ∷ 0 ∷ 0 ∷ 0 ∷ 0 ∷
+    2 ∷ 0 ∷ 3 ∷ 0 ∷ 6 ∷ 0 ∷ 0 ∷ 3 ∷ 9 ∷ 10 ∷ 4 ∷ 17 ∷ 13 ∷ 20 ∷ 0 ∷ 5 ∷ 22 ∷ 22 ∷ 22 ∷ 22 ∷ 22 ∷ 22 ∷ 22 ∷ 22 ∷ 22 ∷ 22 ∷ 14 ∷ 16 ∷ 11 ∷ 15 ∷ 12 ∷ 0 ∷
+    0 ∷ 21 ∷ 21 ∷ 21 ∷ 21 ∷ 21 ∷ 21 ∷ 21 ∷ 21 ∷ 21 ∷ 21 ∷ 21 ∷ 21 ∷ 21 ∷ 21 ∷ 21 ∷ 21 ∷ 21 ∷ 21 ∷ 21 ∷ 21 ∷ 21 ∷ 21 ∷ 21 ∷ 21 ∷ 21 ∷ 21 ∷ 0 ∷ 0 ∷ 0 ∷ 0 ∷ 24 ∷
+    0 ∷ 24 ∷ 24 ∷ 24 ∷ 24 ∷ 23 ∷ 24 ∷ 24 ∷ 24 ∷ 24 ∷ 24 ∷ 24 ∷ 24 ∷ 24 ∷ 24 ∷ 24 ∷ 24 ∷ 24 ∷ 24 ∷ 23 ∷ 23 ∷ 24 ∷ 24 ∷ 24 ∷ 24 ∷ 24 ∷ 24 ∷ 7 ∷ 0 ∷ 8 ∷ 0 ∷ 0 ∷
+    18 ∷ 18 ∷ 18 ∷ 18 ∷ 18 ∷ 18 ∷ 18 ∷ 18 ∷ 18 ∷ 18 ∷ 18 ∷ 18 ∷ 18 ∷ 18 ∷ 18 ∷ 18 ∷ 18 ∷ 18 ∷ 18 ∷ 18 ∷ 18 ∷ 18 ∷ 18 ∷ 18 ∷ 18 ∷ 18 ∷ 18 ∷ 18 ∷ 18 ∷ 18 ∷ 18 ∷ 18 ∷
+    18 ∷ 18 ∷ 18 ∷ 18 ∷ 18 ∷ 18 ∷ 18 ∷ 18 ∷ 18 ∷ 18 ∷ 18 ∷ 18 ∷ 18 ∷ 18 ∷ 18 ∷ 18 ∷ 18 ∷ 18 ∷ 18 ∷ 18 ∷ 18 ∷ 18 ∷ 18 ∷ 18 ∷ 18 ∷ 18 ∷ 18 ∷ 18 ∷ 18 ∷ 18 ∷ 18 ∷ 18 ∷
+    18 ∷ 18 ∷ 18 ∷ 18 ∷ 18 ∷ 18 ∷ 18 ∷ 18 ∷ 18 ∷ 18 ∷ 18 ∷ 18 ∷ 18 ∷ 18 ∷ 18 ∷ 18 ∷ 18 ∷ 18 ∷ 18 ∷ 18 ∷ 18 ∷ 18 ∷ 18 ∷ 18 ∷ 18 ∷ 18 ∷ 18 ∷ 18 ∷ 18 ∷ 18 ∷ 18 ∷ 18 ∷
+    18 ∷ 18 ∷ 18 ∷ 18 ∷ 18 ∷ 18 ∷ 18 ∷ 18 ∷ 18 ∷ 18 ∷ 18 ∷ 18 ∷ 18 ∷ 18 ∷ 18 ∷ 18 ∷ 18 ∷ 18 ∷ 18 ∷ 18 ∷ 18 ∷ 18 ∷ 18 ∷ 18 ∷ 18 ∷ 18 ∷ 18 ∷ 18 ∷ 18 ∷ 18 ∷ 18 ∷ 18 ∷
+    []
+
+table-rule : Table table
+unfolding table
+table-rule = record { long = refl; rule = table-is classOf table 256 tt }
+
+-- src/lib.rt:120:23
+slice-aggregate-lex-by : tie.Need-slice-aggregate-lex-by
+slice-aggregate-lex-by c = search needs
+
+-- src/lib.rt:120:5
+lex-by-requires : tie.Need-lex-by-requires
+unfolding table
+lex-by-requires c κs = (search needs, table-rule)
+
+-- src/lib.rt:114:1
+same-length : tie.Need-same-length
+same-length c = search needs
+
+-- src/lib.rt:114:1
+returns : tie.Need-returns
+returns c = search needs
+
+pub lex-all-spec : {M : Type 1} → statement M
+lex-all-spec = tie.close (tie.spec slice-aggregate-lex-by lex-by-requires same-length returns)

@@ -1,0 +1,207 @@
+-- `refal_lexer::lex_by` meets its contract: each turn is one scan.
+use Prim.Native.Nat.{_+_, _-_, _≤_}
+use native.Mathlib.Omega.{arith}
+use mathlib.Core.Path.{_≡_, refl, sym, _∙_}
+use lib.ListN.{length, drop, getD}
+use mathlib.Core.Bool.{true}
+use Rattle.refal_lexer.specs.Within.{in-is}
+use Rattle.refal_lexer.specs.Literals.{charTokens}
+use Rattle.refal_lexer.specs.Lex.{lex}
+use Rattle.refal_lexer.specs.LexLaws.{Leads, leads-start, leads-on, leads-row, leads-rows, leads-bad, leads-done, lex-blank, lex-token, lex-literal, lex-bad, lex-end}
+use Rattle.refal_lexer.specs.ShapeLaws.{literal-few, literal-quote}
+use borrow.Author.Needs.{needs}
+use Rattle.refal_lexer.proofs.lex_by.Statement.{statement}
+use Rattle.refal_lexer.proofs.lex_by.Tie as tie
+use Rattle.refal_lexer.proofs.lex_by.Reads as reads
+use Rattle.refal_lexer.proofs.lex_by.Lts as lts
+use Rattle.refal_lexer.proofs.blank.skip_ascii.Reads as skip-ascii-reads
+use Rattle.refal_lexer.proofs.blank.skip_white.Reads as skip-white-reads
+use Rattle.refal_lexer.proofs.dispatch.scan_at.Reads as scan-at-reads
+use Rattle.refal_lexer.proofs.literal.put_chars.Reads as put-chars-reads
+use Rattle.refal_lexer.proofs.refused.Reads as refused-reads
+use Rattle.refal_rows.proofs.put6.Reads as put6-reads
+
+abbrev Inv-loop : tie.InvT-loop
+Inv-loop src rows₀ table at₀ n₀ line₀ rows at n line = (at ≤ length src) × (n ≤ at) × (length rows ≡ length rows₀) × Leads (lex 0 at line (drop at src)) (lex 0 0 true src) rows rows₀ n
+
+abbrev μ-loop : tie.MeasureT-loop
+μ-loop src rows₀ table at₀ n₀ line₀ rows at n line = length src - at
+
+-- src/lib.rt:68:5
+loop-holds : tie.Need-loop-holds Inv-loop μ-loop
+loop-holds c = (omega arith, omega arith, refl, leads-start _ _)
+
+-- src/lib.rt:69:13
+scan-at-requires : tie.Need-scan-at-requires Inv-loop μ-loop
+scan-at-requires c κs = search needs
+
+-- src/lib.rt:71:27
+enum-known-s : tie.Need-enum-known-s Inv-loop μ-loop
+enum-known-s c = search needs
+
+-- src/lib.rt:72:21
+skip-white-requires : tie.Need-skip-white-requires Inv-loop μ-loop
+skip-white-requires c κs = let w = in-is _ _ _ _ (c .before .s .given .1) (c .before .before .before .scan-at .ensures .1) in w .1
+
+-- src/lib.rt:68:5
+loop-less : tie.Need-loop-less Inv-loop μ-loop
+loop-less c = let w = in-is _ _ _ _ (c .before .before .s .given .1) (c .before .before .before .before .scan-at .ensures .1) in omega arith
+
+-- src/lib.rt:68:5
+loop-again : tie.Need-loop-again Inv-loop μ-loop
+loop-again c = let w = in-is _ _ _ _ (c .before .before .s .given .1) (c .before .before .before .before .scan-at .ensures .1) in
+    (c .skip-white .ensures .2, omega arith, c .before .before .before .before .before .before .loop .inv .2, leads-on _ _ _ _ _ _ (lex-blank _ _ _ (c .before .before .before .before .before .loop-test .taken) _ _ (sym (c .before .before .before .before .scan-at .ensures .0) ∙ c .before .before .s .given .1) (w .0) (w .1) ∙ sym (c .skip-white .ensures .0)) (c .before .before .before .before .before .before .loop .inv .3))
+
+-- src/lib.rt:77:17
+enum-known-s-2 : tie.Need-enum-known-s-2 Inv-loop μ-loop
+enum-known-s-2 c = search needs
+
+-- src/lib.rt:88:21
+cast-put6 : tie.Need-cast-put6 Inv-loop μ-loop
+cast-put6 c = let w = in-is _ _ _ _ (c .before .before .s2 .given .1) (c .before .before .before .before .scan-at .ensures .1) in search needs
+
+-- src/lib.rt:89:21
+cast-put6-2 : tie.Need-cast-put6-2 Inv-loop μ-loop
+cast-put6-2 c = let w = in-is _ _ _ _ (c .before .before .s2 .given .1) (c .before .before .before .before .scan-at .ensures .1) in search needs
+
+-- src/lib.rt:90:21
+cast-put6-3 : tie.Need-cast-put6-3 Inv-loop μ-loop
+cast-put6-3 c = let w = in-is _ _ _ _ (c .before .before .s2 .given .1) (c .before .before .before .before .scan-at .ensures .1) in search needs
+
+-- src/lib.rt:91:21
+cast-put6-4 : tie.Need-cast-put6-4 Inv-loop μ-loop
+cast-put6-4 c = let w = in-is _ _ _ _ (c .before .before .s2 .given .1) (c .before .before .before .before .scan-at .ensures .1) in search needs
+
+-- src/lib.rt:83:17
+put6-requires : tie.Need-put6-requires Inv-loop μ-loop
+put6-requires c κs = search needs
+
+-- src/lib.rt:93:17
+add-n : tie.Need-add-n Inv-loop μ-loop
+add-n c = search needs
+
+-- src/lib.rt:94:21
+skip-ascii-requires : tie.Need-skip-ascii-requires Inv-loop μ-loop
+skip-ascii-requires c κs = let w = in-is _ _ _ _ (c .before .before .before .before .before .s2 .given .1) (c .before .before .before .before .before .before .before .scan-at .ensures .1) in w .1
+
+-- src/lib.rt:68:5
+loop-less-2 : tie.Need-loop-less-2 Inv-loop μ-loop
+loop-less-2 c = let w = in-is _ _ _ _ (c .before .before .before .before .before .before .s2 .given .1) (c .before .before .before .before .before .before .before .before .scan-at .ensures .1) in omega arith
+
+-- src/lib.rt:68:5
+loop-again-2 : tie.Need-loop-again-2 Inv-loop μ-loop
+loop-again-2 c = let w = in-is _ _ _ _ (c .before .before .before .before .before .before .s2 .given .1) (c .before .before .before .before .before .before .before .before .scan-at .ensures .1) in (
+  c .skip-ascii .ensures .2,
+  omega arith,
+  c .before .before .before .put6 .kept .0
+      ∙ c .before .before .before .before .before .before .before .before .before .before .loop .inv .2,
+  leads-on _ _ _ _ _ _ (sym (c .skip-ascii .ensures .0))
+      (leads-row _ _ _ _ _ _ _ _ (lex-token _ _ _ (c .before .before .before .before .before .before .before .before .before .loop-test .taken) _ _ _ _ _ (sym (c .before .before .before .before .before .before .before .before .scan-at .ensures .0) ∙ c .before .before .before .before .before .before .s2 .given .1) (w .0) (w .1)) (c .before .before .before .put6 .ensures) (c .before .before .before .before .before .before .before .before .before .before .loop .inv .3)),
+)
+
+-- src/lib.rt:98:29
+enum-known-s-3 : tie.Need-enum-known-s-3 Inv-loop μ-loop
+enum-known-s-3 c = search needs
+
+-- src/lib.rt:99:25
+shared-slice-read-q : tie.Need-shared-slice-read-q Inv-loop μ-loop
+shared-slice-read-q c = search needs
+
+-- src/lib.rt:100:17
+put-chars-requires : tie.Need-put-chars-requires Inv-loop μ-loop
+put-chars-requires c κs = let w = in-is _ _ _ _ (c .before .before .before .s3 .given .1) (c .before .before .before .before .before .scan-at .ensures .1) in (w .0, w .1, omega arith, omega arith, literal-quote _ _ _ _ (c .before .before .before .before .before .before .loop-test .taken) (sym (c .before .before .before .before .before .scan-at .ensures .0) ∙ c .before .before .before .s3 .given .1))
+
+-- src/lib.rt:68:5
+loop-less-3 : tie.Need-loop-less-3 Inv-loop μ-loop
+loop-less-3 c = let w = in-is _ _ _ _ (c .before .before .before .before .before .before .s3 .given .1) (c .before .before .before .before .before .before .before .before .scan-at .ensures .1) in omega arith
+
+-- src/lib.rt:68:5
+loop-again-3 : tie.Need-loop-again-3 Inv-loop μ-loop
+loop-again-3 c = let w = in-is _ _ _ _ (c .before .before .before .before .before .before .s3 .given .1) (c .before .before .before .before .before .before .before .before .scan-at .ensures .1) in
+    let f = literal-few _ _ _ _ (c .before .before .before .before .before .before .before .before .before .loop-test .taken) (sym (c .before .before .before .before .before .before .before .before .scan-at .ensures .0) ∙ c .before .before .before .before .before .before .s3 .given .1) in let g = c .before .before .before .before .before .before .before .before .before .before .loop in let end = c .before .before .before .before .before .before .s3 .given .0 .0 in
+    let s = c .before .before .before .before .before .before .before .before .before .before .before .before .before .before .args .src .now in (
+      w .1,
+      omega (arith, c .before .before .put-chars .ensures .0),
+      c .before .before .put-chars .kept .1 .1 .1 .1 .0
+          ∙ c .before .before .before .before .before .before .before .before .before .before .loop .inv .2,
+      leads-rows _ _ _ (charTokens (getD s (g .at) 0) (g .at) end 0 (drop (g .at + 1) s)) _ _ _ _ _ (lex-literal _ _ _ (c .before .before .before .before .before .before .before .before .before .loop-test .taken) _ (sym (c .before .before .before .before .before .before .before .before .scan-at .ensures .0)
+          ∙ c .before .before .before .before .before .before .s3 .given .1) (w .0) (w .1)) (c .before .before .put-chars .ensures .1) (c .before .before .put-chars .ensures .0) (c .before .before .before .before .before .before .before .before .before .before .loop .inv .3),
+    )
+
+-- src/lib.rt:104:25
+enum-known-s-4 : tie.Need-enum-known-s-4 Inv-loop μ-loop
+enum-known-s-4 c = search needs
+
+-- src/lib.rt:105:17
+refused-requires : tie.Need-refused-requires Inv-loop μ-loop
+refused-requires c κs = search needs
+
+-- src/lib.rt:105:17
+same-length : tie.Need-same-length Inv-loop μ-loop
+same-length c = search needs
+
+-- src/lib.rt:105:17
+returns : tie.Need-returns Inv-loop μ-loop
+returns c = leads-bad _ _ _ _ _ _ _ _ _ (c .refused .ensures) (lex-bad _ _ _ (c .before .before .before .before .before .loop-test .taken) _ _ (sym (c .before .before .before .before .scan-at .ensures .0) ∙ c .before .before .s4 .given .1)) (c .before .before .before .before .before .before .loop .inv .3)
+
+-- src/lib.rt:109:44
+cast-put6-5 : tie.Need-cast-put6-5 Inv-loop μ-loop
+cast-put6-5 c = search needs
+
+-- src/lib.rt:109:55
+cast-put6-6 : tie.Need-cast-put6-6 Inv-loop μ-loop
+cast-put6-6 c = search needs
+
+-- src/lib.rt:109:5
+put6-requires-2 : tie.Need-put6-requires-2 Inv-loop μ-loop
+put6-requires-2 c κs = search needs
+
+-- src/lib.rt:110:17
+add-count : tie.Need-add-count Inv-loop μ-loop
+add-count c = search needs
+
+-- src/lib.rt:60:1
+same-length-2 : tie.Need-same-length-2 Inv-loop μ-loop
+same-length-2 c = search needs
+
+-- src/lib.rt:60:1
+returns-2 : tie.Need-returns-2 Inv-loop μ-loop
+returns-2 c = leads-done _ _ _ _ _ _ _ (lex-end _ _ _ (c .before .before .before .before .loop-test .left)) (c .before .before .put62 .ensures) (c .before .before .before .before .before .loop .inv .3)
+
+pub lex-by-spec : {M : Type 1} → statement M
+lex-by-spec =
+    tie.close
+    (tie.spec
+    Inv-loop
+    μ-loop
+    loop-holds
+    scan-at-requires
+    enum-known-s
+    skip-white-requires
+    loop-less
+    loop-again
+    enum-known-s-2
+    cast-put6
+    cast-put6-2
+    cast-put6-3
+    cast-put6-4
+    put6-requires
+    add-n
+    skip-ascii-requires
+    loop-less-2
+    loop-again-2
+    enum-known-s-3
+    shared-slice-read-q
+    put-chars-requires
+    loop-less-3
+    loop-again-3
+    enum-known-s-4
+    refused-requires
+    same-length
+    returns
+    cast-put6-5
+    cast-put6-6
+    put6-requires-2
+    add-count
+    same-length-2
+    returns-2)

@@ -1,0 +1,128 @@
+-- Laws of classes: what a class says of its byte, and the tests that the table answers.
+use Prim.Native.Nat.{ℕ, zero, suc, _<_, _≤_}
+use borrow.Author.Tests.{le-leb, lt-leb, ne-eqb}
+use native.Mathlib.Decide.{decLe}
+use native.Mathlib.Omega.{arith}
+use mathlib.Core.List.{List}
+use mathlib.Core.Bool.{Bool, true, false, not, _&&_, _||_, true≢false}
+use mathlib.Core.Path.{_≡_, refl, _∙_, sym, subst}
+use lib.ListN.{length, getD}
+use lib.Dec.{T, leb, eqb}
+use Rattle.refal_rows.specs.Tests.{each-below, below}
+use Rattle.refal_text.specs.Pick.{split}
+use Rattle.refal_text.specs.White.{whiteSpace}
+use Rattle.refal_lexer.specs.Classes.{upper, digit, letter, blank, variable, single, classOf, cNone}
+
+-- ---- what a class says of the byte
+pub data ClassIs (b : ℕ) : ℕ → Type 0 where
+  is-wide : leb 128 b ≡ true → ClassIs b 18
+  is-white : leb 128 b ≡ false → whiteSpace b ≡ true → ClassIs b 2
+  is-quote : eqb b 39 || eqb b 34 ≡ true → ClassIs b 3
+  is-star : eqb b 42 ≡ true → ClassIs b 4
+  is-slash : eqb b 47 ≡ true → ClassIs b 5
+  is-dollar : eqb b 36 ≡ true → ClassIs b 6
+  is-plus : eqb b 43 ≡ true → ClassIs b 17
+  is-minus : eqb b 45 ≡ true → ClassIs b 20
+  is-upper : upper b ≡ true → ClassIs b 21
+  is-digit : digit b ≡ true → ClassIs b 22
+  is-variable : variable b ≡ true → ClassIs b 23
+  is-other : letter b || eqb b 95 ≡ true → ClassIs b 24
+  is-single : (k : ℕ) → leb 7 k && leb k 16 ≡ true → single b cNone ≡ k → ClassIs b k
+  is-none : ClassIs b 0
+
+data OneByte (k : ℕ) : Type 0 where
+  a-kind : leb 7 k && leb k 16 ≡ true → OneByte k
+  no-kind : k ≡ 0 → OneByte k
+
+single-view : (b : ℕ) → ClassIs b (single b cNone)
+single-view b = go (single b cNone) refl
+    (split P (eqb b 123) _ _ (λ _. a-kind refl) (λ _.
+    split P (eqb b 125) _ _ (λ _. a-kind refl) (λ _.
+    split P (eqb b 40) _ _ (λ _. a-kind refl) (λ _.
+    split P (eqb b 41) _ _ (λ _. a-kind refl) (λ _.
+    split P (eqb b 60) _ _ (λ _. a-kind refl) (λ _.
+    split P (eqb b 62) _ _ (λ _. a-kind refl) (λ _.
+    split P (eqb b 44) _ _ (λ _. a-kind refl) (λ _.
+    split P (eqb b 58) _ _ (λ _. a-kind refl) (λ _.
+    split P (eqb b 61) _ _ (λ _. a-kind refl) (λ _.
+    split P (eqb b 59) _ _ (λ _. a-kind refl) (λ _.
+    no-kind refl)))))))))))
+  where
+    P : ℕ → Type 0
+    P = OneByte
+
+    go : (k : ℕ) → single b cNone ≡ k → OneByte k → ClassIs b k
+    go k e (a-kind h) = is-single k h e
+    go k e (no-kind z) = subst (ClassIs b) (sym z) is-none
+
+pub class-view : (b : ℕ) → ClassIs b (classOf b)
+class-view b =
+    split (ClassIs b) (leb 128 b) _ _ is-wide (λ n.
+    split (ClassIs b) (whiteSpace b) _ _ (is-white n) (λ _.
+    split (ClassIs b) (eqb b 39 || eqb b 34) _ _ is-quote (λ _.
+    split (ClassIs b) (eqb b 42) _ _ is-star (λ _.
+    split (ClassIs b) (eqb b 47) _ _ is-slash (λ _.
+    split (ClassIs b) (eqb b 36) _ _ is-dollar (λ _.
+    split (ClassIs b) (eqb b 43) _ _ is-plus (λ _.
+    split (ClassIs b) (eqb b 45) _ _ is-minus (λ _.
+    split (ClassIs b) (upper b) _ _ is-upper (λ _.
+    split (ClassIs b) (digit b) _ _ is-digit (λ _.
+    split (ClassIs b) (variable b) _ _ is-variable (λ _.
+    split (ClassIs b) (letter b || eqb b 95) _ _ is-other (λ _.
+    single-view b))))))))))))
+
+of-digit : (b : ℕ) → ClassIs b 22 → digit b ≡ true
+of-digit b (is-digit h) = h
+of-digit b (is-single k h e) = absurd (true≢false (sym h))
+
+pub class-digit : (b : ℕ) → classOf b ≡ 22 → digit b ≡ true
+class-digit b e = of-digit b (subst (ClassIs b) e (class-view b))
+
+quote-some : (b : ℕ) → eqb b 39 || eqb b 34 ≡ true → 0 < b
+quote-some zero h = absurd (true≢false (sym h))
+quote-some (suc b) h = omega arith
+
+of-quote : (b : ℕ) → ClassIs b 3 → 0 < b
+of-quote b (is-quote h) = quote-some b h
+of-quote b (is-single k h e) = absurd (true≢false (sym h))
+
+pub class-quote : (b : ℕ) → classOf b ≡ 3 → 0 < b
+class-quote b e = of-quote b (subst (ClassIs b) e (class-view b))
+
+-- ---- tests, computed at each byte
+same : Bool → Bool → Bool
+same true b = b
+same false b = not b
+
+same-is : (a b : Bool) → T (same a b) → a ≡ b
+unfolding same
+same-is true true t = refl
+same-is true false t = absurd t
+same-is false true t = absurd t
+same-is false false t = refl
+
+-- below 128, white space is what `blank` tests
+pub blank-white : (b : ℕ) → b < 128 → blank b ≡ whiteSpace b
+unfolding same
+blank-white b h = same-is _ _ (each-below (λ (k : ℕ). same (blank k) (whiteSpace k)) 128 tt b h)
+
+blank-low : (b : ℕ) → blank b ≡ true → b < 128
+blank-low b h = go (decLe 128 b)
+  where
+    go : Dec (128 ≤ b) → b < 128
+    go (no l) = omega arith
+    go (yes l) =
+        let z : blank b ≡ false = simp (lt-leb b 13 (omega arith), ne-eqb b 32 (λ e. absurd (omega arith)), le-leb 9 b (omega arith)) in
+        let w : true ≡ false = sym h ∙ z in
+        absurd (true≢false w)
+
+-- the class of white space of one byte
+pub blank-class : (b : ℕ) → blank b ≡ true → classOf b ≡ 2
+blank-class b h =
+    let l = blank-low b h in
+    simp (lt-leb 128 b l, h)
+
+-- a table of the classes of all bytes
+pub record Table (t : List ℕ) : Type 0 where
+  pub long : length t ≡ 256
+  pub rule : (b : ℕ) → b < 256 → getD t b 0 ≡ classOf b

@@ -1,0 +1,172 @@
+-- Laws of literals: the ways out of their loops.
+use Prim.Native.Nat.{ℕ, zero, suc, _+_, _<_, _≤_}
+use borrow.Author.Tests.{eq-eqb, ne-eqb}
+use native.Mathlib.Nat.{add-zero}
+use native.Mathlib.Numerals.{add-one}
+use native.Mathlib.Omega.{arith}
+use mathlib.Core.List.{List, [], _∷_}
+use mathlib.Core.Bool.{Bool, true, false}
+use mathlib.Core.Path.{_≡_, refl, ap, _∙_, sym, subst}
+use lib.Dec.{ltb, eqb}
+use lib.ListN.{length, drop, getD, drop-of-length-le, length-drop}
+use lib.Seq.{drop-cons, drop-drop, getD-drop}
+use Rattle.refal_text.specs.Pick.{pick, split}
+use Rattle.refal_text.specs.Utf8.{decode, char, ill}
+use Rattle.refal_text.specs.Utf8Laws.{decode-in}
+use Rattle.refal_text.specs.declared.Char.{Char}
+use Rattle.refal_lexer.specs.Within.{Within}
+use Rattle.refal_lexer.specs.declared.Scan.{Scan}
+use Rattle.refal_lexer.specs.declared.Scan.the-variants.{Literal, Bad}
+use Rattle.refal_ast.specs.Tokens.{Token as Tok, token}
+use Rattle.refal_lexer.specs.BlankLaws.{nonzero-in}
+use Rattle.refal_lexer.specs.Literals.{some, litChar, closeScan, litStep, litFrom, charStep, charTokens}
+use Rattle.refal_lexer.specs.Puts.{putTokens}
+use Rattle.refal_rows.specs.Rows.{putRow}
+use Rattle.refal_ast.specs.Tokens.{words}
+
+-- ---- the character at a place
+module _ (q : ℕ) (s : List ℕ) (i : ℕ) (h : i < length s) where
+  char-is : litChar q (drop i s) ≡ pick (eqb (getD s i 0) q) (pick (eqb (getD s (i + 1) 0) q) (char q 2) ill) (some (decode (drop i s)))
+  unfolding litChar
+  char-is = rw (getD-drop i s 0 0, getD-drop i s 1 0, add-zero i)
+
+  pub char-double : 0 < q → (w : ℕ) → w ≡ getD s i 0 → getD s i 0 ≡ q → (x : ℕ) → x ≡ getD s (i + 1) 0 → x ≡ q → (char w 2 ≡ litChar q (drop i s)) × (i + 2 ≤ length s)
+  char-double p w v e x f g =
+      let y : getD s (i + 1) 0 ≡ q = sym f ∙ g in
+      let l : i + 1 < length s = nonzero-in s (i + 1) (λ z. omega arith) in
+      (ap (λ (a : ℕ). char a 2) (v ∙ e) ∙ sym (char-is ∙ simp (eq-eqb _ _ e, eq-eqb _ _ y)), omega arith)
+
+  pub char-close : getD s i 0 ≡ q → (x : ℕ) → x ≡ getD s (i + 1) 0 → (x ≡ q → ⊥) → (ill ≡ litChar q (drop i s)) × (i + 0 ≤ length s)
+  char-close e x f g = (sym (char-is ∙ simp (eq-eqb _ _ e, ne-eqb _ _ (λ y. g (f ∙ y)))), omega arith)
+
+  pub char-byte : (getD s i 0 ≡ q → ⊥) → (c : Char) → c ≡ decode (drop i s) → c .len ≡ 0 → (char 0 1 ≡ litChar q (drop i s)) × (i + 1 ≤ length s)
+  char-byte e c f g =
+      let y : decode (drop i s) .len ≡ 0 = ap (λ (x : Char). x .len) (sym f) ∙ g in
+      (sym (char-is ∙ simp (ne-eqb _ _ e, eq-eqb _ _ y)), omega arith)
+
+  pub char-whole : (getD s i 0 ≡ q → ⊥) → (c : Char) → c ≡ decode (drop i s) → (c .len ≡ 0 → ⊥) → (c ≡ litChar q (drop i s)) × (i + c .len ≤ length s)
+  char-whole e c f g =
+      let y : decode (drop i s) .len ≡ c .len = ap (λ (x : Char). x .len) (sym f) in
+      (f ∙ sym (char-is ∙ simp (ne-eqb _ _ e, y, ne-eqb _ _ g)), subst (λ (x : Char). i + x .len ≤ length s) (sym f) (decode-in s i h))
+
+-- ---- the close
+pub close-in : (at end n k : ℕ) → at < end → end ≤ n → Within at n (closeScan k end)
+close-in at end n k l h =
+    split (Within at n) (ltb 255 k) _ _ (λ _. (l, h)) (λ _.
+    split (Within at n) (eqb k 0) _ _ (λ _. (l, h)) (λ _. (l, h)))
+
+-- ---- the literal's loop
+pub lit-skip : (q k at n : ℕ) (s : List ℕ) → k ≤ length s → litFrom q k at n s ≡ litFrom q 0 (at + k) n (drop k s)
+unfolding litFrom
+lit-skip q zero at n s h = rw (add-zero at) refl
+lit-skip q (suc k) at n [] h = absurd (omega arith)
+lit-skip q (suc k) at n (b ∷ s) h = lit-skip q k (suc at) n s (omega arith) ∙ ap (λ (j : ℕ). litFrom q 0 j n (drop k s)) (omega arith)
+
+pub lit-end : (q : ℕ) (s : List ℕ) (i n : ℕ) → length s ≤ i → Bad 23 i ≡ litFrom q 0 i n (drop i s)
+unfolding litFrom
+lit-end q s i n h = rw (drop-of-length-le s h)
+
+module _ (q : ℕ) (s : List ℕ) (i n : ℕ) (c : Char) (h : i < length s) (e : c ≡ litChar q (drop i s)) where
+  abbrev Rest : ℕ → Scan
+  Rest k = litFrom q k (suc i) (suc n) (drop (suc i) s)
+
+  lit-here : litFrom q 0 i n (drop i s) ≡ litStep (c .len) i n (getD s i 0) Rest
+  unfolding litFrom
+  lit-here = rw (drop-cons s i 0 h) (ap (λ (x : Char). litStep (x .len) i n (getD s i 0) Rest) (ap (litChar q) (sym (drop-cons s i 0 h)) ∙ sym e))
+
+  pub lit-close : (r : Scan) → c .len ≡ 0 → r ≡ closeScan n (i + 1) → r ≡ litFrom q 0 i n (drop i s)
+  lit-close r z f = f ∙ sym (lit-here ∙ ap (λ (k : ℕ). litStep k i n (getD s i 0) Rest) z)
+
+  pub lit-newline : (c .len ≡ 0 → ⊥) → getD s i 0 ≡ 10 → Bad 22 (i + 1) ≡ litFrom q 0 i n (drop i s)
+  lit-newline z f = sym (lit-here ∙ go (c .len) z)
+    where
+      go : (k : ℕ) → (k ≡ 0 → ⊥) → litStep k i n (getD s i 0) Rest ≡ Bad 22 (i + 1)
+      go zero y = absurd (y refl)
+      go (suc k) y = rw (eq-eqb _ _ f)
+
+  pub lit-step : (c .len ≡ 0 → ⊥) → (getD s i 0 ≡ 10 → ⊥) → i + c .len ≤ length s → litFrom q 0 i n (drop i s) ≡ litFrom q 0 (i + c .len) (n + 1) (drop (i + c .len) s)
+  lit-step z f l = lit-here ∙ go (c .len) z l
+    where
+      go : (k : ℕ) → (k ≡ 0 → ⊥) → i + k ≤ length s → litStep k i n (getD s i 0) Rest ≡ litFrom q 0 (i + k) (n + 1) (drop (i + k) s)
+      go zero y m = absurd (y refl)
+      go (suc k) y m =
+          let j : k ≤ length (drop (suc i) s) = rw length-drop (omega arith) in
+          let g : suc i + k ≡ i + suc k = omega arith in
+          rw (ne-eqb _ _ f) (lit-skip q k (suc i) (suc n) (drop (suc i) s) j ∙ rw (g, drop-drop, g, add-one n))
+
+-- ---- its tokens' loop
+pub chars-skip : (q from to k : ℕ) (s : List ℕ) → k ≤ length s → charTokens q from to k s ≡ charTokens q from to 0 (drop k s)
+unfolding charTokens
+chars-skip q from to zero s h = refl
+chars-skip q from to (suc k) [] h = absurd (omega arith)
+chars-skip q from to (suc k) (b ∷ s) h = chars-skip q from to k s (omega arith)
+
+pub chars-end : (q from to : ℕ) (s : List ℕ) (i : ℕ) → length s ≤ i → charTokens q from to 0 (drop i s) ≡ []
+unfolding charTokens
+chars-end q from to s i h = rw (drop-of-length-le s h)
+
+module _ (q from to : ℕ) (s : List ℕ) (i : ℕ) (c : Char) (h : i < length s) (e : c ≡ litChar q (drop i s)) where
+  abbrev More : ℕ → List Tok
+  More k = charTokens q from to k (drop (suc i) s)
+
+  chars-here : charTokens q from to 0 (drop i s) ≡ charStep (c .len) (token 6 (c .code) 0 0 from to) More
+  unfolding charTokens
+  chars-here = rw (drop-cons s i 0 h) (ap (λ (x : Char). charStep (x .len) (token 6 (x .code) 0 0 from to) More) (ap (litChar q) (sym (drop-cons s i 0 h)) ∙ sym e))
+
+  pub chars-close : c .len ≡ 0 → charTokens q from to 0 (drop i s) ≡ []
+  chars-close z = chars-here ∙ ap (λ (k : ℕ). charStep k (token 6 (c .code) 0 0 from to) More) z
+
+  pub chars-step : (c .len ≡ 0 → ⊥) → i + c .len ≤ length s → charTokens q from to 0 (drop i s) ≡ token 6 (c .code) 0 0 from to ∷ charTokens q from to 0 (drop (i + c .len) s)
+  chars-step z l = chars-here ∙ go (c .len) z l
+    where
+      go : (k : ℕ) → (k ≡ 0 → ⊥) → i + k ≤ length s → charStep k (token 6 (c .code) 0 0 from to) More ≡ token 6 (c .code) 0 0 from to ∷ charTokens q from to 0 (drop (i + k) s)
+      go zero y m = absurd (y refl)
+      go (suc k) y m =
+          let j : k ≤ length (drop (suc i) s) = rw length-drop (omega arith) in
+          let g : suc i + k ≡ i + suc k = omega arith in
+          ap (λ (l : List Tok). token 6 (c .code) 0 0 from to ∷ l) (chars-skip q from to k (drop (suc i) s) j ∙ rw (drop-drop, g))
+
+-- a literal has fewer characters than bytes
+pub chars-few : (q from to skip at n end : ℕ) (s : List ℕ) → litFrom q skip at n s ≡ Literal end → at + length (charTokens q from to skip s) < end
+unfolding litFrom charTokens
+chars-few q from to skip at n end [] e = let z : _≡_ {A = ℕ} 0 1 = cc in absurd (omega arith)
+chars-few q from to (suc k) at n end (b ∷ s) e = let ih = chars-few q from to k (suc at) n end s e in omega arith
+chars-few q from to zero at n end (b ∷ s) e = go (litChar q (b ∷ s) .len) (λ k. chars-few q from to k (suc at) (suc n) end s) e
+  where
+    To : ℕ → List Tok
+    To k = charTokens q from to k s
+
+    On : ℕ → Scan
+    On k = litFrom q k (suc at) (suc n) s
+
+    closed : (t u : Bool) → pick t (Bad 20 (at + 1)) (pick u (Bad 21 (at + 1)) (Literal (at + 1))) ≡ Literal end → at + 1 ≡ end
+    closed true u f = let z : _≡_ {A = ℕ} 0 1 = cc in absurd (omega arith)
+    closed false true f = let z : _≡_ {A = ℕ} 0 1 = cc in absurd (omega arith)
+    closed false false f = cc
+
+    onward : (t : Bool) (x : Scan) → pick t (Bad 22 (at + 1)) x ≡ Literal end → x ≡ Literal end
+    onward true x f = let z : _≡_ {A = ℕ} 0 1 = cc in absurd (omega arith)
+    onward false x f = f
+
+    go : (k : ℕ) → ((j : ℕ) → On j ≡ Literal end → suc at + length (To j) < end) → litStep k at n b On ≡ Literal end
+        → at + length (charStep k (token 6 (litChar q (b ∷ s) .code) 0 0 from to) To) < end
+    go zero ih f = let g = closed (ltb 255 n) (eqb n 0) f in omega arith
+    go (suc k) ih f = let g = ih k (onward (eqb b 10) (On k) f) in omega arith
+
+-- ---- a loop that puts a literal's rows: what is still to come
+pub record Fills (ts ts₀ : List Tok) (m m₀ : List ℕ) (n n₀ : ℕ) : Type 0 where
+  pub count : n + length ts ≡ n₀ + length ts₀
+  pub words : putTokens m n ts ≡ putTokens m₀ n₀ ts₀
+
+pub fills-start : (ts : List Tok) (m : List ℕ) (n : ℕ) → Fills ts ts m m n n
+fills-start ts m n = record { count = refl; words = refl }
+
+pub fills-row : (ts us ts₀ : List Tok) (t : Tok) (m m′ m₀ : List ℕ) (n n₀ : ℕ) → ts ≡ t ∷ us → m′ ≡ putRow 6 m n (words t) → Fills ts ts₀ m m₀ n n₀ → Fills us ts₀ m′ m₀ (n + 1) n₀
+fills-row ts us ts₀ t m m′ m₀ n n₀ e f h =
+    let g : Fills (t ∷ us) ts₀ m m₀ n n₀ = subst (λ (x : List Tok). Fills x ts₀ m m₀ n n₀) e h in
+    record { count = omega (arith, g .count); words = rw (f, add-one) (g .words) }
+
+pub fills-end : (ts ts₀ : List Tok) (m m₀ : List ℕ) (n n₀ : ℕ) → ts ≡ [] → Fills ts ts₀ m m₀ n n₀ → (n ≡ n₀ + length ts₀) × (m ≡ putTokens m₀ n₀ ts₀)
+fills-end ts ts₀ m m₀ n n₀ e h =
+    let g : Fills [] ts₀ m m₀ n n₀ = subst (λ (x : List Tok). Fills x ts₀ m m₀ n n₀) e h in
+    (omega (arith, g .count), g .words)

@@ -1,0 +1,159 @@
+// White space and comments.
+ghost use mathlib.Core.Path.{_≡_};
+ghost use mathlib.Core.Bool.{false};
+ghost use Prim.Native.Nat.{_+_, _≤_, _<_};
+ghost use lib.ListN.{length, drop};
+ghost use Rattle.refal_text.specs.Utf8.{decode};
+ghost use Rattle.refal_lexer.specs.Blanks.{whiteLen, lineAfter, starScan, slashScan, closeFrom, wideScan};
+ghost use Rattle.refal_lexer.specs.Lex.{lex};
+ghost use Rattle.refal_lexer.specs.Within.{Within};
+use crate::Scan;
+
+// A place of the source, and whether only white space has passed there since the last newline.
+pub struct Place {
+    pub at: usize,
+    pub line: bool,
+}
+
+// `line` after a white-space character at `at` whose first byte is b: a newline starts a line, and at offset 0 any other
+// white space ends the line's start.
+pub fn line_after(b: u8, at: usize, line: bool) -> bool
+    ensures { λ r. ⌜ r ≡ lineAfter b at line ⌝ }
+{
+    (b == 10) | (line & (at != 0))
+}
+
+// How many bytes the white-space character at `at` has: 0 where none is there.
+fn white_len(src: &[u8], at: usize) -> usize
+    requires { ⌜ at < length (now src) ⌝ }
+    ensures { λ r. ⌜ (r ≡ whiteLen (drop at (now (src .entry)))) × (at + r ≤ length (now (src .entry))) ⌝ }
+{
+    let b = src[at];
+    if b < 128 {
+        let blank = crate::class::is_blank(b);
+        if blank {
+            return 1;
+        }
+        return 0;
+    }
+    let c = refal_text::char_at(src, at);
+    let white = refal_text::is_white(c.code);
+    if white {
+        return c.len;
+    }
+    0
+}
+
+// Past the white space of one byte each at `at`. What is still to come is the same there as here.
+pub fn skip_ascii(src: &[u8], at: usize, line: bool) -> Place
+    requires { ⌜ at ≤ length (now src) ⌝ }
+    ensures { λ r. ⌜ (lex 0 (r .at) (r .line) (drop (r .at) (now (src .entry))) ≡ lex 0 at line (drop at (now (src .entry)))) × (at ≤ r .at) × (r .at ≤ length (now (src .entry))) ⌝ }
+{
+    let mut i = at;
+    let mut l = line;
+    while i < src.len() {
+        let b = src[i];
+        let blank = crate::class::is_blank(b);
+        if !blank {
+            return Place { at: i, line: l };
+        }
+        l = line_after(b, i, l);
+        i += 1;
+    }
+    Place { at: i, line: l }
+}
+
+// The same past white space of any length: runs of one byte each, and longer characters between them.
+pub fn skip_white(src: &[u8], at: usize, line: bool) -> Place
+    requires { ⌜ at ≤ length (now src) ⌝ }
+    ensures { λ r. ⌜ (lex 0 (r .at) (r .line) (drop (r .at) (now (src .entry))) ≡ lex 0 at line (drop at (now (src .entry)))) × (at ≤ r .at) × (r .at ≤ length (now (src .entry))) ⌝ }
+{
+    let p = skip_ascii(src, at, line);
+    let mut i = p.at;
+    let mut l = p.line;
+    while i < src.len() {
+        let k = white_len(src, i);
+        if k == 0 {
+            return Place { at: i, line: l };
+        }
+        let m = line_after(src[i], i, l);
+        let next = i + k;
+        let q = skip_ascii(src, next, m);
+        i = q.at;
+        l = q.line;
+    }
+    Place { at: i, line: l }
+}
+
+pub fn star_at(src: &[u8], at: usize, line: bool) -> Scan
+    requires { ⌜ at < length (now src) ⌝ }
+    ensures { λ r. ⌜ (r ≡ starScan at line (drop (at + 1) (now (src .entry)))) × Within at (length (now (src .entry))) r ⌝ }
+{
+    let next = at + 1;
+    if line {
+        let end = crate::runs::line_end(src, next);
+        return Scan::Blank { end, line: false };
+    }
+    Scan::Bad {
+        number: 10,
+        end: next,
+    }
+}
+
+// The end of the block comment that starts at `at`.
+fn close_from(src: &[u8], at: usize) -> Scan
+    requires { ⌜ at + 2 ≤ length (now src) ⌝ }
+    ensures { λ r. ⌜ (r ≡ closeFrom false (at + 2) (drop (at + 2) (now (src .entry)))) × Within at (length (now (src .entry))) r ⌝ }
+{
+    let mut i = at + 2;
+    let mut star = false;
+    while i < src.len() {
+        let b = src[i];
+        let end = i + 1;
+        let closes = star & (b == 47);
+        if closes {
+            return Scan::Blank { end, line: false };
+        }
+        star = b == 42;
+        i = end;
+    }
+    Scan::Bad { number: 24, end: i }
+}
+
+pub fn slash_at(src: &[u8], at: usize) -> Scan
+    requires { ⌜ at < length (now src) ⌝ }
+    ensures { λ r. ⌜ (r ≡ slashScan at (drop (at + 1) (now (src .entry)))) × Within at (length (now (src .entry))) r ⌝ }
+{
+    let next = at + 1;
+    let x = refal_text::byte(src, next);
+    if x == 42 {
+        return close_from(src, at);
+    }
+    Scan::Bad {
+        number: 10,
+        end: next,
+    }
+}
+
+// What a byte b from 128 on at `at` starts.
+pub fn wide_at(src: &[u8], at: usize, line: bool, b: u8) -> Scan
+    requires { ⌜ at < length (now src) ⌝ }
+    ensures { λ r. ⌜ (r ≡ wideScan at line b (decode (drop at (now (src .entry))))) × Within at (length (now (src .entry))) r ⌝ }
+{
+    let c = refal_text::char_at(src, at);
+    let n = c.len;
+    if n == 0 {
+        let next = at + 1;
+        return Scan::Bad {
+            number: 10,
+            end: next,
+        };
+    }
+    let end = at + n;
+    let white = refal_text::is_white(c.code);
+    if white {
+        let l = line_after(b, at, line);
+        return Scan::Blank { end, line: l };
+    }
+    Scan::Bad { number: 10, end }
+}

@@ -1,0 +1,91 @@
+// Literals: first their end, then a row for each character.
+ghost use mathlib.Core.Path.{_≡_};
+ghost use Prim.Native.Nat.{_+_, _≤_, _<_};
+ghost use lib.ListN.{length, drop, getD};
+ghost use Rattle.refal_text.specs.declared.Char.{Char};
+ghost use Rattle.refal_lexer.specs.Literals.{litChar, litFrom, closeScan, charTokens};
+ghost use Rattle.refal_lexer.specs.Puts.{putTokens};
+ghost use Rattle.refal_lexer.specs.Within.{Within};
+use crate::Scan;
+use refal_text::Char;
+
+// The character at i of a literal in quotes q: the quote doubled is one character, the close has length 0, and a byte that
+// is no character counts as one.
+fn lit_char(src: &[u8], i: usize, q: u8) -> Char
+    requires { ⌜ (i < length (now src)) × (0 < q) ⌝ }
+    ensures { λ r. ⌜ (r ≡ litChar q (drop i (now (src .entry)))) × (i + r .len ≤ length (now (src .entry))) ⌝ }
+{
+    let b = src[i];
+    if b == q {
+        let next = refal_text::byte(src, i + 1);
+        if next == q {
+            return Char {
+                code: refal_text::wide(b),
+                len: 2,
+            };
+        }
+        return Char { code: 0, len: 0 };
+    }
+    let c = refal_text::char_at(src, i);
+    if c.len == 0 {
+        return Char { code: 0, len: 1 };
+    }
+    c
+}
+
+// The literal's close, after n characters.
+fn close_at(n: usize, end: usize) -> Scan
+    ensures { λ r. ⌜ r ≡ closeScan n end ⌝ }
+{
+    if n > 255 {
+        return Scan::Bad { number: 20, end };
+    }
+    if n == 0 {
+        return Scan::Bad { number: 21, end };
+    }
+    Scan::Literal { end }
+}
+
+// The literal whose first quote, q, stands at `at`.
+pub fn literal_at(src: &[u8], at: usize, q: u8) -> Scan
+    requires { ⌜ (at < length (now src)) × (0 < q) ⌝ }
+    ensures { λ r. ⌜ (r ≡ litFrom q 0 (at + 1) 0 (drop (at + 1) (now (src .entry)))) × Within at (length (now (src .entry))) r ⌝ }
+{
+    let mut i = at + 1;
+    let mut n = 0usize;
+    while i < src.len() {
+        let c = lit_char(src, i, q);
+        let k = c.len;
+        let end = i + 1;
+        if k == 0 {
+            return close_at(n, end);
+        }
+        if src[i] == 10 {
+            return Scan::Bad { number: 22, end };
+        }
+        i += k;
+        n += 1;
+    }
+    Scan::Bad { number: 23, end: i }
+}
+
+// A row for each character of the literal in quotes q from `at` to `end`, from row n on.
+pub fn put_chars(src: &[u8], at: usize, end: usize, q: u8, rows: &mut [u32], n: usize) -> usize
+    requires { ⌜ (at < end) × (end ≤ length (now src)) × (length (now src) ≤ 16777216) × (n ≤ at) × (0 < q) ⌝ }
+    ensures { λ r. ⌜ r ≡ n + length (charTokens q at end 0 (drop (at + 1) (now (src .entry)))) ⌝ }
+    ensures { λ r. ⌜ now (rows .exit) ≡ putTokens (now (rows .entry)) n (charTokens q at end 0 (drop (at + 1) (now (src .entry)))) ⌝ }
+{
+    let mut i = at + 1;
+    let mut k = n;
+    while i < src.len() {
+        let c = lit_char(src, i, q);
+        let j = c.len;
+        if j == 0 {
+            return k;
+        }
+        refal_rows::put6(rows, k, 6, c.code, 0, 0, at as u32, end as u32);
+        i += j;
+        k += 1;
+    }
+    k
+}

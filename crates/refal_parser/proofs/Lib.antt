@@ -1,0 +1,7 @@
+-- Laws: TokenLaws (tokens at a word of the rows), CheckLaws (check 30), Steps (the machine at a word), Rows (what the writers leave), Final (from the
+-- program's answer to what `parse` answers and leaves).
+pub mod TokenLaws
+pub mod CheckLaws
+pub mod Steps
+pub mod Rows
+pub mod Final

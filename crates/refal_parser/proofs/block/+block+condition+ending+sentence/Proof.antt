@@ -1,0 +1,2587 @@
+-- `refal_parser::block::block`, `refal_parser::block::condition`, `refal_parser::block::ending`, `refal_parser::block::sentence` meet their contracts: conditions, sentences and blocks as the machine reads them; the falling number is the depth left with the tokens left.
+use mathlib.Core.Path.{_≡_, refl, sym, ap, subst, _∙_}
+use Prim.Native.Nat.{ℕ, zero, suc, _+_, _-_, _<_, _≤_}
+use native.Mathlib.Omega.{arith}
+use lib.ListN.{length, getD}
+use Rattle.refal_ast.specs.Tree.{Terms, Conditions, c0, cTerms, cBlock, Sentences, s0, sTerms, sizeC, sizeS}
+use Rattle.refal_parser.specs.Machine.{State, pattern as inPattern, argument, matching, result, ending as inArgument, inCondition, inEnding, within, between, matched, conditioned, blocked, ended, lastEnd}
+use Rattle.refal_parser.specs.Ready.{Ready, tok, endBefore}
+use Rattle.refal_parser.specs.Writers.{wC, wS, withTerms, withBlock, addC, plain, block as endBlock, addS}
+use Rattle.refal_parser.specs.PostBlock.{CondsInv, BlockInv}
+use Rattle.refal_parser.proofs.TokenLaws.{ready-next, end-before}
+use Rattle.refal_parser.proofs.Rows.{more-conditions, size-conditions, more-sentences, size-sentences}
+use Rattle.refal_parser.proofs.Steps.{is-at, is-no, other, leveled, moved, open-none, open-some, cond-start, cond-equals, match-block, match-terms}
+use Rattle.refal_parser.proofs.Steps.{end-terms, end-start, end-block, end-unopened, end-closed, end-unclosed, block-close, block-eof, block-more}
+use borrow.Author.Needs.{needs}
+use Prim.Native.Nat.{ℕ, _<_}
+use borrow.Fn.Kinds.{In}
+use borrow.Fn.PlainCycle.{Measures, is, falls, and}
+use Rattle.refal_parser.proofs.block.block.Reads as block
+use Rattle.refal_parser.proofs.block.block.Kinds as block-kinds
+use Rattle.refal_parser.proofs.block.+block+condition+ending+sentence.Lts-block as block-lts
+use Rattle.refal_parser.proofs.block.condition.Reads as condition
+use Rattle.refal_parser.proofs.block.condition.Kinds as condition-kinds
+use Rattle.refal_parser.proofs.block.+block+condition+ending+sentence.Lts-condition as condition-lts
+use Rattle.refal_parser.proofs.block.ending.Reads as ending
+use Rattle.refal_parser.proofs.block.ending.Kinds as ending-kinds
+use Rattle.refal_parser.proofs.block.+block+condition+ending+sentence.Lts-ending as ending-lts
+use Rattle.refal_parser.proofs.block.sentence.Reads as sentence
+use Rattle.refal_parser.proofs.block.sentence.Kinds as sentence-kinds
+use Rattle.refal_parser.proofs.block.+block+condition+ending+sentence.Lts-sentence as sentence-lts
+use Rattle.refal_parser.proofs.answers.present.Reads as present-reads
+use Rattle.refal_parser.proofs.block.joins.Reads as joins-reads
+use Rattle.refal_parser.proofs.nodes.put_span.Reads as put-span-reads
+use Rattle.refal_parser.proofs.terms.clause.Reads as clause-reads
+use Rattle.refal_parser.proofs.terms.pattern.Reads as pattern-reads
+use Rattle.refal_parser.proofs.tokens.end_before.Reads as end-before-reads
+use Rattle.refal_parser.proofs.tokens.kind.Reads as kind-reads
+use Rattle.refal_parser.proofs.tokens.span_from.Reads as span-from-reads
+use Rattle.refal_parser.proofs.block.+block+condition+ending+sentence.{statement}
+use Rattle.refal_parser.proofs.block.+block+condition+ending+sentence.Tie.{close}
+
+abbrev μ-block : Measures 2 block-kinds.ps ℕ
+μ-block κs a = a .1 .1 .1 .1 .0 + (length (a .0 .now) - a .1 .1 .0) + (a .1 .1 .1 .1 .0 + (length (a .0 .now) - a .1 .1 .0))
+
+abbrev μ-condition : Measures 2 condition-kinds.ps ℕ
+μ-condition κs a = a .1 .1 .1 .1 .0 + (length (a .0 .now) - a .1 .1 .0) + (a .1 .1 .1 .1 .0 + (length (a .0 .now) - a .1 .1 .0))
+
+abbrev μ-ending : Measures 2 ending-kinds.ps ℕ
+μ-ending κs a = a .1 .1 .1 .1 .0 + (length (a .0 .now) - a .1 .1 .0) + (a .1 .1 .1 .1 .0 + (length (a .0 .now) - a .1 .1 .0))
+
+abbrev μ-sentence : Measures 2 sentence-kinds.ps ℕ
+μ-sentence κs a = a .1 .1 .1 .1 .0 + (length (a .0 .now) - a .1 .1 .0) + (a .1 .1 .1 .1 .0 + (length (a .0 .now) - a .1 .1 .0)) + 1
+
+abbrev block-at : ℕ → In 2 block-kinds.ps
+block-at t = and 2 block-kinds.ps (is 2 block-kinds.ps μ-block t) block.Pre
+
+abbrev block-below : ℕ → In 2 block-kinds.ps
+block-below t = and 2 block-kinds.ps (falls 2 block-kinds.ps _<_ μ-block t) block.Pre
+
+abbrev condition-at : ℕ → In 2 condition-kinds.ps
+condition-at t = and 2 condition-kinds.ps (is 2 condition-kinds.ps μ-condition t) condition.Pre
+
+abbrev condition-below : ℕ → In 2 condition-kinds.ps
+condition-below t =
+    and 2 condition-kinds.ps (falls 2 condition-kinds.ps _<_ μ-condition t) condition.Pre
+
+abbrev ending-at : ℕ → In 2 ending-kinds.ps
+ending-at t = and 2 ending-kinds.ps (is 2 ending-kinds.ps μ-ending t) ending.Pre
+
+abbrev ending-below : ℕ → In 2 ending-kinds.ps
+ending-below t = and 2 ending-kinds.ps (falls 2 ending-kinds.ps _<_ μ-ending t) ending.Pre
+
+abbrev sentence-at : ℕ → In 2 sentence-kinds.ps
+sentence-at t = and 2 sentence-kinds.ps (is 2 sentence-kinds.ps μ-sentence t) sentence.Pre
+
+abbrev sentence-below : ℕ → In 2 sentence-kinds.ps
+sentence-below t =
+    and 2 sentence-kinds.ps (falls 2 sentence-kinds.ps _<_ μ-sentence t) sentence.Pre
+
+abbrev block-Inv-loop : block-lts.InvT-loop
+block-Inv-loop tokens rows₀ at n left under i₀ m₀ rows i m = BlockInv tokens rows₀ rows at n left i m
+
+abbrev block-μ-loop : block-lts.MeasureT-loop
+block-μ-loop tokens rows₀ at n left under i₀ m₀ rows i m = length tokens - i
+
+-- src/block.rt:123:9
+block-present-requires : (t : ℕ) → block-lts.Need-present-requires (
+  present-reads.Asked,
+  present-reads.Learnt,
+  kind-reads.Asked,
+  kind-reads.Learnt,
+  sentence-below t,
+  sentence.Post,
+) (block-at t) block.Post block-Inv-loop block-μ-loop
+block-present-requires t c κs = search needs
+
+-- src/block.rt:123:9
+block-returns : (t : ℕ) → block-lts.Need-returns (
+  present-reads.Asked,
+  present-reads.Learnt,
+  kind-reads.Asked,
+  kind-reads.Learnt,
+  sentence-below t,
+  sentence.Post,
+) (block-at t) block.Post block-Inv-loop block-μ-loop
+block-returns t c = let w = c .before .before .before .before .args .tokens .now in
+    let at₀ = c .before .before .before .before .args .at in
+    let left₀ = c .before .before .before .before .args .left in
+    is-no (c .present .ensures) (λ p. open-none w at₀ left₀ (λ (d : ℕ). between d p s0) (c .before .if1 .taken))
+
+-- src/block.rt:125:17
+block-sub-under : (t : ℕ) → block-lts.Need-sub-under (
+  present-reads.Asked,
+  present-reads.Learnt,
+  kind-reads.Asked,
+  kind-reads.Learnt,
+  sentence-below t,
+  sentence.Post,
+) (block-at t) block.Post block-Inv-loop block-μ-loop
+block-sub-under t c = search needs
+
+-- src/block.rt:126:17
+block-add-i : (t : ℕ) → block-lts.Need-add-i (
+  present-reads.Asked,
+  present-reads.Learnt,
+  kind-reads.Asked,
+  kind-reads.Learnt,
+  sentence-below t,
+  sentence.Post,
+) (block-at t) block.Post block-Inv-loop block-μ-loop
+block-add-i t c = let pre₀ = c .before .before .before .pre .1 in
+    let R = pre₀ .0 in omega arith
+
+-- src/block.rt:128:5
+block-loop-holds : (t : ℕ) → block-lts.Need-loop-holds (
+  present-reads.Asked,
+  present-reads.Learnt,
+  kind-reads.Asked,
+  kind-reads.Learnt,
+  sentence-below t,
+  sentence.Post,
+) (block-at t) block.Post block-Inv-loop block-μ-loop
+unfolding sizeS wS
+block-loop-holds t c = let w = c .before .before .before .args .tokens .now in
+    let at₀ = c .before .before .before .args .at in
+    let left₀ = c .before .before .before .args .left in
+    let pre₀ = c .before .before .before .pre .1 in
+    record { v = s0; ready = ready-next _ _ (pre₀ .0) (other _ _ _ (pre₀ .2) refl); on = omega arith; few = omega arith; same = refl; rows = refl; count = omega arith; means = λ p. open-some w at₀ left₀ (λ (d : ℕ). between d p s0) (c .if1 .left) }
+
+-- src/block.rt:128:11
+block-kind-requires : (t : ℕ) → block-lts.Need-kind-requires (
+  present-reads.Asked,
+  present-reads.Learnt,
+  kind-reads.Asked,
+  kind-reads.Learnt,
+  sentence-below t,
+  sentence.Post,
+) (block-at t) block.Post block-Inv-loop block-μ-loop
+block-kind-requires t c κs = c .loop .inv .ready
+
+-- src/block.rt:129:12
+block-kind-requires-2 : (t : ℕ) → block-lts.Need-kind-requires-2 (
+  present-reads.Asked,
+  present-reads.Learnt,
+  kind-reads.Asked,
+  kind-reads.Learnt,
+  sentence-below t,
+  sentence.Post,
+) (block-at t) block.Post block-Inv-loop block-μ-loop
+block-kind-requires-2 t c κs = c .before .before .loop .inv .ready
+
+-- src/block.rt:130:13
+block-present-requires-2 : (t : ℕ) → block-lts.Need-present-requires-2 (
+  present-reads.Asked,
+  present-reads.Learnt,
+  kind-reads.Asked,
+  kind-reads.Learnt,
+  sentence-below t,
+  sentence.Post,
+) (block-at t) block.Post block-Inv-loop block-μ-loop
+block-present-requires-2 t c κs = c .before .before .before .before .loop .inv .ready
+
+-- src/block.rt:130:13
+block-same-length : (t : ℕ) → block-lts.Need-same-length (
+  present-reads.Asked,
+  present-reads.Learnt,
+  kind-reads.Asked,
+  kind-reads.Learnt,
+  sentence-below t,
+  sentence.Post,
+) (block-at t) block.Post block-Inv-loop block-μ-loop
+block-same-length t c = let I = c .before .before .before .before .before .loop .inv in
+    I .same
+
+-- src/block.rt:130:13
+block-returns-2 : (t : ℕ) → block-lts.Need-returns-2 (
+  present-reads.Asked,
+  present-reads.Learnt,
+  kind-reads.Asked,
+  kind-reads.Learnt,
+  sentence-below t,
+  sentence.Post,
+) (block-at t) block.Post block-Inv-loop block-μ-loop
+block-returns-2 t c = let I = c .before .before .before .before .before .loop .inv in
+    is-no (c .present2 .ensures) (λ p. I .means p ∙ block-eof _ _ (I .ready) _ p (I .v) (λ e. c .before .before .before .if2 .taken (c .before .before .before .before .kind .ensures
+    ∙ e)) (sym (c .before .before .kind2 .ensures) ∙ c .before .if3 .taken))
+
+-- src/block.rt:132:13
+block-sentence-requires : (t : ℕ) → block-lts.Need-sentence-requires (
+  present-reads.Asked,
+  present-reads.Learnt,
+  kind-reads.Asked,
+  kind-reads.Learnt,
+  sentence-below t,
+  sentence.Post,
+) (block-at t) block.Post block-Inv-loop block-μ-loop
+block-sentence-requires t c κs = let pre₀ = c .before .before .before .before .before .before .before .before .before .pre .1 in
+    let I = c .before .before .before .before .before .loop .inv in
+    let R = I .ready in let o = I .on in let n = c .before .before .before .before .before .before .if1 .left in let g = pre₀ .0 in (omega arith, (I .ready, I .few))
+
+-- src/block.rt:133:21
+block-enum-known-r : (t : ℕ) → block-lts.Need-enum-known-r (
+  present-reads.Asked,
+  present-reads.Learnt,
+  kind-reads.Asked,
+  kind-reads.Learnt,
+  sentence-below t,
+  sentence.Post,
+) (block-at t) block.Post block-Inv-loop block-μ-loop
+block-enum-known-r t c = search needs
+
+-- src/block.rt:134:13
+block-enum-told : (t : ℕ) → block-lts.Need-enum-told (
+  present-reads.Asked,
+  present-reads.Learnt,
+  kind-reads.Asked,
+  kind-reads.Learnt,
+  sentence-below t,
+  sentence.Post,
+) (block-at t) block.Post block-Inv-loop block-μ-loop
+block-enum-told t c = search needs
+
+-- src/block.rt:134:13
+block-same-length-2 : (t : ℕ) → block-lts.Need-same-length-2 (
+  present-reads.Asked,
+  present-reads.Learnt,
+  kind-reads.Asked,
+  kind-reads.Learnt,
+  sentence-below t,
+  sentence.Post,
+) (block-at t) block.Post block-Inv-loop block-μ-loop
+block-same-length-2 t c = search needs
+
+-- src/block.rt:134:13
+block-returns-3 : (t : ℕ) → block-lts.Need-returns-3 (
+  present-reads.Asked,
+  present-reads.Learnt,
+  kind-reads.Asked,
+  kind-reads.Learnt,
+  sentence-below t,
+  sentence.Post,
+) (block-at t) block.Post block-Inv-loop block-μ-loop
+block-returns-3 t c = let I = c .before .before .before .before .before .before .before .before .before .before .loop .inv in
+    is-no (c .enum-told .given .1) (λ p. I .means p ∙ block-more _ _ (I .ready) _ p (I .v) (λ e. c .before .before .before .before .before .before .before .before .if2 .taken (c .before .before .before .before .before .before .before .before .before .kind .ensures
+    ∙ e)) (λ e. c .before .before .before .before .before .before .if3 .left (c .before .before .before .before .before .before .before .kind2 .ensures ∙ e)) ∙ c .before .before .before .before .sentence .ensures .no _ _ _ _ _ (c .enum-told .given .1) p (I .v))
+
+-- src/block.rt:128:5
+block-loop-less : (t : ℕ) → block-lts.Need-loop-less (
+  present-reads.Asked,
+  present-reads.Learnt,
+  kind-reads.Asked,
+  kind-reads.Learnt,
+  sentence-below t,
+  sentence.Post,
+) (block-at t) block.Post block-Inv-loop block-μ-loop
+block-loop-less t c = let S = c .before .before .before .before .before .sentence .ensures .at _ _ (c .before .r .given .1) in let R = S .ready in let q = S .on in omega arith
+
+-- src/block.rt:128:5
+block-loop-again : (t : ℕ) → block-lts.Need-loop-again (
+  present-reads.Asked,
+  present-reads.Learnt,
+  kind-reads.Asked,
+  kind-reads.Learnt,
+  sentence-below t,
+  sentence.Post,
+) (block-at t) block.Post block-Inv-loop block-μ-loop
+block-loop-again t c = let w = c .before .before .before .before .before .before .before .before .before .before .before .before .before .before .before .args .tokens .now in
+    let i₀ = c .before .before .before .before .before .before .before .before .before .before .before .loop .i in
+    let I = c .before .before .before .before .before .before .before .before .before .before .before .loop .inv in
+    let S = c .before .before .before .before .before .sentence .ensures .at _ _ (c .before .r .given .1) in
+    record {
+      v = addS (I .v) (getD w (i₀ + 4) 0) (S .f) (S .cs) (S .x) (S .e);
+      ready = S .ready;
+      on = let h = S .on in let g = I .on in omega arith;
+      few = S .few;
+      same = c .before .before .before .before .before .sentence .kept .1 .0 ∙ I .same;
+      rows = more-sentences (I .v) _ _ (S .f) (S .cs) (S .x) _ _ _ _ _ (I .count) (I .rows) (S .rows);
+      count = size-sentences (I .v) (getD w (i₀ + 4) 0) (S .e) (S .f) (S .cs) (S .x) _ _ _ (I .count) (S .count);
+      means = λ p. I .means p ∙ block-more _ _ (I .ready) _ p (I .v) (λ e. c .before .before .before .before .before .before .before .before .before .if2 .taken (c .before .before .before .before .before .before .before .before .before .before .kind .ensures
+          ∙ e)) (λ e. c .before .before .before .before .before .before .before .if3 .left (c .before .before .before .before .before .before .before .before .kind2 .ensures ∙ e)) ∙ S .means p (I .v);
+    }
+
+-- src/block.rt:139:16
+block-add-next : (t : ℕ) → block-lts.Need-add-next (
+  present-reads.Asked,
+  present-reads.Learnt,
+  kind-reads.Asked,
+  kind-reads.Learnt,
+  sentence-below t,
+  sentence.Post,
+) (block-at t) block.Post block-Inv-loop block-μ-loop
+block-add-next t c = let I = c .before .before .loop .inv in let R = I .ready in omega arith
+
+-- src/block.rt:118:1
+block-same-length-3 : (t : ℕ) → block-lts.Need-same-length-3 (
+  present-reads.Asked,
+  present-reads.Learnt,
+  kind-reads.Asked,
+  kind-reads.Learnt,
+  sentence-below t,
+  sentence.Post,
+) (block-at t) block.Post block-Inv-loop block-μ-loop
+block-same-length-3 t c = search needs
+
+-- src/block.rt:118:1
+block-returns-4 : (t : ℕ) → block-lts.Need-returns-4 (
+  present-reads.Asked,
+  present-reads.Learnt,
+  kind-reads.Asked,
+  kind-reads.Learnt,
+  sentence-below t,
+  sentence.Post,
+) (block-at t) block.Post block-Inv-loop block-μ-loop
+block-returns-4 t c = let w = c .before .before .before .before .before .before .args .tokens .now in
+    let i₀ = c .before .before .loop .i in
+    let I = c .before .before .loop .inv in
+    let k₈ : getD w i₀ 0 ≡ 8 = sym (c .before .kind .ensures) ∙ c .if2 .left in
+    is-at refl (record {
+      v = I .v;
+      t = tok w i₀;
+      some = c .before .before .before .if1 .left;
+      ready = ready-next _ _ (I .ready) (other _ _ _ k₈ refl);
+      on = let g = I .on in omega arith;
+      few = let v = I .few in omega arith;
+      rows = I .rows;
+      count = I .count;
+      last = end-before w i₀;
+      means = λ p. I .means p ∙ block-close _ _ (I .ready) _ p (I .v) k₈;
+    })
+
+-- src/block.rt:35:17
+condition-add-start : (t : ℕ) → condition-lts.Need-add-start (
+  clause-reads.Asked,
+  clause-reads.Learnt,
+  kind-reads.Asked,
+  kind-reads.Learnt,
+  block-below t,
+  block.Post,
+  span-from-reads.Asked,
+  span-from-reads.Learnt,
+  end-before-reads.Asked,
+  end-before-reads.Learnt,
+  put-span-reads.Asked,
+  put-span-reads.Learnt,
+  joins-reads.Asked,
+  joins-reads.Learnt,
+  pattern-reads.Asked,
+  pattern-reads.Learnt,
+) (condition-at t) condition.Post
+condition-add-start t c = let pre₀ = c .before .before .pre .1 in
+    let R = pre₀ .0 in let h = pre₀ .1 in omega arith
+
+-- src/block.rt:36:17
+condition-add-first : (t : ℕ) → condition-lts.Need-add-first (
+  clause-reads.Asked,
+  clause-reads.Learnt,
+  kind-reads.Asked,
+  kind-reads.Learnt,
+  block-below t,
+  block.Post,
+  span-from-reads.Asked,
+  span-from-reads.Learnt,
+  end-before-reads.Asked,
+  end-before-reads.Learnt,
+  put-span-reads.Asked,
+  put-span-reads.Learnt,
+  joins-reads.Asked,
+  joins-reads.Learnt,
+  pattern-reads.Asked,
+  pattern-reads.Learnt,
+) (condition-at t) condition.Post
+condition-add-first t c = let pre₀ = c .before .before .pre .1 in
+    let R = pre₀ .0 in let h = pre₀ .1 in omega arith
+
+-- src/block.rt:37:9
+condition-clause-requires : (t : ℕ) → condition-lts.Need-clause-requires (
+  clause-reads.Asked,
+  clause-reads.Learnt,
+  kind-reads.Asked,
+  kind-reads.Learnt,
+  block-below t,
+  block.Post,
+  span-from-reads.Asked,
+  span-from-reads.Learnt,
+  end-before-reads.Asked,
+  end-before-reads.Learnt,
+  put-span-reads.Asked,
+  put-span-reads.Learnt,
+  joins-reads.Asked,
+  joins-reads.Learnt,
+  pattern-reads.Asked,
+  pattern-reads.Learnt,
+) (condition-at t) condition.Post
+condition-clause-requires t c κs = let pre₀ = c .before .before .before .pre .1 in
+    let h = pre₀ .1 in ((ready-next _ _ (pre₀ .0) (other _ _ _ (pre₀ .2) refl)), omega arith, omega arith)
+
+-- src/block.rt:38:17
+condition-enum-known-r : (t : ℕ) → condition-lts.Need-enum-known-r (
+  clause-reads.Asked,
+  clause-reads.Learnt,
+  kind-reads.Asked,
+  kind-reads.Learnt,
+  block-below t,
+  block.Post,
+  span-from-reads.Asked,
+  span-from-reads.Learnt,
+  end-before-reads.Asked,
+  end-before-reads.Learnt,
+  put-span-reads.Asked,
+  put-span-reads.Learnt,
+  joins-reads.Asked,
+  joins-reads.Learnt,
+  pattern-reads.Asked,
+  pattern-reads.Learnt,
+) (condition-at t) condition.Post
+condition-enum-known-r t c = search needs
+
+-- src/block.rt:39:9
+condition-enum-told : (t : ℕ) → condition-lts.Need-enum-told (
+  clause-reads.Asked,
+  clause-reads.Learnt,
+  kind-reads.Asked,
+  kind-reads.Learnt,
+  block-below t,
+  block.Post,
+  span-from-reads.Asked,
+  span-from-reads.Learnt,
+  end-before-reads.Asked,
+  end-before-reads.Learnt,
+  put-span-reads.Asked,
+  put-span-reads.Learnt,
+  joins-reads.Asked,
+  joins-reads.Learnt,
+  pattern-reads.Asked,
+  pattern-reads.Learnt,
+) (condition-at t) condition.Post
+condition-enum-told t c = search needs
+
+-- src/block.rt:39:9
+condition-same-length : (t : ℕ) → condition-lts.Need-same-length (
+  clause-reads.Asked,
+  clause-reads.Learnt,
+  kind-reads.Asked,
+  kind-reads.Learnt,
+  block-below t,
+  block.Post,
+  span-from-reads.Asked,
+  span-from-reads.Learnt,
+  end-before-reads.Asked,
+  end-before-reads.Learnt,
+  put-span-reads.Asked,
+  put-span-reads.Learnt,
+  joins-reads.Asked,
+  joins-reads.Learnt,
+  pattern-reads.Asked,
+  pattern-reads.Learnt,
+) (condition-at t) condition.Post
+condition-same-length t c = search needs
+
+-- src/block.rt:39:9
+condition-returns : (t : ℕ) → condition-lts.Need-returns (
+  clause-reads.Asked,
+  clause-reads.Learnt,
+  kind-reads.Asked,
+  kind-reads.Learnt,
+  block-below t,
+  block.Post,
+  span-from-reads.Asked,
+  span-from-reads.Learnt,
+  end-before-reads.Asked,
+  end-before-reads.Learnt,
+  put-span-reads.Asked,
+  put-span-reads.Learnt,
+  joins-reads.Asked,
+  joins-reads.Learnt,
+  pattern-reads.Asked,
+  pattern-reads.Learnt,
+) (condition-at t) condition.Post
+condition-returns t c = let w = c .before .before .before .before .before .before .before .before .args .tokens .now in
+    let at₀ = c .before .before .before .before .before .before .before .before .args .at in
+    let left₀ = c .before .before .before .before .before .before .before .before .args .left in
+    let pre₀ = c .before .before .before .before .before .before .before .before .pre .1 in
+    is-no (c .enum-told .given .1) (λ p s st f cs. cond-start _ _ (pre₀ .0) _ p s st f cs (ready-next _ _ (pre₀ .0) (other _ _ _ (pre₀ .2) refl)) (pre₀ .2)
+    ∙ c .before .before .before .before .clause .ensures .no _ _ _ _ _ (c .enum-told .given .1) (argument p s st f cs (getD w (at₀ + 6 + 4) 0)) (λ (g : Terms) (e : ℕ). matched left₀ p s st f cs (getD w (at₀ + 6 + 4) 0) g e) (λ h t y z. refl))
+
+-- src/block.rt:41:8
+condition-kind-requires : (t : ℕ) → condition-lts.Need-kind-requires (
+  clause-reads.Asked,
+  clause-reads.Learnt,
+  kind-reads.Asked,
+  kind-reads.Learnt,
+  block-below t,
+  block.Post,
+  span-from-reads.Asked,
+  span-from-reads.Learnt,
+  end-before-reads.Asked,
+  end-before-reads.Learnt,
+  put-span-reads.Asked,
+  put-span-reads.Learnt,
+  joins-reads.Asked,
+  joins-reads.Learnt,
+  pattern-reads.Asked,
+  pattern-reads.Learnt,
+) (condition-at t) condition.Post
+condition-kind-requires t c κs = let K = c .before .before .before .before .before .clause .ensures .at _ _ (c .before .r .given .1) in K .closed .ready
+
+-- src/block.rt:42:19
+condition-add-row : (t : ℕ) → condition-lts.Need-add-row (
+  clause-reads.Asked,
+  clause-reads.Learnt,
+  kind-reads.Asked,
+  kind-reads.Learnt,
+  block-below t,
+  block.Post,
+  span-from-reads.Asked,
+  span-from-reads.Learnt,
+  end-before-reads.Asked,
+  end-before-reads.Learnt,
+  put-span-reads.Asked,
+  put-span-reads.Learnt,
+  joins-reads.Asked,
+  joins-reads.Learnt,
+  pattern-reads.Asked,
+  pattern-reads.Learnt,
+) (condition-at t) condition.Post
+condition-add-row t c = let K = c .before .before .before .before .before .before .before .clause .ensures .at _ _ (c .before .before .before .r .given .1) in
+    let R = K .closed .ready in let o = K .closed .on in let v₁ = K .few in omega arith
+
+-- src/block.rt:43:13
+condition-block-requires : (t : ℕ) → condition-lts.Need-block-requires (
+  clause-reads.Asked,
+  clause-reads.Learnt,
+  kind-reads.Asked,
+  kind-reads.Learnt,
+  block-below t,
+  block.Post,
+  span-from-reads.Asked,
+  span-from-reads.Learnt,
+  end-before-reads.Asked,
+  end-before-reads.Learnt,
+  put-span-reads.Asked,
+  put-span-reads.Learnt,
+  joins-reads.Asked,
+  joins-reads.Learnt,
+  pattern-reads.Asked,
+  pattern-reads.Learnt,
+) (condition-at t) condition.Post
+condition-block-requires t c κs = let w = c .before .before .before .before .before .before .before .before .before .before .before .before .args .tokens .now in
+    let j₁ = c .before .before .before .before .r .given .0 .0 in
+    let pre₀ = c .before .before .before .before .before .before .before .before .before .before .before .before .pre .1 in
+    let K = c .before .before .before .before .before .before .before .before .clause .ensures .at _ _ (c .before .before .before .before .r .given .1) in
+    let R = K .closed .ready in
+    let o = K .closed .on in
+    let v₁ = K .few in
+    let k₇ : getD w j₁ 0 ≡ 7 = sym (c .before .before .kind .ensures) ∙ c .before .if1 .taken in let g = pre₀ .0 in (omega arith, (R, omega arith, k₇))
+
+-- src/block.rt:44:21
+condition-enum-known-r2 : (t : ℕ) → condition-lts.Need-enum-known-r2 (
+  clause-reads.Asked,
+  clause-reads.Learnt,
+  kind-reads.Asked,
+  kind-reads.Learnt,
+  block-below t,
+  block.Post,
+  span-from-reads.Asked,
+  span-from-reads.Learnt,
+  end-before-reads.Asked,
+  end-before-reads.Learnt,
+  put-span-reads.Asked,
+  put-span-reads.Learnt,
+  joins-reads.Asked,
+  joins-reads.Learnt,
+  pattern-reads.Asked,
+  pattern-reads.Learnt,
+) (condition-at t) condition.Post
+condition-enum-known-r2 t c = search needs
+
+-- src/block.rt:45:13
+condition-enum-told-2 : (t : ℕ) → condition-lts.Need-enum-told-2 (
+  clause-reads.Asked,
+  clause-reads.Learnt,
+  kind-reads.Asked,
+  kind-reads.Learnt,
+  block-below t,
+  block.Post,
+  span-from-reads.Asked,
+  span-from-reads.Learnt,
+  end-before-reads.Asked,
+  end-before-reads.Learnt,
+  put-span-reads.Asked,
+  put-span-reads.Learnt,
+  joins-reads.Asked,
+  joins-reads.Learnt,
+  pattern-reads.Asked,
+  pattern-reads.Learnt,
+) (condition-at t) condition.Post
+condition-enum-told-2 t c = search needs
+
+-- src/block.rt:45:13
+condition-same-length-2 : (t : ℕ) → condition-lts.Need-same-length-2 (
+  clause-reads.Asked,
+  clause-reads.Learnt,
+  kind-reads.Asked,
+  kind-reads.Learnt,
+  block-below t,
+  block.Post,
+  span-from-reads.Asked,
+  span-from-reads.Learnt,
+  end-before-reads.Asked,
+  end-before-reads.Learnt,
+  put-span-reads.Asked,
+  put-span-reads.Learnt,
+  joins-reads.Asked,
+  joins-reads.Learnt,
+  pattern-reads.Asked,
+  pattern-reads.Learnt,
+) (condition-at t) condition.Post
+condition-same-length-2 t c = search needs
+
+-- src/block.rt:45:13
+condition-returns-2 : (t : ℕ) → condition-lts.Need-returns-2 (
+  clause-reads.Asked,
+  clause-reads.Learnt,
+  kind-reads.Asked,
+  kind-reads.Learnt,
+  block-below t,
+  block.Post,
+  span-from-reads.Asked,
+  span-from-reads.Learnt,
+  end-before-reads.Asked,
+  end-before-reads.Learnt,
+  put-span-reads.Asked,
+  put-span-reads.Learnt,
+  joins-reads.Asked,
+  joins-reads.Learnt,
+  pattern-reads.Asked,
+  pattern-reads.Learnt,
+) (condition-at t) condition.Post
+condition-returns-2 t c = let w = c .before .before .before .before .before .before .before .before .before .before .before .before .before .before .before .before .before .args .tokens .now in
+    let j₁ = c .before .before .before .before .before .before .before .before .before .r .given .0 .0 in
+    let at₀ = c .before .before .before .before .before .before .before .before .before .before .before .before .before .before .before .before .before .args .at in
+    let left₀ = c .before .before .before .before .before .before .before .before .before .before .before .before .before .before .before .before .before .args .left in
+    let pre₀ = c .before .before .before .before .before .before .before .before .before .before .before .before .before .before .before .before .before .pre .1 in
+    let K = c .before .before .before .before .before .before .before .before .before .before .before .before .before .clause .ensures .at _ _ (c .before .before .before .before .before .before .before .before .before .r .given .1) in
+    let k₇ : getD w j₁ 0 ≡ 7 = sym (c .before .before .before .before .before .before .before .kind .ensures) ∙ c .before .before .before .before .before .before .if1 .taken in
+    is-no (c .enum-told2 .given .1) (λ p s st f cs. cond-start _ _ (pre₀ .0) _ p s st f cs (ready-next _ _ (pre₀ .0) (other _ _ _ (pre₀ .2) refl)) (pre₀ .2)
+    ∙ K .closed .means (argument p s st f cs (getD w (at₀ + 6 + 4) 0)) (λ (g : Terms) (e : ℕ). matched left₀ p s st f cs (getD w (at₀ + 6 + 4) 0) g e) (λ h t y z. refl)
+    ∙ match-block _ _ (K .closed .ready) _ p s st f cs (getD w (at₀ + 6 + 4) 0) (K .g) (K .closed .e) k₇
+    ∙ c .before .before .before .before .block .ensures .no _ _ _ _ _ (c .enum-told2 .given .1) (inCondition p s st f cs (getD w (at₀ + 6 + 4) 0) (K .g)))
+
+-- src/block.rt:47:50
+condition-span-from-requires : (t : ℕ) → condition-lts.Need-span-from-requires (
+  clause-reads.Asked,
+  clause-reads.Learnt,
+  kind-reads.Asked,
+  kind-reads.Learnt,
+  block-below t,
+  block.Post,
+  span-from-reads.Asked,
+  span-from-reads.Learnt,
+  end-before-reads.Asked,
+  end-before-reads.Learnt,
+  put-span-reads.Asked,
+  put-span-reads.Learnt,
+  joins-reads.Asked,
+  joins-reads.Learnt,
+  pattern-reads.Asked,
+  pattern-reads.Learnt,
+) (condition-at t) condition.Post
+condition-span-from-requires t c κs = let pre₀ = c .before .before .before .before .before .before .before .before .before .before .before .before .before .before .before .before .before .before .before .pre .1 in
+    (ready-next _ _ (pre₀ .0) (other _ _ _ (pre₀ .2) refl))
+
+-- src/block.rt:47:76
+condition-end-before-requires : (t : ℕ) → condition-lts.Need-end-before-requires (
+  clause-reads.Asked,
+  clause-reads.Learnt,
+  kind-reads.Asked,
+  kind-reads.Learnt,
+  block-below t,
+  block.Post,
+  span-from-reads.Asked,
+  span-from-reads.Learnt,
+  end-before-reads.Asked,
+  end-before-reads.Learnt,
+  put-span-reads.Asked,
+  put-span-reads.Learnt,
+  joins-reads.Asked,
+  joins-reads.Learnt,
+  pattern-reads.Asked,
+  pattern-reads.Learnt,
+) (condition-at t) condition.Post
+condition-end-before-requires t c κs = let B = c .before .before .before .before .before .before .before .block .ensures .at _ _ (c .before .before .before .r2 .given .1) in
+    let Z = B .ready in let q = B .on in let v = B .few in (B .ready, omega arith)
+
+-- src/block.rt:47:9
+condition-put-span-requires : (t : ℕ) → condition-lts.Need-put-span-requires (
+  clause-reads.Asked,
+  clause-reads.Learnt,
+  kind-reads.Asked,
+  kind-reads.Learnt,
+  block-below t,
+  block.Post,
+  span-from-reads.Asked,
+  span-from-reads.Learnt,
+  end-before-reads.Asked,
+  end-before-reads.Learnt,
+  put-span-reads.Asked,
+  put-span-reads.Learnt,
+  joins-reads.Asked,
+  joins-reads.Learnt,
+  pattern-reads.Asked,
+  pattern-reads.Learnt,
+) (condition-at t) condition.Post
+condition-put-span-requires t c κs = let K = c .before .before .before .before .before .before .before .before .before .before .before .before .before .before .before .before .before .clause .ensures .at _ _ (c .before .before .before .before .before .before .before .before .before .before .before .before .before .r .given .1) in
+    let B = c .before .before .before .before .before .before .before .before .block .ensures .at _ _ (c .before .before .before .before .r2 .given .1) in
+    let R = K .closed .ready in
+    let o = K .closed .on in let v₁ = K .few in let Z = B .ready in let q = B .on in let v = B .few in (omega arith, omega arith)
+
+-- src/block.rt:48:44
+condition-span-from-requires-2 : (t : ℕ) → condition-lts.Need-span-from-requires-2 (
+  clause-reads.Asked,
+  clause-reads.Learnt,
+  kind-reads.Asked,
+  kind-reads.Learnt,
+  block-below t,
+  block.Post,
+  span-from-reads.Asked,
+  span-from-reads.Learnt,
+  end-before-reads.Asked,
+  end-before-reads.Learnt,
+  put-span-reads.Asked,
+  put-span-reads.Learnt,
+  joins-reads.Asked,
+  joins-reads.Learnt,
+  pattern-reads.Asked,
+  pattern-reads.Learnt,
+) (condition-at t) condition.Post
+condition-span-from-requires-2 t c κs = let pre₀ = c .before .before .before .before .before .before .before .before .before .before .before .before .before .before .before .before .before .before .before .before .before .before .before .before .before .pre .1 in
+    (ready-next _ _ (pre₀ .0) (other _ _ _ (pre₀ .2) refl))
+
+-- src/block.rt:48:70
+condition-end-before-requires-2 : (t : ℕ) → condition-lts.Need-end-before-requires-2 (
+  clause-reads.Asked,
+  clause-reads.Learnt,
+  kind-reads.Asked,
+  kind-reads.Learnt,
+  block-below t,
+  block.Post,
+  span-from-reads.Asked,
+  span-from-reads.Learnt,
+  end-before-reads.Asked,
+  end-before-reads.Learnt,
+  put-span-reads.Asked,
+  put-span-reads.Learnt,
+  joins-reads.Asked,
+  joins-reads.Learnt,
+  pattern-reads.Asked,
+  pattern-reads.Learnt,
+) (condition-at t) condition.Post
+condition-end-before-requires-2 t c κs = let B = c .before .before .before .before .before .before .before .before .before .before .before .before .before .block .ensures .at _ _ (c .before .before .before .before .before .before .before .before .before .r2 .given .1) in
+    let Z = B .ready in let q = B .on in let v = B .few in (B .ready, omega arith)
+
+-- src/block.rt:48:9
+condition-put-span-requires-2 : (t : ℕ) → condition-lts.Need-put-span-requires-2 (
+  clause-reads.Asked,
+  clause-reads.Learnt,
+  kind-reads.Asked,
+  kind-reads.Learnt,
+  block-below t,
+  block.Post,
+  span-from-reads.Asked,
+  span-from-reads.Learnt,
+  end-before-reads.Asked,
+  end-before-reads.Learnt,
+  put-span-reads.Asked,
+  put-span-reads.Learnt,
+  joins-reads.Asked,
+  joins-reads.Learnt,
+  pattern-reads.Asked,
+  pattern-reads.Learnt,
+) (condition-at t) condition.Post
+condition-put-span-requires-2 t c κs = let pre₀ = c .before .before .before .before .before .before .before .before .before .before .before .before .before .before .before .before .before .before .before .before .before .before .before .before .before .before .before .pre .1 in
+    let B = c .before .before .before .before .before .before .before .before .before .before .before .before .before .before .block .ensures .at _ _ (c .before .before .before .before .before .before .before .before .before .before .r2 .given .1) in
+    let Z = B .ready in let q = B .on in let v = B .few in let h = pre₀ .1 in let g = pre₀ .0 in (omega arith, omega arith)
+
+-- src/block.rt:49:9
+condition-joins-requires : (t : ℕ) → condition-lts.Need-joins-requires (
+  clause-reads.Asked,
+  clause-reads.Learnt,
+  kind-reads.Asked,
+  kind-reads.Learnt,
+  block-below t,
+  block.Post,
+  span-from-reads.Asked,
+  span-from-reads.Learnt,
+  end-before-reads.Asked,
+  end-before-reads.Learnt,
+  put-span-reads.Asked,
+  put-span-reads.Learnt,
+  joins-reads.Asked,
+  joins-reads.Learnt,
+  pattern-reads.Asked,
+  pattern-reads.Learnt,
+) (condition-at t) condition.Post
+condition-joins-requires t c κs = let B = c .before .before .before .before .before .before .before .before .before .before .before .before .before .before .before .before .before .block .ensures .at _ _ (c .before .before .before .before .before .before .before .before .before .before .before .before .before .r2 .given .1) in B .ready
+
+-- src/block.rt:49:9
+condition-same-length-3 : (t : ℕ) → condition-lts.Need-same-length-3 (
+  clause-reads.Asked,
+  clause-reads.Learnt,
+  kind-reads.Asked,
+  kind-reads.Learnt,
+  block-below t,
+  block.Post,
+  span-from-reads.Asked,
+  span-from-reads.Learnt,
+  end-before-reads.Asked,
+  end-before-reads.Learnt,
+  put-span-reads.Asked,
+  put-span-reads.Learnt,
+  joins-reads.Asked,
+  joins-reads.Learnt,
+  pattern-reads.Asked,
+  pattern-reads.Learnt,
+) (condition-at t) condition.Post
+condition-same-length-3 t c = c .before .before .before .put-span2 .kept .0
+    ∙ c .before .before .before .before .before .before .before .before .before .put-span .kept .0
+    ∙ c .before .before .before .before .before .before .before .before .before .before .before .before .before .before .before .before .before .before .block .kept .1 .0
+    ∙ c .before .before .before .before .before .before .before .before .before .before .before .before .before .before .before .before .before .before .before .before .before .before .before .before .before .before .before .clause .kept .1 .0
+
+-- src/block.rt:49:9
+condition-returns-3 : (t : ℕ) → condition-lts.Need-returns-3 (
+  clause-reads.Asked,
+  clause-reads.Learnt,
+  kind-reads.Asked,
+  kind-reads.Learnt,
+  block-below t,
+  block.Post,
+  span-from-reads.Asked,
+  span-from-reads.Learnt,
+  end-before-reads.Asked,
+  end-before-reads.Learnt,
+  put-span-reads.Asked,
+  put-span-reads.Learnt,
+  joins-reads.Asked,
+  joins-reads.Learnt,
+  pattern-reads.Asked,
+  pattern-reads.Learnt,
+) (condition-at t) condition.Post
+condition-returns-3 t c = let w = c .before .before .before .before .before .before .before .before .before .before .before .before .before .before .before .before .before .before .before .before .before .before .before .before .before .before .before .before .before .before .before .args .tokens .now in
+    let j₁ = c .before .before .before .before .before .before .before .before .before .before .before .before .before .before .before .before .before .before .before .before .before .before .before .r .given .0 .0 in
+    let j₂ = c .before .before .before .before .before .before .before .before .before .before .before .before .before .before .r2 .given .0 .0 in
+    let at₀ = c .before .before .before .before .before .before .before .before .before .before .before .before .before .before .before .before .before .before .before .before .before .before .before .before .before .before .before .before .before .before .before .args .at in
+    let left₀ = c .before .before .before .before .before .before .before .before .before .before .before .before .before .before .before .before .before .before .before .before .before .before .before .before .before .before .before .before .before .before .before .args .left in
+    let pre₀ = c .before .before .before .before .before .before .before .before .before .before .before .before .before .before .before .before .before .before .before .before .before .before .before .before .before .before .before .before .before .before .before .pre .1 in
+    let K = c .before .before .before .before .before .before .before .before .before .before .before .before .before .before .before .before .before .before .before .before .before .before .before .before .before .before .before .clause .ensures .at _ _ (c .before .before .before .before .before .before .before .before .before .before .before .before .before .before .before .before .before .before .before .before .before .before .before .r .given .1) in
+    let B = c .before .before .before .before .before .before .before .before .before .before .before .before .before .before .before .before .before .before .block .ensures .at _ _ (c .before .before .before .before .before .before .before .before .before .before .before .before .before .before .r2 .given .1) in
+    let k₇ : getD w j₁ 0 ≡ 7 = sym (c .before .before .before .before .before .before .before .before .before .before .before .before .before .before .before .before .before .before .before .before .before .kind .ensures) ∙ c .before .before .before .before .before .before .before .before .before .before .before .before .before .before .before .before .before .before .before .before .if1 .taken in
+    record {
+      at = λ j m e.
+          let N = c .joins .ensures .at j m e in
+          record {
+            x = withBlock (getD w (at₀ + 6 + 4) 0) (K .g) (B .v) (B .t .to);
+            ready = N .ready;
+            on = let o = K .closed .on in let q = B .on in let y = N .stays in omega arith;
+            few = let v = B .few in let y = N .stays in let z = N .rows in omega arith;
+            rows = let h₁ = K .rows in let h₂ = B .rows in let h₃ = K .count in let h₄ = B .count in let h₅ = B .last in cc;
+            count = let h₃ = K .count in let h₄ = B .count in let z = N .rows in omega arith;
+            joint = N .joint;
+            means = λ p s st f cs. cond-start _ _ (pre₀ .0) _ p s st f cs (ready-next _ _ (pre₀ .0) (other _ _ _ (pre₀ .2) refl)) (pre₀ .2)
+                ∙ K .closed .means (argument p s st f cs (getD w (at₀ + 6 + 4) 0)) (λ (g : Terms) (e : ℕ). matched left₀ p s st f cs (getD w (at₀ + 6 + 4) 0) g e) (λ h t y z. refl)
+                ∙ match-block _ _ (K .closed .ready) _ p s st f cs (getD w (at₀ + 6 + 4) 0) (K .g) (K .closed .e) k₇
+                ∙ B .means (inCondition p s st f cs (getD w (at₀ + 6 + 4) 0) (K .g))
+                ∙ leveled w j₂ left₀ (λ (d : ℕ). conditioned d p s st f (cBlock cs (getD w (at₀ + 6 + 4) 0) (K .g) (getD w (at₀ + 6 + 4) 0) (B .v) (B .t .to) (B .t .to))) (B .some)
+                ∙ moved w j₂ j (conditioned left₀ p s st f (cBlock cs (getD w (at₀ + 6 + 4) 0) (K .g) (getD w (at₀ + 6 + 4) 0) (B .v) (B .t .to) (B .t .to))) (N .stays);
+          };
+      no = λ a b k d e q. λ p s st f cs. cond-start _ _ (pre₀ .0) _ p s st f cs (ready-next _ _ (pre₀ .0) (other _ _ _ (pre₀ .2) refl)) (pre₀ .2)
+          ∙ K .closed .means (argument p s st f cs (getD w (at₀ + 6 + 4) 0)) (λ (g : Terms) (e : ℕ). matched left₀ p s st f cs (getD w (at₀ + 6 + 4) 0) g e) (λ h t y z. refl)
+          ∙ match-block _ _ (K .closed .ready) _ p s st f cs (getD w (at₀ + 6 + 4) 0) (K .g) (K .closed .e) k₇
+          ∙ B .means (inCondition p s st f cs (getD w (at₀ + 6 + 4) 0) (K .g))
+          ∙ leveled w j₂ left₀ (λ (d : ℕ). conditioned d p s st f (cBlock cs (getD w (at₀ + 6 + 4) 0) (K .g) (getD w (at₀ + 6 + 4) 0) (B .v) (B .t .to) (B .t .to))) (B .some)
+          ∙ c .joins .ensures .no a b k d e q left₀ p s st f (cBlock cs (getD w (at₀ + 6 + 4) 0) (K .g) (getD w (at₀ + 6 + 4) 0) (B .v) (B .t .to) (B .t .to));
+    }
+
+-- src/block.rt:51:9
+condition-pattern-requires : (t : ℕ) → condition-lts.Need-pattern-requires (
+  clause-reads.Asked,
+  clause-reads.Learnt,
+  kind-reads.Asked,
+  kind-reads.Learnt,
+  block-below t,
+  block.Post,
+  span-from-reads.Asked,
+  span-from-reads.Learnt,
+  end-before-reads.Asked,
+  end-before-reads.Learnt,
+  put-span-reads.Asked,
+  put-span-reads.Learnt,
+  joins-reads.Asked,
+  joins-reads.Learnt,
+  pattern-reads.Asked,
+  pattern-reads.Learnt,
+) (condition-at t) condition.Post
+condition-pattern-requires t c κs = let K = c .before .before .before .before .before .before .before .before .clause .ensures .at _ _ (c .before .before .before .before .r .given .1) in
+    let R = K .closed .ready in let o = K .closed .on in let v₁ = K .few in (R, omega arith)
+
+-- src/block.rt:52:17
+condition-enum-known-r3 : (t : ℕ) → condition-lts.Need-enum-known-r3 (
+  clause-reads.Asked,
+  clause-reads.Learnt,
+  kind-reads.Asked,
+  kind-reads.Learnt,
+  block-below t,
+  block.Post,
+  span-from-reads.Asked,
+  span-from-reads.Learnt,
+  end-before-reads.Asked,
+  end-before-reads.Learnt,
+  put-span-reads.Asked,
+  put-span-reads.Learnt,
+  joins-reads.Asked,
+  joins-reads.Learnt,
+  pattern-reads.Asked,
+  pattern-reads.Learnt,
+) (condition-at t) condition.Post
+condition-enum-known-r3 t c = search needs
+
+-- src/block.rt:53:9
+condition-enum-told-3 : (t : ℕ) → condition-lts.Need-enum-told-3 (
+  clause-reads.Asked,
+  clause-reads.Learnt,
+  kind-reads.Asked,
+  kind-reads.Learnt,
+  block-below t,
+  block.Post,
+  span-from-reads.Asked,
+  span-from-reads.Learnt,
+  end-before-reads.Asked,
+  end-before-reads.Learnt,
+  put-span-reads.Asked,
+  put-span-reads.Learnt,
+  joins-reads.Asked,
+  joins-reads.Learnt,
+  pattern-reads.Asked,
+  pattern-reads.Learnt,
+) (condition-at t) condition.Post
+condition-enum-told-3 t c = search needs
+
+-- src/block.rt:53:9
+condition-same-length-4 : (t : ℕ) → condition-lts.Need-same-length-4 (
+  clause-reads.Asked,
+  clause-reads.Learnt,
+  kind-reads.Asked,
+  kind-reads.Learnt,
+  block-below t,
+  block.Post,
+  span-from-reads.Asked,
+  span-from-reads.Learnt,
+  end-before-reads.Asked,
+  end-before-reads.Learnt,
+  put-span-reads.Asked,
+  put-span-reads.Learnt,
+  joins-reads.Asked,
+  joins-reads.Learnt,
+  pattern-reads.Asked,
+  pattern-reads.Learnt,
+) (condition-at t) condition.Post
+condition-same-length-4 t c = search needs
+
+-- src/block.rt:53:9
+condition-returns-4 : (t : ℕ) → condition-lts.Need-returns-4 (
+  clause-reads.Asked,
+  clause-reads.Learnt,
+  kind-reads.Asked,
+  kind-reads.Learnt,
+  block-below t,
+  block.Post,
+  span-from-reads.Asked,
+  span-from-reads.Learnt,
+  end-before-reads.Asked,
+  end-before-reads.Learnt,
+  put-span-reads.Asked,
+  put-span-reads.Learnt,
+  joins-reads.Asked,
+  joins-reads.Learnt,
+  pattern-reads.Asked,
+  pattern-reads.Learnt,
+) (condition-at t) condition.Post
+condition-returns-4 t c = let w = c .before .before .before .before .before .before .before .before .before .before .before .before .before .before .before .before .before .args .tokens .now in
+    let at₀ = c .before .before .before .before .before .before .before .before .before .before .before .before .before .before .before .before .before .args .at in
+    let left₀ = c .before .before .before .before .before .before .before .before .before .before .before .before .before .before .before .before .before .args .left in
+    let pre₀ = c .before .before .before .before .before .before .before .before .before .before .before .before .before .before .before .before .before .pre .1 in
+    let K = c .before .before .before .before .before .before .before .before .before .before .before .before .before .clause .ensures .at _ _ (c .before .before .before .before .before .before .before .before .before .r .given .1) in
+    is-no (c .enum-told3 .given .1) (λ p s st f cs. cond-start _ _ (pre₀ .0) _ p s st f cs (ready-next _ _ (pre₀ .0) (other _ _ _ (pre₀ .2) refl)) (pre₀ .2)
+    ∙ K .closed .means (argument p s st f cs (getD w (at₀ + 6 + 4) 0)) (λ (g : Terms) (e : ℕ). matched left₀ p s st f cs (getD w (at₀ + 6 + 4) 0) g e) (λ h t y z. refl)
+    ∙ match-terms _ _ (K .closed .ready) _ p s st f cs (getD w (at₀ + 6 + 4) 0) (K .g) (K .closed .e) (λ e. c .before .before .before .before .before .before .if1 .left (c .before .before .before .before .before .before .before .kind .ensures
+    ∙ e))
+    ∙ c .before .before .before .before .pattern .ensures .no _ _ _ _ _ (c .enum-told3 .given .1) (matching p s st f cs (getD w (at₀ + 6 + 4) 0) (K .g) (K .closed .e)) p s st (λ (h : Terms). f) (λ (h : Terms). cTerms cs (getD w (at₀ + 6 + 4) 0) (K .g) h (lastEnd h (K .closed .e))) (λ h t y z. refl))
+
+-- src/block.rt:55:40
+condition-span-from-requires-3 : (t : ℕ) → condition-lts.Need-span-from-requires-3 (
+  clause-reads.Asked,
+  clause-reads.Learnt,
+  kind-reads.Asked,
+  kind-reads.Learnt,
+  block-below t,
+  block.Post,
+  span-from-reads.Asked,
+  span-from-reads.Learnt,
+  end-before-reads.Asked,
+  end-before-reads.Learnt,
+  put-span-reads.Asked,
+  put-span-reads.Learnt,
+  joins-reads.Asked,
+  joins-reads.Learnt,
+  pattern-reads.Asked,
+  pattern-reads.Learnt,
+) (condition-at t) condition.Post
+condition-span-from-requires-3 t c κs = let pre₀ = c .before .before .before .before .before .before .before .before .before .before .before .before .before .before .before .before .before .before .before .pre .1 in
+    (ready-next _ _ (pre₀ .0) (other _ _ _ (pre₀ .2) refl))
+
+-- src/block.rt:55:66
+condition-end-before-requires-3 : (t : ℕ) → condition-lts.Need-end-before-requires-3 (
+  clause-reads.Asked,
+  clause-reads.Learnt,
+  kind-reads.Asked,
+  kind-reads.Learnt,
+  block-below t,
+  block.Post,
+  span-from-reads.Asked,
+  span-from-reads.Learnt,
+  end-before-reads.Asked,
+  end-before-reads.Learnt,
+  put-span-reads.Asked,
+  put-span-reads.Learnt,
+  joins-reads.Asked,
+  joins-reads.Learnt,
+  pattern-reads.Asked,
+  pattern-reads.Learnt,
+) (condition-at t) condition.Post
+condition-end-before-requires-3 t c κs = let K = c .before .before .before .before .before .before .before .before .before .before .before .before .before .before .before .before .clause .ensures .at _ _ (c .before .before .before .before .before .before .before .before .before .before .before .before .r .given .1) in
+    let Q = c .before .before .before .before .before .before .before .pattern .ensures .at _ _ (c .before .before .before .r3 .given .1) in let o = K .closed .on in let q = Q .on in (Q .ready, omega arith)
+
+-- src/block.rt:55:5
+condition-put-span-requires-3 : (t : ℕ) → condition-lts.Need-put-span-requires-3 (
+  clause-reads.Asked,
+  clause-reads.Learnt,
+  kind-reads.Asked,
+  kind-reads.Learnt,
+  block-below t,
+  block.Post,
+  span-from-reads.Asked,
+  span-from-reads.Learnt,
+  end-before-reads.Asked,
+  end-before-reads.Learnt,
+  put-span-reads.Asked,
+  put-span-reads.Learnt,
+  joins-reads.Asked,
+  joins-reads.Learnt,
+  pattern-reads.Asked,
+  pattern-reads.Learnt,
+) (condition-at t) condition.Post
+condition-put-span-requires-3 t c κs = let pre₀ = c .before .before .before .before .before .before .before .before .before .before .before .before .before .before .before .before .before .before .before .before .before .pre .1 in
+    let Q = c .before .before .before .before .before .before .before .before .pattern .ensures .at _ _ (c .before .before .before .before .r3 .given .1) in
+    let Z = Q .ready in let v = Q .few in let h = pre₀ .1 in let g = pre₀ .0 in (omega arith, omega arith)
+
+-- src/block.rt:31:1
+condition-same-length-5 : (t : ℕ) → condition-lts.Need-same-length-5 (
+  clause-reads.Asked,
+  clause-reads.Learnt,
+  kind-reads.Asked,
+  kind-reads.Learnt,
+  block-below t,
+  block.Post,
+  span-from-reads.Asked,
+  span-from-reads.Learnt,
+  end-before-reads.Asked,
+  end-before-reads.Learnt,
+  put-span-reads.Asked,
+  put-span-reads.Learnt,
+  joins-reads.Asked,
+  joins-reads.Learnt,
+  pattern-reads.Asked,
+  pattern-reads.Learnt,
+) (condition-at t) condition.Post
+condition-same-length-5 t c = search needs
+
+-- src/block.rt:31:1
+condition-returns-5 : (t : ℕ) → condition-lts.Need-returns-5 (
+  clause-reads.Asked,
+  clause-reads.Learnt,
+  kind-reads.Asked,
+  kind-reads.Learnt,
+  block-below t,
+  block.Post,
+  span-from-reads.Asked,
+  span-from-reads.Learnt,
+  end-before-reads.Asked,
+  end-before-reads.Learnt,
+  put-span-reads.Asked,
+  put-span-reads.Learnt,
+  joins-reads.Asked,
+  joins-reads.Learnt,
+  pattern-reads.Asked,
+  pattern-reads.Learnt,
+) (condition-at t) condition.Post
+condition-returns-5 t c = let w = c .before .before .before .before .before .before .before .before .before .before .before .before .before .before .before .before .before .before .before .before .before .before .before .before .args .tokens .now in
+    let at₀ = c .before .before .before .before .before .before .before .before .before .before .before .before .before .before .before .before .before .before .before .before .before .before .before .before .args .at in
+    let left₀ = c .before .before .before .before .before .before .before .before .before .before .before .before .before .before .before .before .before .before .before .before .before .before .before .before .args .left in
+    let pre₀ = c .before .before .before .before .before .before .before .before .before .before .before .before .before .before .before .before .before .before .before .before .before .before .before .before .pre .1 in
+    let K = c .before .before .before .before .before .before .before .before .before .before .before .before .before .before .before .before .before .before .before .before .clause .ensures .at _ _ (c .before .before .before .before .before .before .before .before .before .before .before .before .before .before .before .before .r .given .1) in
+    let Q = c .before .before .before .before .before .before .before .before .before .before .before .pattern .ensures .at _ _ (c .before .before .before .before .before .before .before .r3 .given .1) in
+    is-at refl (record {
+      x = withTerms (getD w (at₀ + 6 + 4) 0) (K .g) (Q .g) (lastEnd (Q .g) (K .closed .e));
+      ready = Q .ready;
+      on = let o = K .closed .on in let q = Q .on in omega arith;
+      few = Q .few;
+      rows = let h₁ = K .rows in let h₂ = Q .rows in let h₃ = K .count in let h₄ = Q .count in let h₅ = ap (λ (z : ℕ). lastEnd (Q .g) z) (K .closed .last)
+          ∙ Q .last in cc;
+      count = let h₃ = K .count in let h₄ = Q .count in omega arith;
+      joint = Q .joint;
+      means = λ p s st f cs. cond-start _ _ (pre₀ .0) _ p s st f cs (ready-next _ _ (pre₀ .0) (other _ _ _ (pre₀ .2) refl)) (pre₀ .2)
+          ∙ K .closed .means (argument p s st f cs (getD w (at₀ + 6 + 4) 0)) (λ (g : Terms) (e : ℕ). matched left₀ p s st f cs (getD w (at₀ + 6 + 4) 0) g e) (λ h t y z. refl)
+          ∙ match-terms _ _ (K .closed .ready) _ p s st f cs (getD w (at₀ + 6 + 4) 0) (K .g) (K .closed .e) (λ e. c .before .before .before .before .before .before .before .before .before .before .before .before .before .if1 .left (c .before .before .before .before .before .before .before .before .before .before .before .before .before .before .kind .ensures
+          ∙ e))
+          ∙ Q .means (matching p s st f cs (getD w (at₀ + 6 + 4) 0) (K .g) (K .closed .e)) p s st (λ (h : Terms). f) (λ (h : Terms). cTerms cs (getD w (at₀ + 6 + 4) 0) (K .g) h (lastEnd h (K .closed .e))) (λ h t y z. refl);
+    })
+
+-- src/block.rt:64:8
+ending-kind-requires : (t : ℕ) → ending-lts.Need-kind-requires (
+  kind-reads.Asked,
+  kind-reads.Learnt,
+  clause-reads.Asked,
+  clause-reads.Learnt,
+  present-reads.Asked,
+  present-reads.Learnt,
+  block-below t,
+  block.Post,
+  span-from-reads.Asked,
+  span-from-reads.Learnt,
+  end-before-reads.Asked,
+  end-before-reads.Learnt,
+  put-span-reads.Asked,
+  put-span-reads.Learnt,
+) (ending-at t) ending.Post
+ending-kind-requires t c κs = let pre₀ = c .before .before .pre .1 in
+    pre₀ .0
+
+-- src/block.rt:65:9
+ending-clause-requires : (t : ℕ) → ending-lts.Need-clause-requires (
+  kind-reads.Asked,
+  kind-reads.Learnt,
+  clause-reads.Asked,
+  clause-reads.Learnt,
+  present-reads.Asked,
+  present-reads.Learnt,
+  block-below t,
+  block.Post,
+  span-from-reads.Asked,
+  span-from-reads.Learnt,
+  end-before-reads.Asked,
+  end-before-reads.Learnt,
+  put-span-reads.Asked,
+  put-span-reads.Learnt,
+) (ending-at t) ending.Post
+ending-clause-requires t c κs = let pre₀ = c .before .before .before .before .before .pre .1 in
+    let h = pre₀ .1 in (pre₀ .0, omega arith, omega arith)
+
+-- src/block.rt:65:9
+ending-same-length : (t : ℕ) → ending-lts.Need-same-length (
+  kind-reads.Asked,
+  kind-reads.Learnt,
+  clause-reads.Asked,
+  clause-reads.Learnt,
+  present-reads.Asked,
+  present-reads.Learnt,
+  block-below t,
+  block.Post,
+  span-from-reads.Asked,
+  span-from-reads.Learnt,
+  end-before-reads.Asked,
+  end-before-reads.Learnt,
+  put-span-reads.Asked,
+  put-span-reads.Learnt,
+) (ending-at t) ending.Post
+ending-same-length t c = search needs
+
+-- src/block.rt:65:9
+ending-returns : (t : ℕ) → ending-lts.Need-returns (
+  kind-reads.Asked,
+  kind-reads.Learnt,
+  clause-reads.Asked,
+  clause-reads.Learnt,
+  present-reads.Asked,
+  present-reads.Learnt,
+  block-below t,
+  block.Post,
+  span-from-reads.Asked,
+  span-from-reads.Learnt,
+  end-before-reads.Asked,
+  end-before-reads.Learnt,
+  put-span-reads.Asked,
+  put-span-reads.Learnt,
+) (ending-at t) ending.Post
+ending-returns t c = let left₀ = c .before .before .before .before .before .before .before .before .args .left in
+    let pre₀ = c .before .before .before .before .before .before .before .before .pre .1 in
+    record {
+      at = λ j m e.
+          let K = c .before .before .clause .ensures .at j m e in
+          record {
+            x = plain (K .g);
+            e = K .closed .e;
+            ready = K .closed .ready;
+            on = K .closed .on;
+            few = K .few;
+            rows = K .rows;
+            count = K .count;
+            last = K .closed .last;
+            means = λ p s st f cs. end-terms _ _ (pre₀ .0) _ p s st f cs (λ e. c .before .before .before .before .if1 .taken (c .before .before .before .before .before .kind .ensures ∙ e))
+                ∙ K .closed .means (result p s st f cs) (λ (g : Terms) (b : ℕ). between left₀ p (sTerms s st f cs g b)) (λ h t y z. refl);
+          };
+      no = λ a b k d e q. λ p s st f cs. end-terms _ _ (pre₀ .0) _ p s st f cs (λ e. c .before .before .before .before .if1 .taken (c .before .before .before .before .before .kind .ensures ∙ e))
+          ∙ c .before .before .clause .ensures .no a b k d e q (result p s st f cs) (λ (g : Terms) (b : ℕ). between left₀ p (sTerms s st f cs g b)) (λ h t y z. refl);
+    }
+
+-- src/block.rt:67:17
+ending-add-start : (t : ℕ) → ending-lts.Need-add-start (
+  kind-reads.Asked,
+  kind-reads.Learnt,
+  clause-reads.Asked,
+  clause-reads.Learnt,
+  present-reads.Asked,
+  present-reads.Learnt,
+  block-below t,
+  block.Post,
+  span-from-reads.Asked,
+  span-from-reads.Learnt,
+  end-before-reads.Asked,
+  end-before-reads.Learnt,
+  put-span-reads.Asked,
+  put-span-reads.Learnt,
+) (ending-at t) ending.Post
+ending-add-start t c = let pre₀ = c .before .before .before .before .pre .1 in
+    let R = pre₀ .0 in let h = pre₀ .1 in omega arith
+
+-- src/block.rt:68:17
+ending-add-first : (t : ℕ) → ending-lts.Need-add-first (
+  kind-reads.Asked,
+  kind-reads.Learnt,
+  clause-reads.Asked,
+  clause-reads.Learnt,
+  present-reads.Asked,
+  present-reads.Learnt,
+  block-below t,
+  block.Post,
+  span-from-reads.Asked,
+  span-from-reads.Learnt,
+  end-before-reads.Asked,
+  end-before-reads.Learnt,
+  put-span-reads.Asked,
+  put-span-reads.Learnt,
+) (ending-at t) ending.Post
+ending-add-first t c = let pre₀ = c .before .before .before .before .pre .1 in
+    let R = pre₀ .0 in let h = pre₀ .1 in omega arith
+
+-- src/block.rt:69:9
+ending-clause-requires-2 : (t : ℕ) → ending-lts.Need-clause-requires-2 (
+  kind-reads.Asked,
+  kind-reads.Learnt,
+  clause-reads.Asked,
+  clause-reads.Learnt,
+  present-reads.Asked,
+  present-reads.Learnt,
+  block-below t,
+  block.Post,
+  span-from-reads.Asked,
+  span-from-reads.Learnt,
+  end-before-reads.Asked,
+  end-before-reads.Learnt,
+  put-span-reads.Asked,
+  put-span-reads.Learnt,
+) (ending-at t) ending.Post
+ending-clause-requires-2 t c κs = let w = c .before .before .before .before .before .args .tokens .now in
+    let at₀ = c .before .before .before .before .before .args .at in
+    let pre₀ = c .before .before .before .before .before .pre .1 in
+    let k₁₃ : getD w at₀ 0 ≡ 13 = sym (c .before .before .kind .ensures) ∙ c .before .if1 .left in
+    let h = pre₀ .1 in ((ready-next _ _ (pre₀ .0) (other _ _ _ k₁₃ refl)), omega arith, omega arith)
+
+-- src/block.rt:70:17
+ending-enum-known-r : (t : ℕ) → ending-lts.Need-enum-known-r (
+  kind-reads.Asked,
+  kind-reads.Learnt,
+  clause-reads.Asked,
+  clause-reads.Learnt,
+  present-reads.Asked,
+  present-reads.Learnt,
+  block-below t,
+  block.Post,
+  span-from-reads.Asked,
+  span-from-reads.Learnt,
+  end-before-reads.Asked,
+  end-before-reads.Learnt,
+  put-span-reads.Asked,
+  put-span-reads.Learnt,
+) (ending-at t) ending.Post
+ending-enum-known-r t c = search needs
+
+-- src/block.rt:71:9
+ending-enum-told : (t : ℕ) → ending-lts.Need-enum-told (
+  kind-reads.Asked,
+  kind-reads.Learnt,
+  clause-reads.Asked,
+  clause-reads.Learnt,
+  present-reads.Asked,
+  present-reads.Learnt,
+  block-below t,
+  block.Post,
+  span-from-reads.Asked,
+  span-from-reads.Learnt,
+  end-before-reads.Asked,
+  end-before-reads.Learnt,
+  put-span-reads.Asked,
+  put-span-reads.Learnt,
+) (ending-at t) ending.Post
+ending-enum-told t c = search needs
+
+-- src/block.rt:71:9
+ending-same-length-2 : (t : ℕ) → ending-lts.Need-same-length-2 (
+  kind-reads.Asked,
+  kind-reads.Learnt,
+  clause-reads.Asked,
+  clause-reads.Learnt,
+  present-reads.Asked,
+  present-reads.Learnt,
+  block-below t,
+  block.Post,
+  span-from-reads.Asked,
+  span-from-reads.Learnt,
+  end-before-reads.Asked,
+  end-before-reads.Learnt,
+  put-span-reads.Asked,
+  put-span-reads.Learnt,
+) (ending-at t) ending.Post
+ending-same-length-2 t c = search needs
+
+-- src/block.rt:71:9
+ending-returns-2 : (t : ℕ) → ending-lts.Need-returns-2 (
+  kind-reads.Asked,
+  kind-reads.Learnt,
+  clause-reads.Asked,
+  clause-reads.Learnt,
+  present-reads.Asked,
+  present-reads.Learnt,
+  block-below t,
+  block.Post,
+  span-from-reads.Asked,
+  span-from-reads.Learnt,
+  end-before-reads.Asked,
+  end-before-reads.Learnt,
+  put-span-reads.Asked,
+  put-span-reads.Learnt,
+) (ending-at t) ending.Post
+ending-returns-2 t c = let w = c .before .before .before .before .before .before .before .before .before .before .args .tokens .now in
+    let at₀ = c .before .before .before .before .before .before .before .before .before .before .args .at in
+    let left₀ = c .before .before .before .before .before .before .before .before .before .before .args .left in
+    let pre₀ = c .before .before .before .before .before .before .before .before .before .before .pre .1 in
+    let k₁₃ : getD w at₀ 0 ≡ 13 = sym (c .before .before .before .before .before .before .before .kind .ensures) ∙ c .before .before .before .before .before .before .if1 .left in
+    is-no (c .enum-told .given .1) (λ p s st f cs. end-start _ _ (pre₀ .0) _ p s st f cs (ready-next _ _ (pre₀ .0) (other _ _ _ k₁₃ refl)) k₁₃
+    ∙ c .before .before .before .before .clause2 .ensures .no _ _ _ _ _ (c .enum-told .given .1) (inArgument p s st f cs (getD w (at₀ + 6 + 4) 0)) (λ (g : Terms) (e : ℕ). blocked left₀ p s st f cs (getD w (at₀ + 6 + 4) 0) g) (λ h t y z. refl))
+
+-- src/block.rt:73:8
+ending-kind-requires-2 : (t : ℕ) → ending-lts.Need-kind-requires-2 (
+  kind-reads.Asked,
+  kind-reads.Learnt,
+  clause-reads.Asked,
+  clause-reads.Learnt,
+  present-reads.Asked,
+  present-reads.Learnt,
+  block-below t,
+  block.Post,
+  span-from-reads.Asked,
+  span-from-reads.Learnt,
+  end-before-reads.Asked,
+  end-before-reads.Learnt,
+  put-span-reads.Asked,
+  put-span-reads.Learnt,
+) (ending-at t) ending.Post
+ending-kind-requires-2 t c κs = let K = c .before .before .before .before .before .clause2 .ensures .at _ _ (c .before .r .given .1) in K .closed .ready
+
+-- src/block.rt:74:9
+ending-present-requires : (t : ℕ) → ending-lts.Need-present-requires (
+  kind-reads.Asked,
+  kind-reads.Learnt,
+  clause-reads.Asked,
+  clause-reads.Learnt,
+  present-reads.Asked,
+  present-reads.Learnt,
+  block-below t,
+  block.Post,
+  span-from-reads.Asked,
+  span-from-reads.Learnt,
+  end-before-reads.Asked,
+  end-before-reads.Learnt,
+  put-span-reads.Asked,
+  put-span-reads.Learnt,
+) (ending-at t) ending.Post
+ending-present-requires t c κs = let K = c .before .before .before .before .before .before .before .clause2 .ensures .at _ _ (c .before .before .before .r .given .1) in K .closed .ready
+
+-- src/block.rt:74:9
+ending-same-length-3 : (t : ℕ) → ending-lts.Need-same-length-3 (
+  kind-reads.Asked,
+  kind-reads.Learnt,
+  clause-reads.Asked,
+  clause-reads.Learnt,
+  present-reads.Asked,
+  present-reads.Learnt,
+  block-below t,
+  block.Post,
+  span-from-reads.Asked,
+  span-from-reads.Learnt,
+  end-before-reads.Asked,
+  end-before-reads.Learnt,
+  put-span-reads.Asked,
+  put-span-reads.Learnt,
+) (ending-at t) ending.Post
+ending-same-length-3 t c = search needs
+
+-- src/block.rt:74:9
+ending-returns-3 : (t : ℕ) → ending-lts.Need-returns-3 (
+  kind-reads.Asked,
+  kind-reads.Learnt,
+  clause-reads.Asked,
+  clause-reads.Learnt,
+  present-reads.Asked,
+  present-reads.Learnt,
+  block-below t,
+  block.Post,
+  span-from-reads.Asked,
+  span-from-reads.Learnt,
+  end-before-reads.Asked,
+  end-before-reads.Learnt,
+  put-span-reads.Asked,
+  put-span-reads.Learnt,
+) (ending-at t) ending.Post
+ending-returns-3 t c = let w = c .before .before .before .before .before .before .before .before .before .before .before .before .before .before .args .tokens .now in
+    let at₀ = c .before .before .before .before .before .before .before .before .before .before .before .before .before .before .args .at in
+    let left₀ = c .before .before .before .before .before .before .before .before .before .before .before .before .before .before .args .left in
+    let pre₀ = c .before .before .before .before .before .before .before .before .before .before .before .before .before .before .pre .1 in
+    let K = c .before .before .before .before .before .before .before .before .clause2 .ensures .at _ _ (c .before .before .before .before .r .given .1) in
+    let k₁₃ : getD w at₀ 0 ≡ 13 = sym (c .before .before .before .before .before .before .before .before .before .before .before .kind .ensures) ∙ c .before .before .before .before .before .before .before .before .before .before .if1 .left in
+    is-no (c .present .ensures) (λ p s st f cs. end-start _ _ (pre₀ .0) _ p s st f cs (ready-next _ _ (pre₀ .0) (other _ _ _ k₁₃ refl)) k₁₃
+    ∙ K .closed .means (inArgument p s st f cs (getD w (at₀ + 6 + 4) 0)) (λ (g : Terms) (e : ℕ). blocked left₀ p s st f cs (getD w (at₀ + 6 + 4) 0) g) (λ h t y z. refl)
+    ∙ end-unopened _ _ (K .closed .ready) _ p s st f cs (getD w (at₀ + 6 + 4) 0) (K .g) (λ e. c .before .if2 .taken (c .before .before .kind2 .ensures
+    ∙ e)))
+
+-- src/block.rt:76:9
+ending-block-requires : (t : ℕ) → ending-lts.Need-block-requires (
+  kind-reads.Asked,
+  kind-reads.Learnt,
+  clause-reads.Asked,
+  clause-reads.Learnt,
+  present-reads.Asked,
+  present-reads.Learnt,
+  block-below t,
+  block.Post,
+  span-from-reads.Asked,
+  span-from-reads.Learnt,
+  end-before-reads.Asked,
+  end-before-reads.Learnt,
+  put-span-reads.Asked,
+  put-span-reads.Learnt,
+) (ending-at t) ending.Post
+ending-block-requires t c κs = let w = c .before .before .before .before .before .before .before .before .before .before .before .before .before .before .args .tokens .now in
+    let j₁ = c .before .before .before .before .r .given .0 .0 in
+    let pre₀ = c .before .before .before .before .before .before .before .before .before .before .before .before .before .before .pre .1 in
+    let K = c .before .before .before .before .before .before .before .before .clause2 .ensures .at _ _ (c .before .before .before .before .r .given .1) in
+    let R = K .closed .ready in
+    let o = K .closed .on in
+    let v₁ = K .few in
+    let k₇ : getD w j₁ 0 ≡ 7 = sym (c .before .before .kind2 .ensures) ∙ c .before .if2 .left in let g = pre₀ .0 in (omega arith, (R, omega arith, k₇))
+
+-- src/block.rt:77:17
+ending-enum-known-r2 : (t : ℕ) → ending-lts.Need-enum-known-r2 (
+  kind-reads.Asked,
+  kind-reads.Learnt,
+  clause-reads.Asked,
+  clause-reads.Learnt,
+  present-reads.Asked,
+  present-reads.Learnt,
+  block-below t,
+  block.Post,
+  span-from-reads.Asked,
+  span-from-reads.Learnt,
+  end-before-reads.Asked,
+  end-before-reads.Learnt,
+  put-span-reads.Asked,
+  put-span-reads.Learnt,
+) (ending-at t) ending.Post
+ending-enum-known-r2 t c = search needs
+
+-- src/block.rt:78:9
+ending-enum-told-2 : (t : ℕ) → ending-lts.Need-enum-told-2 (
+  kind-reads.Asked,
+  kind-reads.Learnt,
+  clause-reads.Asked,
+  clause-reads.Learnt,
+  present-reads.Asked,
+  present-reads.Learnt,
+  block-below t,
+  block.Post,
+  span-from-reads.Asked,
+  span-from-reads.Learnt,
+  end-before-reads.Asked,
+  end-before-reads.Learnt,
+  put-span-reads.Asked,
+  put-span-reads.Learnt,
+) (ending-at t) ending.Post
+ending-enum-told-2 t c = search needs
+
+-- src/block.rt:78:9
+ending-same-length-4 : (t : ℕ) → ending-lts.Need-same-length-4 (
+  kind-reads.Asked,
+  kind-reads.Learnt,
+  clause-reads.Asked,
+  clause-reads.Learnt,
+  present-reads.Asked,
+  present-reads.Learnt,
+  block-below t,
+  block.Post,
+  span-from-reads.Asked,
+  span-from-reads.Learnt,
+  end-before-reads.Asked,
+  end-before-reads.Learnt,
+  put-span-reads.Asked,
+  put-span-reads.Learnt,
+) (ending-at t) ending.Post
+ending-same-length-4 t c = search needs
+
+-- src/block.rt:78:9
+ending-returns-4 : (t : ℕ) → ending-lts.Need-returns-4 (
+  kind-reads.Asked,
+  kind-reads.Learnt,
+  clause-reads.Asked,
+  clause-reads.Learnt,
+  present-reads.Asked,
+  present-reads.Learnt,
+  block-below t,
+  block.Post,
+  span-from-reads.Asked,
+  span-from-reads.Learnt,
+  end-before-reads.Asked,
+  end-before-reads.Learnt,
+  put-span-reads.Asked,
+  put-span-reads.Learnt,
+) (ending-at t) ending.Post
+ending-returns-4 t c = let w = c .before .before .before .before .before .before .before .before .before .before .before .before .before .before .before .before .before .before .before .args .tokens .now in
+    let j₁ = c .before .before .before .before .before .before .before .before .before .r .given .0 .0 in
+    let at₀ = c .before .before .before .before .before .before .before .before .before .before .before .before .before .before .before .before .before .before .before .args .at in
+    let left₀ = c .before .before .before .before .before .before .before .before .before .before .before .before .before .before .before .before .before .before .before .args .left in
+    let pre₀ = c .before .before .before .before .before .before .before .before .before .before .before .before .before .before .before .before .before .before .before .pre .1 in
+    let K = c .before .before .before .before .before .before .before .before .before .before .before .before .before .clause2 .ensures .at _ _ (c .before .before .before .before .before .before .before .before .before .r .given .1) in
+    let k₁₃ : getD w at₀ 0 ≡ 13 = sym (c .before .before .before .before .before .before .before .before .before .before .before .before .before .before .before .before .kind .ensures) ∙ c .before .before .before .before .before .before .before .before .before .before .before .before .before .before .before .if1 .left in
+    let k₇ : getD w j₁ 0 ≡ 7 = sym (c .before .before .before .before .before .before .before .kind2 .ensures) ∙ c .before .before .before .before .before .before .if2 .left in
+    is-no (c .enum-told2 .given .1) (λ p s st f cs. end-start _ _ (pre₀ .0) _ p s st f cs (ready-next _ _ (pre₀ .0) (other _ _ _ k₁₃ refl)) k₁₃
+    ∙ K .closed .means (inArgument p s st f cs (getD w (at₀ + 6 + 4) 0)) (λ (g : Terms) (e : ℕ). blocked left₀ p s st f cs (getD w (at₀ + 6 + 4) 0) g) (λ h t y z. refl)
+    ∙ end-block _ _ (K .closed .ready) _ p s st f cs (getD w (at₀ + 6 + 4) 0) (K .g) k₇
+    ∙ c .before .before .before .before .block .ensures .no _ _ _ _ _ (c .enum-told2 .given .1) (inEnding p s st f cs (getD w (at₀ + 6 + 4) 0) (K .g)))
+
+-- src/block.rt:80:8
+ending-kind-requires-3 : (t : ℕ) → ending-lts.Need-kind-requires-3 (
+  kind-reads.Asked,
+  kind-reads.Learnt,
+  clause-reads.Asked,
+  clause-reads.Learnt,
+  present-reads.Asked,
+  present-reads.Learnt,
+  block-below t,
+  block.Post,
+  span-from-reads.Asked,
+  span-from-reads.Learnt,
+  end-before-reads.Asked,
+  end-before-reads.Learnt,
+  put-span-reads.Asked,
+  put-span-reads.Learnt,
+) (ending-at t) ending.Post
+ending-kind-requires-3 t c κs = let B = c .before .before .before .before .before .block .ensures .at _ _ (c .before .r2 .given .1) in B .ready
+
+-- src/block.rt:81:9
+ending-present-requires-2 : (t : ℕ) → ending-lts.Need-present-requires-2 (
+  kind-reads.Asked,
+  kind-reads.Learnt,
+  clause-reads.Asked,
+  clause-reads.Learnt,
+  present-reads.Asked,
+  present-reads.Learnt,
+  block-below t,
+  block.Post,
+  span-from-reads.Asked,
+  span-from-reads.Learnt,
+  end-before-reads.Asked,
+  end-before-reads.Learnt,
+  put-span-reads.Asked,
+  put-span-reads.Learnt,
+) (ending-at t) ending.Post
+ending-present-requires-2 t c κs = let B = c .before .before .before .before .before .before .before .block .ensures .at _ _ (c .before .before .before .r2 .given .1) in B .ready
+
+-- src/block.rt:81:9
+ending-same-length-5 : (t : ℕ) → ending-lts.Need-same-length-5 (
+  kind-reads.Asked,
+  kind-reads.Learnt,
+  clause-reads.Asked,
+  clause-reads.Learnt,
+  present-reads.Asked,
+  present-reads.Learnt,
+  block-below t,
+  block.Post,
+  span-from-reads.Asked,
+  span-from-reads.Learnt,
+  end-before-reads.Asked,
+  end-before-reads.Learnt,
+  put-span-reads.Asked,
+  put-span-reads.Learnt,
+) (ending-at t) ending.Post
+ending-same-length-5 t c = search needs
+
+-- src/block.rt:81:9
+ending-returns-5 : (t : ℕ) → ending-lts.Need-returns-5 (
+  kind-reads.Asked,
+  kind-reads.Learnt,
+  clause-reads.Asked,
+  clause-reads.Learnt,
+  present-reads.Asked,
+  present-reads.Learnt,
+  block-below t,
+  block.Post,
+  span-from-reads.Asked,
+  span-from-reads.Learnt,
+  end-before-reads.Asked,
+  end-before-reads.Learnt,
+  put-span-reads.Asked,
+  put-span-reads.Learnt,
+) (ending-at t) ending.Post
+ending-returns-5 t c = let w = c .before .before .before .before .before .before .before .before .before .before .before .before .before .before .before .before .before .before .before .before .before .before .before .args .tokens .now in
+    let j₁ = c .before .before .before .before .before .before .before .before .before .before .before .before .before .r .given .0 .0 in
+    let j₂ = c .before .before .before .before .r2 .given .0 .0 in
+    let at₀ = c .before .before .before .before .before .before .before .before .before .before .before .before .before .before .before .before .before .before .before .before .before .before .before .args .at in
+    let left₀ = c .before .before .before .before .before .before .before .before .before .before .before .before .before .before .before .before .before .before .before .before .before .before .before .args .left in
+    let pre₀ = c .before .before .before .before .before .before .before .before .before .before .before .before .before .before .before .before .before .before .before .before .before .before .before .pre .1 in
+    let K = c .before .before .before .before .before .before .before .before .before .before .before .before .before .before .before .before .before .clause2 .ensures .at _ _ (c .before .before .before .before .before .before .before .before .before .before .before .before .before .r .given .1) in
+    let B = c .before .before .before .before .before .before .before .before .block .ensures .at _ _ (c .before .before .before .before .r2 .given .1) in
+    let k₁₃ : getD w at₀ 0 ≡ 13 = sym (c .before .before .before .before .before .before .before .before .before .before .before .before .before .before .before .before .before .before .before .before .kind .ensures) ∙ c .before .before .before .before .before .before .before .before .before .before .before .before .before .before .before .before .before .before .before .if1 .left in
+    let k₇ : getD w j₁ 0 ≡ 7 = sym (c .before .before .before .before .before .before .before .before .before .before .before .kind2 .ensures) ∙ c .before .before .before .before .before .before .before .before .before .before .if2 .left in
+    is-no (c .present2 .ensures) (λ p s st f cs. end-start _ _ (pre₀ .0) _ p s st f cs (ready-next _ _ (pre₀ .0) (other _ _ _ k₁₃ refl)) k₁₃
+    ∙ K .closed .means (inArgument p s st f cs (getD w (at₀ + 6 + 4) 0)) (λ (g : Terms) (e : ℕ). blocked left₀ p s st f cs (getD w (at₀ + 6 + 4) 0) g) (λ h t y z. refl)
+    ∙ end-block _ _ (K .closed .ready) _ p s st f cs (getD w (at₀ + 6 + 4) 0) (K .g) k₇
+    ∙ B .means (inEnding p s st f cs (getD w (at₀ + 6 + 4) 0) (K .g))
+    ∙ leveled w j₂ left₀ (λ (d : ℕ). ended d p s st f cs (getD w (at₀ + 6 + 4) 0) (K .g) (B .v) (B .t .to)) (B .some)
+    ∙ end-unclosed _ _ (B .ready) _ p s st f cs (getD w (at₀ + 6 + 4) 0) (K .g) (B .v) (B .t .to) (λ e. c .before .if3 .taken (c .before .before .kind3 .ensures
+    ∙ e)))
+
+-- src/block.rt:83:43
+ending-span-from-requires : (t : ℕ) → ending-lts.Need-span-from-requires (
+  kind-reads.Asked,
+  kind-reads.Learnt,
+  clause-reads.Asked,
+  clause-reads.Learnt,
+  present-reads.Asked,
+  present-reads.Learnt,
+  block-below t,
+  block.Post,
+  span-from-reads.Asked,
+  span-from-reads.Learnt,
+  end-before-reads.Asked,
+  end-before-reads.Learnt,
+  put-span-reads.Asked,
+  put-span-reads.Learnt,
+) (ending-at t) ending.Post
+ending-span-from-requires t c κs = let w = c .before .before .before .before .before .before .before .before .before .before .before .before .before .before .before .before .before .before .before .before .before .before .before .args .tokens .now in
+    let at₀ = c .before .before .before .before .before .before .before .before .before .before .before .before .before .before .before .before .before .before .before .before .before .before .before .args .at in
+    let pre₀ = c .before .before .before .before .before .before .before .before .before .before .before .before .before .before .before .before .before .before .before .before .before .before .before .pre .1 in
+    let k₁₃ : getD w at₀ 0 ≡ 13 = sym (c .before .before .before .before .before .before .before .before .before .before .before .before .before .before .before .before .before .before .before .before .kind .ensures) ∙ c .before .before .before .before .before .before .before .before .before .before .before .before .before .before .before .before .before .before .before .if1 .left in (ready-next _ _ (pre₀ .0) (other _ _ _ k₁₃ refl))
+
+-- src/block.rt:83:69
+ending-end-before-requires : (t : ℕ) → ending-lts.Need-end-before-requires (
+  kind-reads.Asked,
+  kind-reads.Learnt,
+  clause-reads.Asked,
+  clause-reads.Learnt,
+  present-reads.Asked,
+  present-reads.Learnt,
+  block-below t,
+  block.Post,
+  span-from-reads.Asked,
+  span-from-reads.Learnt,
+  end-before-reads.Asked,
+  end-before-reads.Learnt,
+  put-span-reads.Asked,
+  put-span-reads.Learnt,
+) (ending-at t) ending.Post
+ending-end-before-requires t c κs = let B = c .before .before .before .before .before .before .before .before .before .block .ensures .at _ _ (c .before .before .before .before .before .r2 .given .1) in
+    let Z = B .ready in let q = B .on in let v = B .few in (B .ready, omega arith)
+
+-- src/block.rt:83:5
+ending-put-span-requires : (t : ℕ) → ending-lts.Need-put-span-requires (
+  kind-reads.Asked,
+  kind-reads.Learnt,
+  clause-reads.Asked,
+  clause-reads.Learnt,
+  present-reads.Asked,
+  present-reads.Learnt,
+  block-below t,
+  block.Post,
+  span-from-reads.Asked,
+  span-from-reads.Learnt,
+  end-before-reads.Asked,
+  end-before-reads.Learnt,
+  put-span-reads.Asked,
+  put-span-reads.Learnt,
+) (ending-at t) ending.Post
+ending-put-span-requires t c κs = let pre₀ = c .before .before .before .before .before .before .before .before .before .before .before .before .before .before .before .before .before .before .before .before .before .before .before .before .before .pre .1 in
+    let B = c .before .before .before .before .before .before .before .before .before .before .block .ensures .at _ _ (c .before .before .before .before .before .before .r2 .given .1) in
+    let Z = B .ready in let q = B .on in let v = B .few in let h = pre₀ .1 in let g = pre₀ .0 in (omega arith, omega arith)
+
+-- src/block.rt:84:16
+ending-add-next : (t : ℕ) → ending-lts.Need-add-next (
+  kind-reads.Asked,
+  kind-reads.Learnt,
+  clause-reads.Asked,
+  clause-reads.Learnt,
+  present-reads.Asked,
+  present-reads.Learnt,
+  block-below t,
+  block.Post,
+  span-from-reads.Asked,
+  span-from-reads.Learnt,
+  end-before-reads.Asked,
+  end-before-reads.Learnt,
+  put-span-reads.Asked,
+  put-span-reads.Learnt,
+) (ending-at t) ending.Post
+ending-add-next t c = let B = c .before .before .before .before .before .before .before .before .before .before .before .before .before .block .ensures .at _ _ (c .before .before .before .before .before .before .before .before .before .r2 .given .1) in let Z = B .ready in let q = B .on in let v = B .few in omega arith
+
+-- src/block.rt:60:1
+ending-same-length-6 : (t : ℕ) → ending-lts.Need-same-length-6 (
+  kind-reads.Asked,
+  kind-reads.Learnt,
+  clause-reads.Asked,
+  clause-reads.Learnt,
+  present-reads.Asked,
+  present-reads.Learnt,
+  block-below t,
+  block.Post,
+  span-from-reads.Asked,
+  span-from-reads.Learnt,
+  end-before-reads.Asked,
+  end-before-reads.Learnt,
+  put-span-reads.Asked,
+  put-span-reads.Learnt,
+) (ending-at t) ending.Post
+ending-same-length-6 t c = search needs
+
+-- src/block.rt:60:1
+ending-returns-6 : (t : ℕ) → ending-lts.Need-returns-6 (
+  kind-reads.Asked,
+  kind-reads.Learnt,
+  clause-reads.Asked,
+  clause-reads.Learnt,
+  present-reads.Asked,
+  present-reads.Learnt,
+  block-below t,
+  block.Post,
+  span-from-reads.Asked,
+  span-from-reads.Learnt,
+  end-before-reads.Asked,
+  end-before-reads.Learnt,
+  put-span-reads.Asked,
+  put-span-reads.Learnt,
+) (ending-at t) ending.Post
+ending-returns-6 t c = let w = c .before .before .before .before .before .before .before .before .before .before .before .before .before .before .before .before .before .before .before .before .before .before .before .before .before .before .before .before .args .tokens .now in
+    let j₁ = c .before .before .before .before .before .before .before .before .before .before .before .before .before .before .before .before .before .before .r .given .0 .0 in
+    let j₂ = c .before .before .before .before .before .before .before .before .before .r2 .given .0 .0 in
+    let at₀ = c .before .before .before .before .before .before .before .before .before .before .before .before .before .before .before .before .before .before .before .before .before .before .before .before .before .before .before .before .args .at in
+    let left₀ = c .before .before .before .before .before .before .before .before .before .before .before .before .before .before .before .before .before .before .before .before .before .before .before .before .before .before .before .before .args .left in
+    let pre₀ = c .before .before .before .before .before .before .before .before .before .before .before .before .before .before .before .before .before .before .before .before .before .before .before .before .before .before .before .before .pre .1 in
+    let K = c .before .before .before .before .before .before .before .before .before .before .before .before .before .before .before .before .before .before .before .before .before .before .clause2 .ensures .at _ _ (c .before .before .before .before .before .before .before .before .before .before .before .before .before .before .before .before .before .before .r .given .1) in
+    let B = c .before .before .before .before .before .before .before .before .before .before .before .before .before .block .ensures .at _ _ (c .before .before .before .before .before .before .before .before .before .r2 .given .1) in
+    let k₁₃ : getD w at₀ 0 ≡ 13 = sym (c .before .before .before .before .before .before .before .before .before .before .before .before .before .before .before .before .before .before .before .before .before .before .before .before .before .kind .ensures) ∙ c .before .before .before .before .before .before .before .before .before .before .before .before .before .before .before .before .before .before .before .before .before .before .before .before .if1 .left in
+    let k₇ : getD w j₁ 0 ≡ 7 = sym (c .before .before .before .before .before .before .before .before .before .before .before .before .before .before .before .before .kind2 .ensures) ∙ c .before .before .before .before .before .before .before .before .before .before .before .before .before .before .before .if2 .left in
+    let k₁₆ : getD w j₂ 0 ≡ 16 = sym (c .before .before .before .before .before .before .before .kind3 .ensures) ∙ c .before .before .before .before .before .before .if3 .left in
+    is-at refl (record {
+      x = endBlock (getD w (at₀ + 6 + 4) 0) (K .g) (B .v) (B .t .to);
+      e = getD w (j₂ + 5) 0;
+      ready = ready-next _ _ (B .ready) (other _ _ _ k₁₆ refl);
+      on = let o = K .closed .on in let q = B .on in omega arith;
+      few = let v = B .few in omega arith;
+      rows = let h₁ = K .rows in let h₂ = B .rows in let h₃ = K .count in let h₄ = B .count in let h₅ = B .last in cc;
+      count = let h₃ = K .count in let h₄ = B .count in omega arith;
+      last = end-before w j₂;
+      means = λ p s st f cs. end-start _ _ (pre₀ .0) _ p s st f cs (ready-next _ _ (pre₀ .0) (other _ _ _ k₁₃ refl)) k₁₃
+          ∙ K .closed .means (inArgument p s st f cs (getD w (at₀ + 6 + 4) 0)) (λ (g : Terms) (e : ℕ). blocked left₀ p s st f cs (getD w (at₀ + 6 + 4) 0) g) (λ h t y z. refl)
+          ∙ end-block _ _ (K .closed .ready) _ p s st f cs (getD w (at₀ + 6 + 4) 0) (K .g) k₇
+          ∙ B .means (inEnding p s st f cs (getD w (at₀ + 6 + 4) 0) (K .g))
+          ∙ leveled w j₂ left₀ (λ (d : ℕ). ended d p s st f cs (getD w (at₀ + 6 + 4) 0) (K .g) (B .v) (B .t .to)) (B .some)
+          ∙ end-closed _ _ (B .ready) _ p s st f cs (getD w (at₀ + 6 + 4) 0) (K .g) (B .v) (B .t .to) k₁₆;
+    })
+
+abbrev sentence-Inv-loop : sentence-lts.InvT-loop
+sentence-Inv-loop tokens rows₀ at n left first j m i₀ k₀ rows i k = CondsInv tokens rows₀ rows j m left i k
+
+abbrev sentence-μ-loop : sentence-lts.MeasureT-loop
+sentence-μ-loop tokens rows₀ at n left first j m i₀ k₀ rows i k = length tokens - i
+
+-- src/block.rt:93:17
+sentence-add-first : (t : ℕ) → sentence-lts.Need-add-first (
+  pattern-reads.Asked,
+  pattern-reads.Learnt,
+  kind-reads.Asked,
+  kind-reads.Learnt,
+  condition-below t,
+  condition.Post,
+  ending-below t,
+  ending.Post,
+  span-from-reads.Asked,
+  span-from-reads.Learnt,
+  end-before-reads.Asked,
+  end-before-reads.Learnt,
+  put-span-reads.Asked,
+  put-span-reads.Learnt,
+) (sentence-at t) sentence.Post sentence-Inv-loop sentence-μ-loop
+sentence-add-first t c = let pre₀ = c .before .before .pre .1 in
+    let R = pre₀ .0 in let h = pre₀ .1 in omega arith
+
+-- src/block.rt:94:9
+sentence-pattern-requires : (t : ℕ) → sentence-lts.Need-pattern-requires (
+  pattern-reads.Asked,
+  pattern-reads.Learnt,
+  kind-reads.Asked,
+  kind-reads.Learnt,
+  condition-below t,
+  condition.Post,
+  ending-below t,
+  ending.Post,
+  span-from-reads.Asked,
+  span-from-reads.Learnt,
+  end-before-reads.Asked,
+  end-before-reads.Learnt,
+  put-span-reads.Asked,
+  put-span-reads.Learnt,
+) (sentence-at t) sentence.Post sentence-Inv-loop sentence-μ-loop
+sentence-pattern-requires t c κs = let pre₀ = c .before .before .before .pre .1 in
+    let h = pre₀ .1 in (pre₀ .0, omega arith)
+
+-- src/block.rt:95:17
+sentence-enum-known-r : (t : ℕ) → sentence-lts.Need-enum-known-r (
+  pattern-reads.Asked,
+  pattern-reads.Learnt,
+  kind-reads.Asked,
+  kind-reads.Learnt,
+  condition-below t,
+  condition.Post,
+  ending-below t,
+  ending.Post,
+  span-from-reads.Asked,
+  span-from-reads.Learnt,
+  end-before-reads.Asked,
+  end-before-reads.Learnt,
+  put-span-reads.Asked,
+  put-span-reads.Learnt,
+) (sentence-at t) sentence.Post sentence-Inv-loop sentence-μ-loop
+sentence-enum-known-r t c = search needs
+
+-- src/block.rt:96:9
+sentence-enum-told : (t : ℕ) → sentence-lts.Need-enum-told (
+  pattern-reads.Asked,
+  pattern-reads.Learnt,
+  kind-reads.Asked,
+  kind-reads.Learnt,
+  condition-below t,
+  condition.Post,
+  ending-below t,
+  ending.Post,
+  span-from-reads.Asked,
+  span-from-reads.Learnt,
+  end-before-reads.Asked,
+  end-before-reads.Learnt,
+  put-span-reads.Asked,
+  put-span-reads.Learnt,
+) (sentence-at t) sentence.Post sentence-Inv-loop sentence-μ-loop
+sentence-enum-told t c = search needs
+
+-- src/block.rt:96:9
+sentence-same-length : (t : ℕ) → sentence-lts.Need-same-length (
+  pattern-reads.Asked,
+  pattern-reads.Learnt,
+  kind-reads.Asked,
+  kind-reads.Learnt,
+  condition-below t,
+  condition.Post,
+  ending-below t,
+  ending.Post,
+  span-from-reads.Asked,
+  span-from-reads.Learnt,
+  end-before-reads.Asked,
+  end-before-reads.Learnt,
+  put-span-reads.Asked,
+  put-span-reads.Learnt,
+) (sentence-at t) sentence.Post sentence-Inv-loop sentence-μ-loop
+sentence-same-length t c = search needs
+
+-- src/block.rt:96:9
+sentence-returns : (t : ℕ) → sentence-lts.Need-returns (
+  pattern-reads.Asked,
+  pattern-reads.Learnt,
+  kind-reads.Asked,
+  kind-reads.Learnt,
+  condition-below t,
+  condition.Post,
+  ending-below t,
+  ending.Post,
+  span-from-reads.Asked,
+  span-from-reads.Learnt,
+  end-before-reads.Asked,
+  end-before-reads.Learnt,
+  put-span-reads.Asked,
+  put-span-reads.Learnt,
+) (sentence-at t) sentence.Post sentence-Inv-loop sentence-μ-loop
+sentence-returns t c = let w = c .before .before .before .before .before .before .before .before .args .tokens .now in
+    let at₀ = c .before .before .before .before .before .before .before .before .args .at in
+    is-no (c .enum-told .given .1) (λ p s. c .before .before .before .before .pattern .ensures .no _ _ _ _ _ (c .enum-told .given .1) (inPattern p s (getD w (at₀ + 4) 0)) p s (getD w (at₀ + 4) 0) (λ (g : Terms). g) (λ (g : Terms). c0) (λ h t y z. refl))
+
+-- src/block.rt:100:5
+sentence-loop-holds : (t : ℕ) → sentence-lts.Need-loop-holds (
+  pattern-reads.Asked,
+  pattern-reads.Learnt,
+  kind-reads.Asked,
+  kind-reads.Learnt,
+  condition-below t,
+  condition.Post,
+  ending-below t,
+  ending.Post,
+  span-from-reads.Asked,
+  span-from-reads.Learnt,
+  end-before-reads.Asked,
+  end-before-reads.Learnt,
+  put-span-reads.Asked,
+  put-span-reads.Learnt,
+) (sentence-at t) sentence.Post sentence-Inv-loop sentence-μ-loop
+unfolding sizeC wC
+sentence-loop-holds t c = let Q = c .before .before .before .before .before .pattern .ensures .at _ _ (c .before .r .given .1) in
+    record { cs = c0; ready = Q .ready; joint = Q .joint; on = omega arith; few = Q .few; same = refl; rows = refl; count = omega arith; means = λ p s st f. refl }
+
+-- src/block.rt:100:11
+sentence-kind-requires : (t : ℕ) → sentence-lts.Need-kind-requires (
+  pattern-reads.Asked,
+  pattern-reads.Learnt,
+  kind-reads.Asked,
+  kind-reads.Learnt,
+  condition-below t,
+  condition.Post,
+  ending-below t,
+  ending.Post,
+  span-from-reads.Asked,
+  span-from-reads.Learnt,
+  end-before-reads.Asked,
+  end-before-reads.Learnt,
+  put-span-reads.Asked,
+  put-span-reads.Learnt,
+) (sentence-at t) sentence.Post sentence-Inv-loop sentence-μ-loop
+sentence-kind-requires t c κs = c .loop .inv .ready
+
+-- src/block.rt:101:13
+sentence-condition-requires : (t : ℕ) → sentence-lts.Need-condition-requires (
+  pattern-reads.Asked,
+  pattern-reads.Learnt,
+  kind-reads.Asked,
+  kind-reads.Learnt,
+  condition-below t,
+  condition.Post,
+  ending-below t,
+  ending.Post,
+  span-from-reads.Asked,
+  span-from-reads.Learnt,
+  end-before-reads.Asked,
+  end-before-reads.Learnt,
+  put-span-reads.Asked,
+  put-span-reads.Learnt,
+) (sentence-at t) sentence.Post sentence-Inv-loop sentence-μ-loop
+sentence-condition-requires t c κs = let w = c .before .before .before .before .before .before .before .before .before .before .before .before .before .args .tokens .now in
+    let i₀ = c .before .before .before .loop .i in
+    let pre₀ = c .before .before .before .before .before .before .before .before .before .before .before .before .before .pre .1 in
+    let I = c .before .before .before .loop .inv in
+    let Q = c .before .before .before .before .before .before .before .before .before .pattern .ensures .at _ _ (c .before .before .before .before .before .r .given .1) in
+    let k₁₃ : getD w i₀ 0 ≡ 13 = sym (c .before .before .kind .ensures) ∙ c .before .if1 .taken in
+    let o = I .on in let q = Q .on in let R = I .ready in let g = pre₀ .0 in (omega arith, (I .ready, I .few, k₁₃))
+
+-- src/block.rt:102:21
+sentence-enum-known-r2 : (t : ℕ) → sentence-lts.Need-enum-known-r2 (
+  pattern-reads.Asked,
+  pattern-reads.Learnt,
+  kind-reads.Asked,
+  kind-reads.Learnt,
+  condition-below t,
+  condition.Post,
+  ending-below t,
+  ending.Post,
+  span-from-reads.Asked,
+  span-from-reads.Learnt,
+  end-before-reads.Asked,
+  end-before-reads.Learnt,
+  put-span-reads.Asked,
+  put-span-reads.Learnt,
+) (sentence-at t) sentence.Post sentence-Inv-loop sentence-μ-loop
+sentence-enum-known-r2 t c = search needs
+
+-- src/block.rt:103:13
+sentence-enum-told-2 : (t : ℕ) → sentence-lts.Need-enum-told-2 (
+  pattern-reads.Asked,
+  pattern-reads.Learnt,
+  kind-reads.Asked,
+  kind-reads.Learnt,
+  condition-below t,
+  condition.Post,
+  ending-below t,
+  ending.Post,
+  span-from-reads.Asked,
+  span-from-reads.Learnt,
+  end-before-reads.Asked,
+  end-before-reads.Learnt,
+  put-span-reads.Asked,
+  put-span-reads.Learnt,
+) (sentence-at t) sentence.Post sentence-Inv-loop sentence-μ-loop
+sentence-enum-told-2 t c = search needs
+
+-- src/block.rt:103:13
+sentence-same-length-2 : (t : ℕ) → sentence-lts.Need-same-length-2 (
+  pattern-reads.Asked,
+  pattern-reads.Learnt,
+  kind-reads.Asked,
+  kind-reads.Learnt,
+  condition-below t,
+  condition.Post,
+  ending-below t,
+  ending.Post,
+  span-from-reads.Asked,
+  span-from-reads.Learnt,
+  end-before-reads.Asked,
+  end-before-reads.Learnt,
+  put-span-reads.Asked,
+  put-span-reads.Learnt,
+) (sentence-at t) sentence.Post sentence-Inv-loop sentence-μ-loop
+sentence-same-length-2 t c = let I = c .before .before .before .before .before .before .before .before .loop .inv in
+    c .before .before .before .before .condition .kept .1 .0
+    ∙ I .same
+    ∙ c .before .before .before .before .before .before .before .before .before .before .before .before .before .before .pattern .kept .1 .0
+
+-- src/block.rt:103:13
+sentence-returns-2 : (t : ℕ) → sentence-lts.Need-returns-2 (
+  pattern-reads.Asked,
+  pattern-reads.Learnt,
+  kind-reads.Asked,
+  kind-reads.Learnt,
+  condition-below t,
+  condition.Post,
+  ending-below t,
+  ending.Post,
+  span-from-reads.Asked,
+  span-from-reads.Learnt,
+  end-before-reads.Asked,
+  end-before-reads.Learnt,
+  put-span-reads.Asked,
+  put-span-reads.Learnt,
+) (sentence-at t) sentence.Post sentence-Inv-loop sentence-μ-loop
+sentence-returns-2 t c = let w = c .before .before .before .before .before .before .before .before .before .before .before .before .before .before .before .before .before .before .args .tokens .now in
+    let at₀ = c .before .before .before .before .before .before .before .before .before .before .before .before .before .before .before .before .before .before .args .at in
+    let Q = c .before .before .before .before .before .before .before .before .before .before .before .before .before .before .pattern .ensures .at _ _ (c .before .before .before .before .before .before .before .before .before .before .r .given .1) in
+    let I = c .before .before .before .before .before .before .before .before .loop .inv in
+    is-no (c .enum-told2 .given .1) (λ p s. Q .means (inPattern p s (getD w (at₀ + 4) 0)) p s (getD w (at₀ + 4) 0) (λ (g : Terms). g) (λ (g : Terms). c0) (λ h t y z. refl)
+    ∙ I .means p s (getD w (at₀ + 4) 0) (Q .g)
+    ∙ c .before .before .before .before .condition .ensures .no _ _ _ _ _ (c .enum-told2 .given .1) p s (getD w (at₀ + 4) 0) (Q .g) (I .cs))
+
+-- src/block.rt:100:5
+sentence-loop-less : (t : ℕ) → sentence-lts.Need-loop-less (
+  pattern-reads.Asked,
+  pattern-reads.Learnt,
+  kind-reads.Asked,
+  kind-reads.Learnt,
+  condition-below t,
+  condition.Post,
+  ending-below t,
+  ending.Post,
+  span-from-reads.Asked,
+  span-from-reads.Learnt,
+  end-before-reads.Asked,
+  end-before-reads.Learnt,
+  put-span-reads.Asked,
+  put-span-reads.Learnt,
+) (sentence-at t) sentence.Post sentence-Inv-loop sentence-μ-loop
+sentence-loop-less t c = let X = c .before .before .before .before .before .condition .ensures .at _ _ (c .before .r2 .given .1) in let R = X .ready in let q = X .on in omega arith
+
+-- src/block.rt:100:5
+sentence-loop-again : (t : ℕ) → sentence-lts.Need-loop-again (
+  pattern-reads.Asked,
+  pattern-reads.Learnt,
+  kind-reads.Asked,
+  kind-reads.Learnt,
+  condition-below t,
+  condition.Post,
+  ending-below t,
+  ending.Post,
+  span-from-reads.Asked,
+  span-from-reads.Learnt,
+  end-before-reads.Asked,
+  end-before-reads.Learnt,
+  put-span-reads.Asked,
+  put-span-reads.Learnt,
+) (sentence-at t) sentence.Post sentence-Inv-loop sentence-μ-loop
+sentence-loop-again t c = let I = c .before .before .before .before .before .before .before .before .before .loop .inv in
+    let X = c .before .before .before .before .before .condition .ensures .at _ _ (c .before .r2 .given .1) in
+    record {
+      cs = addC (I .cs) (X .x);
+      ready = X .ready;
+      joint = X .joint;
+      on = let h = X .on in let g = I .on in omega arith;
+      few = X .few;
+      same = c .before .before .before .before .before .condition .kept .1 .0 ∙ I .same;
+      rows = more-conditions (I .cs) (X .x) _ _ _ _ _ (I .count) (I .rows) (X .rows);
+      count = let h = X .count in let g = I .count in omega (arith, size-conditions (I .cs) (X .x));
+      means = λ p s st f. I .means p s st f ∙ X .means p s st f (I .cs);
+    }
+
+-- src/block.rt:108:17
+sentence-add-after : (t : ℕ) → sentence-lts.Need-add-after (
+  pattern-reads.Asked,
+  pattern-reads.Learnt,
+  kind-reads.Asked,
+  kind-reads.Learnt,
+  condition-below t,
+  condition.Post,
+  ending-below t,
+  ending.Post,
+  span-from-reads.Asked,
+  span-from-reads.Learnt,
+  end-before-reads.Asked,
+  end-before-reads.Learnt,
+  put-span-reads.Asked,
+  put-span-reads.Learnt,
+) (sentence-at t) sentence.Post sentence-Inv-loop sentence-μ-loop
+sentence-add-after t c = let I = c .before .before .loop .inv in let R = I .ready in omega arith
+
+-- src/block.rt:109:9
+sentence-ending-requires : (t : ℕ) → sentence-lts.Need-ending-requires (
+  pattern-reads.Asked,
+  pattern-reads.Learnt,
+  kind-reads.Asked,
+  kind-reads.Learnt,
+  condition-below t,
+  condition.Post,
+  ending-below t,
+  ending.Post,
+  span-from-reads.Asked,
+  span-from-reads.Learnt,
+  end-before-reads.Asked,
+  end-before-reads.Learnt,
+  put-span-reads.Asked,
+  put-span-reads.Learnt,
+) (sentence-at t) sentence.Post sentence-Inv-loop sentence-μ-loop
+sentence-ending-requires t c κs = let w = c .before .before .before .before .before .before .before .before .before .before .before .before .before .args .tokens .now in
+    let i₀ = c .before .before .before .loop .i in
+    let pre₀ = c .before .before .before .before .before .before .before .before .before .before .before .before .before .pre .1 in
+    let I = c .before .before .before .loop .inv in
+    let Q = c .before .before .before .before .before .before .before .before .before .pattern .ensures .at _ _ (c .before .before .before .before .before .r .given .1) in
+    let k₁₅ : getD w i₀ 0 ≡ 15 = c .before .before .before .loop .inv .joint (λ e. c .before .if1 .left (c .before .before .kind .ensures ∙ e)) in
+    let o = I .on in
+    let q = Q .on in
+    let R = I .ready in
+    let v = I .few in let g = pre₀ .0 in (omega arith, (ready-next _ _ (I .ready) (other _ _ _ k₁₅ refl), omega arith))
+
+-- src/block.rt:110:17
+sentence-enum-known-r3 : (t : ℕ) → sentence-lts.Need-enum-known-r3 (
+  pattern-reads.Asked,
+  pattern-reads.Learnt,
+  kind-reads.Asked,
+  kind-reads.Learnt,
+  condition-below t,
+  condition.Post,
+  ending-below t,
+  ending.Post,
+  span-from-reads.Asked,
+  span-from-reads.Learnt,
+  end-before-reads.Asked,
+  end-before-reads.Learnt,
+  put-span-reads.Asked,
+  put-span-reads.Learnt,
+) (sentence-at t) sentence.Post sentence-Inv-loop sentence-μ-loop
+sentence-enum-known-r3 t c = search needs
+
+-- src/block.rt:111:9
+sentence-enum-told-3 : (t : ℕ) → sentence-lts.Need-enum-told-3 (
+  pattern-reads.Asked,
+  pattern-reads.Learnt,
+  kind-reads.Asked,
+  kind-reads.Learnt,
+  condition-below t,
+  condition.Post,
+  ending-below t,
+  ending.Post,
+  span-from-reads.Asked,
+  span-from-reads.Learnt,
+  end-before-reads.Asked,
+  end-before-reads.Learnt,
+  put-span-reads.Asked,
+  put-span-reads.Learnt,
+) (sentence-at t) sentence.Post sentence-Inv-loop sentence-μ-loop
+sentence-enum-told-3 t c = search needs
+
+-- src/block.rt:111:9
+sentence-same-length-3 : (t : ℕ) → sentence-lts.Need-same-length-3 (
+  pattern-reads.Asked,
+  pattern-reads.Learnt,
+  kind-reads.Asked,
+  kind-reads.Learnt,
+  condition-below t,
+  condition.Post,
+  ending-below t,
+  ending.Post,
+  span-from-reads.Asked,
+  span-from-reads.Learnt,
+  end-before-reads.Asked,
+  end-before-reads.Learnt,
+  put-span-reads.Asked,
+  put-span-reads.Learnt,
+) (sentence-at t) sentence.Post sentence-Inv-loop sentence-μ-loop
+sentence-same-length-3 t c = let I = c .before .before .before .before .before .before .before .before .loop .inv in
+    c .before .before .before .before .ending .kept .1 .0
+    ∙ I .same
+    ∙ c .before .before .before .before .before .before .before .before .before .before .before .before .before .before .pattern .kept .1 .0
+
+-- src/block.rt:111:9
+sentence-returns-3 : (t : ℕ) → sentence-lts.Need-returns-3 (
+  pattern-reads.Asked,
+  pattern-reads.Learnt,
+  kind-reads.Asked,
+  kind-reads.Learnt,
+  condition-below t,
+  condition.Post,
+  ending-below t,
+  ending.Post,
+  span-from-reads.Asked,
+  span-from-reads.Learnt,
+  end-before-reads.Asked,
+  end-before-reads.Learnt,
+  put-span-reads.Asked,
+  put-span-reads.Learnt,
+) (sentence-at t) sentence.Post sentence-Inv-loop sentence-μ-loop
+sentence-returns-3 t c = let w = c .before .before .before .before .before .before .before .before .before .before .before .before .before .before .before .before .before .before .args .tokens .now in
+    let at₀ = c .before .before .before .before .before .before .before .before .before .before .before .before .before .before .before .before .before .before .args .at in
+    let i₀ = c .before .before .before .before .before .before .before .before .loop .i in
+    let Q = c .before .before .before .before .before .before .before .before .before .before .before .before .before .before .pattern .ensures .at _ _ (c .before .before .before .before .before .before .before .before .before .before .r .given .1) in
+    let I = c .before .before .before .before .before .before .before .before .loop .inv in
+    let k₁₅ : getD w i₀ 0 ≡ 15 = c .before .before .before .before .before .before .before .before .loop .inv .joint (λ e. c .before .before .before .before .before .before .if1 .left (c .before .before .before .before .before .before .before .kind .ensures ∙ e)) in
+    is-no (c .enum-told3 .given .1) (λ p s. Q .means (inPattern p s (getD w (at₀ + 4) 0)) p s (getD w (at₀ + 4) 0) (λ (g : Terms). g) (λ (g : Terms). c0) (λ h t y z. refl)
+    ∙ I .means p s (getD w (at₀ + 4) 0) (Q .g) ∙ cond-equals _ _ (I .ready) _ p s (getD w (at₀ + 4) 0) (Q .g) (I .cs) k₁₅
+    ∙ c .before .before .before .before .ending .ensures .no _ _ _ _ _ (c .enum-told3 .given .1) p s (getD w (at₀ + 4) 0) (Q .g) (I .cs))
+
+-- src/block.rt:113:39
+sentence-span-from-requires : (t : ℕ) → sentence-lts.Need-span-from-requires (
+  pattern-reads.Asked,
+  pattern-reads.Learnt,
+  kind-reads.Asked,
+  kind-reads.Learnt,
+  condition-below t,
+  condition.Post,
+  ending-below t,
+  ending.Post,
+  span-from-reads.Asked,
+  span-from-reads.Learnt,
+  end-before-reads.Asked,
+  end-before-reads.Learnt,
+  put-span-reads.Asked,
+  put-span-reads.Learnt,
+) (sentence-at t) sentence.Post sentence-Inv-loop sentence-μ-loop
+sentence-span-from-requires t c κs = let pre₀ = c .before .before .before .before .before .before .before .before .before .before .before .before .before .before .before .before .before .before .before .before .pre .1 in
+    pre₀ .0
+
+-- src/block.rt:113:62
+sentence-end-before-requires : (t : ℕ) → sentence-lts.Need-end-before-requires (
+  pattern-reads.Asked,
+  pattern-reads.Learnt,
+  kind-reads.Asked,
+  kind-reads.Learnt,
+  condition-below t,
+  condition.Post,
+  ending-below t,
+  ending.Post,
+  span-from-reads.Asked,
+  span-from-reads.Learnt,
+  end-before-reads.Asked,
+  end-before-reads.Learnt,
+  put-span-reads.Asked,
+  put-span-reads.Learnt,
+) (sentence-at t) sentence.Post sentence-Inv-loop sentence-μ-loop
+sentence-end-before-requires t c κs = let N = c .before .before .before .before .before .before .before .ending .ensures .at _ _ (c .before .before .before .r3 .given .1) in let q = N .on in (N .ready, omega arith)
+
+-- src/block.rt:113:5
+sentence-put-span-requires : (t : ℕ) → sentence-lts.Need-put-span-requires (
+  pattern-reads.Asked,
+  pattern-reads.Learnt,
+  kind-reads.Asked,
+  kind-reads.Learnt,
+  condition-below t,
+  condition.Post,
+  ending-below t,
+  ending.Post,
+  span-from-reads.Asked,
+  span-from-reads.Learnt,
+  end-before-reads.Asked,
+  end-before-reads.Learnt,
+  put-span-reads.Asked,
+  put-span-reads.Learnt,
+) (sentence-at t) sentence.Post sentence-Inv-loop sentence-μ-loop
+sentence-put-span-requires t c κs = let pre₀ = c .before .before .before .before .before .before .before .before .before .before .before .before .before .before .before .before .before .before .before .before .before .before .pre .1 in
+    let N = c .before .before .before .before .before .before .before .before .ending .ensures .at _ _ (c .before .before .before .before .r3 .given .1) in
+    let R = N .ready in let v = N .few in let h = pre₀ .1 in let g = pre₀ .0 in (omega arith, omega arith)
+
+-- src/block.rt:89:1
+sentence-same-length-4 : (t : ℕ) → sentence-lts.Need-same-length-4 (
+  pattern-reads.Asked,
+  pattern-reads.Learnt,
+  kind-reads.Asked,
+  kind-reads.Learnt,
+  condition-below t,
+  condition.Post,
+  ending-below t,
+  ending.Post,
+  span-from-reads.Asked,
+  span-from-reads.Learnt,
+  end-before-reads.Asked,
+  end-before-reads.Learnt,
+  put-span-reads.Asked,
+  put-span-reads.Learnt,
+) (sentence-at t) sentence.Post sentence-Inv-loop sentence-μ-loop
+sentence-same-length-4 t c = let I = c .before .before .before .before .before .before .before .before .before .before .before .before .before .before .before .loop .inv in
+    c .before .before .put-span .kept .0
+    ∙ c .before .before .before .before .before .before .before .before .before .before .before .ending .kept .1 .0
+    ∙ I .same
+    ∙ c .before .before .before .before .before .before .before .before .before .before .before .before .before .before .before .before .before .before .before .before .before .pattern .kept .1 .0
+
+-- src/block.rt:89:1
+sentence-returns-4 : (t : ℕ) → sentence-lts.Need-returns-4 (
+  pattern-reads.Asked,
+  pattern-reads.Learnt,
+  kind-reads.Asked,
+  kind-reads.Learnt,
+  condition-below t,
+  condition.Post,
+  ending-below t,
+  ending.Post,
+  span-from-reads.Asked,
+  span-from-reads.Learnt,
+  end-before-reads.Asked,
+  end-before-reads.Learnt,
+  put-span-reads.Asked,
+  put-span-reads.Learnt,
+) (sentence-at t) sentence.Post sentence-Inv-loop sentence-μ-loop
+sentence-returns-4 t c = let w = c .before .before .before .before .before .before .before .before .before .before .before .before .before .before .before .before .before .before .before .before .before .before .before .before .before .args .tokens .now in
+    let at₀ = c .before .before .before .before .before .before .before .before .before .before .before .before .before .before .before .before .before .before .before .before .before .before .before .before .before .args .at in
+    let i₀ = c .before .before .before .before .before .before .before .before .before .before .before .before .before .before .before .loop .i in
+    let Q = c .before .before .before .before .before .before .before .before .before .before .before .before .before .before .before .before .before .before .before .before .before .pattern .ensures .at _ _ (c .before .before .before .before .before .before .before .before .before .before .before .before .before .before .before .before .before .r .given .1) in
+    let I = c .before .before .before .before .before .before .before .before .before .before .before .before .before .before .before .loop .inv in
+    let N = c .before .before .before .before .before .before .before .before .before .before .before .ending .ensures .at _ _ (c .before .before .before .before .before .before .before .r3 .given .1) in
+    let k₁₅ : getD w i₀ 0 ≡ 15 = c .before .before .before .before .before .before .before .before .before .before .before .before .before .before .before .loop .inv .joint (λ e. c .before .before .before .before .before .before .before .before .before .before .before .before .before .if1 .left (c .before .before .before .before .before .before .before .before .before .before .before .before .before .before .kind .ensures ∙ e)) in
+    is-at refl (record {
+      f = Q .g;
+      cs = I .cs;
+      x = N .x;
+      e = N .e;
+      ready = N .ready;
+      on = let h₁ = Q .on in let h₂ = I .on in let h₃ = N .on in omega arith;
+      few = N .few;
+      rows = let h₁ = Q .rows in let h₂ = I .rows in let h₃ = N .rows in let h₄ = Q .count in let h₅ = I .count in let h₆ = N .count in let h₇ = N .last in cc;
+      count = let h₄ = Q .count in let h₅ = I .count in let h₆ = N .count in cc;
+      means = λ p s. Q .means (inPattern p s (getD w (at₀ + 4) 0)) p s (getD w (at₀ + 4) 0) (λ (g : Terms). g) (λ (g : Terms). c0) (λ h t y z. refl)
+          ∙ I .means p s (getD w (at₀ + 4) 0) (Q .g) ∙ cond-equals _ _ (I .ready) _ p s (getD w (at₀ + 4) 0) (Q .g) (I .cs) k₁₅
+          ∙ N .means p s (getD w (at₀ + 4) 0) (Q .g) (I .cs);
+    })
+
+pub +block+condition+ending+sentence-spec : {M : Type 1} → statement M
++block+condition+ending+sentence-spec =
+    close μ-block μ-condition μ-ending μ-sentence (λ t. block-lts.spec (
+      present-reads.Asked,
+      present-reads.Learnt,
+      kind-reads.Asked,
+      kind-reads.Learnt,
+      sentence-below t,
+      sentence.Post,
+    )
+    (block-at t)
+    block.Post
+    block-Inv-loop
+    block-μ-loop
+    (block-present-requires t)
+    (block-returns t)
+    (block-sub-under t)
+    (block-add-i t)
+    (block-loop-holds t)
+    (block-kind-requires t)
+    (block-kind-requires-2 t)
+    (block-present-requires-2 t)
+    (block-same-length t)
+    (block-returns-2 t)
+    (block-sentence-requires t)
+    (block-enum-known-r t)
+    (block-enum-told t)
+    (block-same-length-2 t)
+    (block-returns-3 t)
+    (block-loop-less t)
+    (block-loop-again t)
+    (block-add-next t)
+    (block-same-length-3 t)
+    (block-returns-4 t))
+    (λ t. condition-lts.spec (
+      clause-reads.Asked,
+      clause-reads.Learnt,
+      kind-reads.Asked,
+      kind-reads.Learnt,
+      block-below t,
+      block.Post,
+      span-from-reads.Asked,
+      span-from-reads.Learnt,
+      end-before-reads.Asked,
+      end-before-reads.Learnt,
+      put-span-reads.Asked,
+      put-span-reads.Learnt,
+      joins-reads.Asked,
+      joins-reads.Learnt,
+      pattern-reads.Asked,
+      pattern-reads.Learnt,
+    )
+    (condition-at t)
+    condition.Post
+    (condition-add-start t)
+    (condition-add-first t)
+    (condition-clause-requires t)
+    (condition-enum-known-r t)
+    (condition-enum-told t)
+    (condition-same-length t)
+    (condition-returns t)
+    (condition-kind-requires t)
+    (condition-add-row t)
+    (condition-block-requires t)
+    (condition-enum-known-r2 t)
+    (condition-enum-told-2 t)
+    (condition-same-length-2 t)
+    (condition-returns-2 t)
+    (condition-span-from-requires t)
+    (condition-end-before-requires t)
+    (condition-put-span-requires t)
+    (condition-span-from-requires-2 t)
+    (condition-end-before-requires-2 t)
+    (condition-put-span-requires-2 t)
+    (condition-joins-requires t)
+    (condition-same-length-3 t)
+    (condition-returns-3 t)
+    (condition-pattern-requires t)
+    (condition-enum-known-r3 t)
+    (condition-enum-told-3 t)
+    (condition-same-length-4 t)
+    (condition-returns-4 t)
+    (condition-span-from-requires-3 t)
+    (condition-end-before-requires-3 t)
+    (condition-put-span-requires-3 t)
+    (condition-same-length-5 t)
+    (condition-returns-5 t))
+    (λ t. ending-lts.spec (
+      kind-reads.Asked,
+      kind-reads.Learnt,
+      clause-reads.Asked,
+      clause-reads.Learnt,
+      present-reads.Asked,
+      present-reads.Learnt,
+      block-below t,
+      block.Post,
+      span-from-reads.Asked,
+      span-from-reads.Learnt,
+      end-before-reads.Asked,
+      end-before-reads.Learnt,
+      put-span-reads.Asked,
+      put-span-reads.Learnt,
+    )
+    (ending-at t)
+    ending.Post
+    (ending-kind-requires t)
+    (ending-clause-requires t)
+    (ending-same-length t)
+    (ending-returns t)
+    (ending-add-start t)
+    (ending-add-first t)
+    (ending-clause-requires-2 t)
+    (ending-enum-known-r t)
+    (ending-enum-told t)
+    (ending-same-length-2 t)
+    (ending-returns-2 t)
+    (ending-kind-requires-2 t)
+    (ending-present-requires t)
+    (ending-same-length-3 t)
+    (ending-returns-3 t)
+    (ending-block-requires t)
+    (ending-enum-known-r2 t)
+    (ending-enum-told-2 t)
+    (ending-same-length-4 t)
+    (ending-returns-4 t)
+    (ending-kind-requires-3 t)
+    (ending-present-requires-2 t)
+    (ending-same-length-5 t)
+    (ending-returns-5 t)
+    (ending-span-from-requires t)
+    (ending-end-before-requires t)
+    (ending-put-span-requires t)
+    (ending-add-next t)
+    (ending-same-length-6 t)
+    (ending-returns-6 t))
+    λ t. sentence-lts.spec (
+      pattern-reads.Asked,
+      pattern-reads.Learnt,
+      kind-reads.Asked,
+      kind-reads.Learnt,
+      condition-below t,
+      condition.Post,
+      ending-below t,
+      ending.Post,
+      span-from-reads.Asked,
+      span-from-reads.Learnt,
+      end-before-reads.Asked,
+      end-before-reads.Learnt,
+      put-span-reads.Asked,
+      put-span-reads.Learnt,
+    )
+    (sentence-at t)
+    sentence.Post
+    sentence-Inv-loop
+    sentence-μ-loop
+    (sentence-add-first t)
+    (sentence-pattern-requires t)
+    (sentence-enum-known-r t)
+    (sentence-enum-told t)
+    (sentence-same-length t)
+    (sentence-returns t)
+    (sentence-loop-holds t)
+    (sentence-kind-requires t)
+    (sentence-condition-requires t)
+    (sentence-enum-known-r2 t)
+    (sentence-enum-told-2 t)
+    (sentence-same-length-2 t)
+    (sentence-returns-2 t)
+    (sentence-loop-less t)
+    (sentence-loop-again t)
+    (sentence-add-after t)
+    (sentence-ending-requires t)
+    (sentence-enum-known-r3 t)
+    (sentence-enum-told-3 t)
+    (sentence-same-length-3 t)
+    (sentence-returns-3 t)
+    (sentence-span-from-requires t)
+    (sentence-end-before-requires t)
+    (sentence-put-span-requires t)
+    (sentence-same-length-4 t)
+    (sentence-returns-4 t)

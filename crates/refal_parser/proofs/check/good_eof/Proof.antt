@@ -1,0 +1,83 @@
+-- `refal_parser::check::good_eof` meets its contract: the test of the last token.
+use mathlib.Core.Path.{_≡_, ap}
+use mathlib.Core.Bool.{Bool, _&&_}
+use lib.Dec.{eqb}
+use lib.ListN.{getD}
+use borrow.Author.Needs.{needs}
+use Rattle.refal_parser.proofs.check.good_eof.Statement.{statement}
+use Rattle.refal_parser.proofs.check.good_eof.Tie as tie
+use Rattle.refal_parser.proofs.check.good_eof.Reads as reads
+use Rattle.refal_parser.proofs.check.good_eof.Lts as lts
+use Rattle.refal_parser.proofs.check.good_fields.Reads as good-fields-reads
+
+-- src/check.rt:53:16
+mul-kind : tie.Need-mul-kind
+mul-kind c = search needs
+
+-- src/check.rt:53:16
+shared-slice-read-kind : tie.Need-shared-slice-read-kind
+shared-slice-read-kind c = search needs
+
+-- src/check.rt:54:41
+add-good-fields : tie.Need-add-good-fields
+add-good-fields c = search needs
+
+-- src/check.rt:54:34
+mul-good-fields : tie.Need-mul-good-fields
+mul-good-fields c = search needs
+
+-- src/check.rt:54:34
+shared-slice-read-good-fields : tie.Need-shared-slice-read-good-fields
+shared-slice-read-good-fields c = search needs
+
+-- src/check.rt:54:57
+add-good-fields-2 : tie.Need-add-good-fields-2
+add-good-fields-2 c = search needs
+
+-- src/check.rt:54:50
+mul-good-fields-2 : tie.Need-mul-good-fields-2
+mul-good-fields-2 c = search needs
+
+-- src/check.rt:54:50
+shared-slice-read-good-fields-2 : tie.Need-shared-slice-read-good-fields-2
+shared-slice-read-good-fields-2 c = search needs
+
+-- src/check.rt:54:73
+add-good-fields-3 : tie.Need-add-good-fields-3
+add-good-fields-3 c = search needs
+
+-- src/check.rt:54:66
+mul-good-fields-3 : tie.Need-mul-good-fields-3
+mul-good-fields-3 c = search needs
+
+-- src/check.rt:54:66
+shared-slice-read-good-fields-3 : tie.Need-shared-slice-read-good-fields-3
+shared-slice-read-good-fields-3 c = search needs
+
+-- src/check.rt:54:9
+good-fields-requires : tie.Need-good-fields-requires
+good-fields-requires c κs = search needs
+
+-- src/check.rt:49:1
+returns : tie.Need-returns
+returns c = let w = c .before .before .before .before .before .before .args .tokens .now in
+    let at₀ = c .before .before .before .before .before .before .args .at in
+    ap (λ (b : Bool). eqb (getD w at₀ 0) 17 && b) (c .good-fields .ensures)
+
+pub good-eof-spec : {M : Type 1} → statement M
+good-eof-spec =
+    tie.close
+    (tie.spec
+    mul-kind
+    shared-slice-read-kind
+    add-good-fields
+    mul-good-fields
+    shared-slice-read-good-fields
+    add-good-fields-2
+    mul-good-fields-2
+    shared-slice-read-good-fields-2
+    add-good-fields-3
+    mul-good-fields-3
+    shared-slice-read-good-fields-3
+    good-fields-requires
+    returns)

@@ -1,0 +1,40 @@
+-- `refal_parser::nodes::put_variable` meets its contract: the row of a variable.
+use mathlib.Core.Path.{_≡_, refl, sym, ap, _∙_}
+use Prim.Native.Nat.{ℕ, _+_}
+use Rattle.refal_ast.specs.Kinds.{nodeVariable}
+use Rattle.refal_ast.specs.Encode.{node}
+use Rattle.refal_parser.specs.Writers.{putNode}
+use borrow.Author.Needs.{needs}
+use Rattle.refal_parser.proofs.nodes.put_variable.Statement.{statement}
+use Rattle.refal_parser.proofs.nodes.put_variable.Tie as tie
+use Rattle.refal_parser.proofs.nodes.put_variable.Reads as reads
+use Rattle.refal_parser.proofs.nodes.put_variable.Lts as lts
+use Rattle.refal_parser.proofs.nodes.letter.Reads as letter-reads
+use Rattle.refal_parser.proofs.nodes.put_node.Reads as put-node-reads
+
+-- src/nodes.rt:66:39
+letter-requires : tie.Need-letter-requires
+letter-requires c κs = search needs
+
+-- src/nodes.rt:66:75
+add-put-node : tie.Need-add-put-node
+add-put-node c = search needs
+
+-- src/nodes.rt:66:5
+put-node-requires : tie.Need-put-node-requires
+put-node-requires c κs = search needs
+
+-- src/nodes.rt:62:1
+same-length : tie.Need-same-length
+same-length c = search needs
+
+-- src/nodes.rt:62:1
+returns : tie.Need-returns
+returns c = let b₀ = c .before .before .before .before .before .before .args .rows .now in
+    let m₀ = c .before .before .before .before .before .before .args .m in
+    c .before .before .put-node .ensures
+    ∙ ap (λ (z : ℕ). putNode b₀ m₀ (node nodeVariable z (c .before .before .before .before .before .before .args .start) (c .before .before .before .before .before .before .args .len) (c .before .before .before .before .before .before .args .from) (c .before .before .before .before .before .before .args .to) (m₀ + 1))) (c .before .before .before .letter .ensures)
+
+pub put-variable-spec : {M : Type 1} → statement M
+put-variable-spec =
+    tie.close (tie.spec letter-requires add-put-node put-node-requires same-length returns)

@@ -1,0 +1,64 @@
+-- `refal_parser::terms::closes` meets its contract: the closing kind, Eof, or another.
+use mathlib.Core.Path.{_≡_, refl, sym, ap, _∙_}
+use Prim.Native.Nat.{ℕ, _+_, _≤_}
+use native.Mathlib.Omega.{arith}
+use lib.ListN.{getD}
+use Rattle.refal_parser.proofs.TokenLaws.{ready-next, end-before}
+use Rattle.refal_parser.proofs.Steps.{is-at, is-no, closes-here, closes-eof, closes-none}
+use borrow.Author.Needs.{needs}
+use Rattle.refal_parser.proofs.terms.closes.Statement.{statement}
+use Rattle.refal_parser.proofs.terms.closes.Tie as tie
+use Rattle.refal_parser.proofs.terms.closes.Reads as reads
+use Rattle.refal_parser.proofs.terms.closes.Lts as lts
+use Rattle.refal_parser.proofs.answers.present.Reads as present-reads
+use Rattle.refal_parser.proofs.answers.taken.Reads as taken-reads
+use Rattle.refal_parser.proofs.tokens.kind.Reads as kind-reads
+
+-- src/terms.rt:53:9
+kind-requires : tie.Need-kind-requires
+kind-requires c κs = search needs
+
+-- src/terms.rt:55:24
+add-t7 : tie.Need-add-t7
+add-t7 c = search needs
+
+-- src/terms.rt:55:9
+returns : tie.Need-returns
+returns c = let w = c .before .before .before .args .tokens .now in
+    let at₀ = c .before .before .before .args .at in
+    let pre₀ = c .before .before .before .pre in
+    let k : getD w at₀ 0 ≡ c .before .before .before .args .want = sym (c .before .kind .ensures) ∙ c .if1 .taken in
+    is-at refl (record {
+      ready = ready-next _ _ (pre₀ .0) (λ e. let l = pre₀ .1 in let z : ⊥ = omega arith in z);
+      next = refl;
+      rows = refl;
+      last = end-before w at₀;
+      means = λ st. closes-here w at₀ (c .before .before .before .args .want) st k;
+    })
+
+-- src/terms.rt:58:9
+present-requires : tie.Need-present-requires
+present-requires c κs = search needs
+
+-- src/terms.rt:58:9
+returns-2 : tie.Need-returns-2
+returns-2 c = let w = c .before .before .before .before .before .args .tokens .now in
+    let at₀ = c .before .before .before .before .before .args .at in
+    is-no (c .present .ensures) (λ st. closes-eof w at₀ (c .before .before .before .before .before .args .want) st (λ e. c .before .before .if1 .left (c .before .before .before .kind .ensures
+    ∙ e)) (sym (c .before .before .before .kind .ensures) ∙ c .before .if2 .taken))
+
+-- src/terms.rt:60:5
+taken-requires : tie.Need-taken-requires
+taken-requires c κs = search needs
+
+-- src/terms.rt:49:1
+returns-3 : tie.Need-returns-3
+returns-3 c = let w = c .before .before .before .before .before .args .tokens .now in
+    let at₀ = c .before .before .before .before .before .args .at in
+    is-no (c .taken .ensures) (λ st. closes-none w at₀ (c .before .before .before .before .before .args .want) st (λ e. c .before .before .if1 .left (c .before .before .before .kind .ensures
+    ∙ e)) (λ e. c .before .if2 .left (c .before .before .before .kind .ensures ∙ e)))
+
+pub closes-spec : {M : Type 1} → statement M
+closes-spec =
+    tie.close
+    (tie.spec kind-requires add-t7 returns present-requires returns-2 taken-requires returns-3)

@@ -1,0 +1,46 @@
+-- `refal_parser::terms::term_at` meets its contract: the token at a word.
+use borrow.Author.Needs.{needs}
+use Rattle.refal_parser.proofs.terms.term_at.Statement.{statement}
+use Rattle.refal_parser.proofs.terms.term_at.Tie as tie
+use Rattle.refal_parser.proofs.terms.term_at.Reads as reads
+use Rattle.refal_parser.proofs.terms.term_at.Lts as lts
+use Rattle.refal_parser.proofs.terms.term_of.Reads as term-of-reads
+use Rattle.refal_parser.proofs.tokens.detail.Reads as detail-reads
+use Rattle.refal_parser.proofs.tokens.kind.Reads as kind-reads
+use Rattle.refal_parser.proofs.tokens.text_len.Reads as text-len-reads
+use Rattle.refal_parser.proofs.tokens.text_start.Reads as text-start-reads
+
+-- src/terms.rt:45:13
+kind-requires : tie.Need-kind-requires
+kind-requires c κs = search needs
+
+-- src/terms.rt:45:31
+detail-requires : tie.Need-detail-requires
+detail-requires c κs = search needs
+
+-- src/terms.rt:45:51
+text-start-requires : tie.Need-text-start-requires
+text-start-requires c κs = search needs
+
+-- src/terms.rt:45:75
+text-len-requires : tie.Need-text-len-requires
+text-len-requires c κs = search needs
+
+-- src/terms.rt:45:5
+term-of-requires : tie.Need-term-of-requires
+term-of-requires c κs = search needs
+
+-- src/terms.rt:41:1
+returns : tie.Need-returns
+returns c = cc
+
+pub term-at-spec : {M : Type 1} → statement M
+term-at-spec =
+    tie.close
+    (tie.spec
+    kind-requires
+    detail-requires
+    text-start-requires
+    text-len-requires
+    term-of-requires
+    returns)

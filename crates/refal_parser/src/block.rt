@@ -1,0 +1,180 @@
+// Sentences hold blocks and blocks hold sentences.
+ghost use mathlib.Core.Path.{_≡_};
+ghost use Prim.Native.Nat.{ℕ, _+_, _≤_};
+ghost use lib.ListN.{getD};
+ghost use Rattle.refal_ast.specs.Kinds.{tokComma, tokLBrace};
+ghost use Rattle.refal_parser.specs.Ready.{Ready};
+ghost use Rattle.refal_parser.specs.PostBlock.{BlockPost, CondPost, EndingPost, JoinsPost, SentencePost};
+use crate::answers::Got;
+use crate::answers::present;
+use crate::nodes::put_span;
+use crate::terms::clause;
+use crate::terms::pattern;
+use crate::tokens::end_before;
+use crate::tokens::kind;
+use crate::tokens::span_from;
+use refal_ast::kinds::node;
+use refal_ast::kinds::token;
+
+// After a condition's block: a comma or `=`, which is left to the caller.
+fn joins(tokens: &[u32], at: usize, m: usize) -> Got
+    requires { ⌜ Ready (now tokens) at ⌝ }
+    ensures { λ r. ⌜ JoinsPost (now (tokens .entry)) at m r ⌝ }
+{
+    let k = kind(tokens, at);
+    if k == token::COMMA {
+        return Got::At(at, m);
+    }
+    if k == token::EQUALS {
+        return Got::At(at, m);
+    }
+    present(tokens, at, 35, token::EQUALS)
+}
+
+// The condition whose comma is at `at`, up to a comma or `=`; its row is row n.
+fn condition(tokens: &[u32], rows: &mut [u32], at: usize, n: usize, left: usize) -> Got
+    requires { ⌜ Ready (now tokens) at × (n ≤ at + 2) × (getD (now tokens) at 0 ≡ tokComma) ⌝ }
+    ensures { λ r. ⌜ CondPost (now (tokens .entry)) (now (rows .entry)) (now (rows .exit)) at n left r ⌝ }
+{
+    let start = at + 6;
+    let first = n + 1;
+    let r = clause(tokens, rows, start, first, left, token::COLON);
+    let Got::At(j, m) = r else {
+        return r;
+    };
+    if kind(tokens, j) == token::LBRACE {
+        let row = m + 1;
+        let r2 = block(tokens, rows, j, row, left);
+        let Got::At(i, m2) = r2 else {
+            return r2;
+        };
+        put_span(
+            rows,
+            m,
+            node::CONDITION_BLOCK,
+            span_from(tokens, start),
+            end_before(tokens, i),
+            m2,
+        );
+        put_span(
+            rows,
+            n,
+            node::CONDITION,
+            span_from(tokens, start),
+            end_before(tokens, i),
+            m2,
+        );
+        return joins(tokens, i, m2);
+    }
+    let r3 = pattern(tokens, rows, j, m, left);
+    let Got::At(i, m2) = r3 else {
+        return r3;
+    };
+    put_span(
+        rows,
+        n,
+        node::CONDITION,
+        span_from(tokens, start),
+        end_before(tokens, i),
+        m2,
+    );
+    Got::At(i, m2)
+}
+
+// The end of a sentence from after its `=` on: terms, or a comma and an ending block; then `;`.
+fn ending(tokens: &[u32], rows: &mut [u32], at: usize, n: usize, left: usize) -> Got
+    requires { ⌜ Ready (now tokens) at × (n ≤ at) ⌝ }
+    ensures { λ r. ⌜ EndingPost (now (tokens .entry)) (now (rows .entry)) (now (rows .exit)) at n left r ⌝ }
+{
+    if kind(tokens, at) != token::COMMA {
+        return clause(tokens, rows, at, n, left, token::SEMICOLON);
+    }
+    let start = at + 6;
+    let first = n + 1;
+    let r = clause(tokens, rows, start, first, left, token::COLON);
+    let Got::At(j, m) = r else {
+        return r;
+    };
+    if kind(tokens, j) != token::LBRACE {
+        return present(tokens, j, 35, token::LBRACE);
+    }
+    let r2 = block(tokens, rows, j, m, left);
+    let Got::At(i, m2) = r2 else {
+        return r2;
+    };
+    if kind(tokens, i) != token::SEMICOLON {
+        return present(tokens, i, 35, token::SEMICOLON);
+    }
+    put_span(
+        rows,
+        n,
+        node::ENDING_BLOCK,
+        span_from(tokens, start),
+        end_before(tokens, i),
+        m2,
+    );
+    let next = i + 6;
+    Got::At(next, m2)
+}
+
+// The sentence that begins at `at`; its row is row n.
+fn sentence(tokens: &[u32], rows: &mut [u32], at: usize, n: usize, left: usize) -> Got
+    requires { ⌜ Ready (now tokens) at × (n ≤ at) ⌝ }
+    ensures { λ r. ⌜ SentencePost (now (tokens .entry)) (now (rows .entry)) (now (rows .exit)) at n left r ⌝ }
+{
+    let first = n + 1;
+    let r = pattern(tokens, rows, at, first, left);
+    let Got::At(j, m) = r else {
+        return r;
+    };
+    let mut i = j;
+    let mut k = m;
+    while kind(tokens, i) == token::COMMA {
+        let r2 = condition(tokens, rows, i, k, left);
+        let Got::At(j2, m2) = r2 else {
+            return r2;
+        };
+        i = j2;
+        k = m2;
+    }
+    let after = i + 6;
+    let r3 = ending(tokens, rows, after, k, left);
+    let Got::At(next, m3) = r3 else {
+        return r3;
+    };
+    put_span(
+        rows,
+        n,
+        node::SENTENCE,
+        span_from(tokens, at),
+        end_before(tokens, next),
+        m3,
+    );
+    Got::At(next, m3)
+}
+
+// The sentences in the block whose `{` is at `at`, with its `}`, where `left` levels are left, this one's among them; their rows begin at row n.
+pub fn block(tokens: &[u32], rows: &mut [u32], at: usize, n: usize, left: usize) -> Got
+    requires { ⌜ Ready (now tokens) at × (n ≤ at + 4) × (getD (now tokens) at 0 ≡ tokLBrace) ⌝ }
+    ensures { λ r. ⌜ BlockPost (now (tokens .entry)) (now (rows .entry)) (now (rows .exit)) at n left r ⌝ }
+{
+    if left == 0 {
+        return present(tokens, at, 37, 0);
+    }
+    let under = left - 1;
+    let mut i = at + 6;
+    let mut m = n;
+    while kind(tokens, i) != token::RBRACE {
+        if kind(tokens, i) == token::EOF {
+            return present(tokens, i, 35, token::RBRACE);
+        }
+        let r = sentence(tokens, rows, i, m, under);
+        let Got::At(j, m2) = r else {
+            return r;
+        };
+        i = j;
+        m = m2;
+    }
+    let next = i + 6;
+    Got::At(next, m)
+}

@@ -1,0 +1,270 @@
+// Terms, brackets and calls; and what follows terms.
+ghost use mathlib.Core.Path.{_≡_};
+ghost use Prim.Native.Nat.{ℕ, _+_, _≤_};
+ghost use Rattle.refal_ast.specs.declared.tree.Term.the-variants.{Bracket, Call};
+ghost use Rattle.refal_parser.specs.Machine.{termOf, variableOf};
+ghost use Rattle.refal_parser.specs.Ready.{Ready, termAt};
+ghost use Rattle.refal_parser.specs.PostTerms.{BracketPost, CallPost, ClausePost, ClosesPost, FollowsPost, PatternPost, TermsPost, UntilPost};
+use crate::answers::Got;
+use crate::answers::present;
+use crate::answers::taken;
+use crate::nodes::put_node;
+use crate::nodes::put_symbol;
+use crate::nodes::put_terms;
+use crate::nodes::put_variable;
+use crate::tokens::detail;
+use crate::tokens::end_before;
+use crate::tokens::kind;
+use crate::tokens::span_from;
+use crate::tokens::span_to;
+use crate::tokens::text_len;
+use crate::tokens::text_start;
+use refal_ast::kinds::node;
+use refal_ast::kinds::token;
+use refal_ast::tree::Symbol;
+use refal_ast::tree::Term;
+use refal_ast::tree::VariableKind;
+
+fn variable_of(letter: u32, start: u32, len: u32) -> Term
+    ensures { λ r. ⌜ r ≡ variableOf letter start len ⌝ }
+{
+    match letter {
+        115 => Term::Variable {
+            kind: VariableKind::Symbol,
+            start: start,
+            len: len,
+        },
+        116 => Term::Variable {
+            kind: VariableKind::Term,
+            start: start,
+            len: len,
+        },
+        101 => Term::Variable {
+            kind: VariableKind::Expression,
+            start: start,
+            len: len,
+        },
+        _ => Term::UnknownVariable,
+    }
+}
+
+// What a token begins where a term may stand.
+fn term_of(kind: u32, detail: u32, start: u32, len: u32) -> Term
+    ensures { λ r. ⌜ r ≡ termOf kind detail start len ⌝ }
+{
+    match kind {
+        3 => Term::Symbol(Symbol::Identifier {
+            start: start,
+            len: len,
+        }),
+        5 => Term::Symbol(Symbol::Number {
+            start: start,
+            len: len,
+        }),
+        6 => Term::Symbol(Symbol::Char(detail)),
+        4 => variable_of(detail, start, len),
+        9 => Term::Bracket,
+        11 => Term::Call,
+        _ => Term::NoTerm,
+    }
+}
+
+fn term_at(tokens: &[u32], at: usize) -> Term
+    requires { ⌜ Ready (now tokens) at ⌝ }
+    ensures { λ r. ⌜ r ≡ termAt (now (tokens .entry)) at ⌝ }
+{
+    term_of(
+        kind(tokens, at),
+        detail(tokens, at),
+        text_start(tokens, at),
+        text_len(tokens, at),
+    )
+}
+
+// The kind that closes terms, at the token at `at`, which begins none: Eof there is 35, another kind 34.
+fn closes(tokens: &[u32], at: usize, m: usize, want: u32) -> Got
+    requires { ⌜ Ready (now tokens) at × (want ≤ 16) ⌝ }
+    ensures { λ r. ⌜ ClosesPost (now (tokens .entry)) at m want r ⌝ }
+{
+    let k = kind(tokens, at);
+    if k == want {
+        return Got::At(at + 6, m);
+    }
+    if k == token::EOF {
+        return present(tokens, at, 35, want);
+    }
+    taken(tokens, at, 34, 0)
+}
+
+// Terms from `at` on, whose rows begin at row n, up to a token that begins none.
+fn terms(tokens: &[u32], rows: &mut [u32], at: usize, n: usize, left: usize) -> Got
+    requires { ⌜ Ready (now tokens) at × (n ≤ at + 2) ⌝ }
+    ensures { λ r. ⌜ TermsPost (now (tokens .entry)) (now (rows .entry)) (now (rows .exit)) at n left r ⌝ }
+{
+    let mut i = at;
+    let mut m = n;
+    loop {
+        let t = term_at(tokens, i);
+        match t {
+            Term::Symbol(s) => {
+                put_symbol(rows, m, s, span_from(tokens, i), span_to(tokens, i));
+                i += 6;
+                m += 1;
+            }
+            Term::Variable { kind, start, len } => {
+                put_variable(
+                    rows,
+                    m,
+                    kind,
+                    start,
+                    len,
+                    span_from(tokens, i),
+                    span_to(tokens, i),
+                );
+                i += 6;
+                m += 1;
+            }
+            Term::Bracket => {
+                let r = bracket(tokens, rows, i, m, left);
+                let Got::At(j, m2) = r else {
+                    return r;
+                };
+                i = j;
+                m = m2;
+            }
+            Term::Call => {
+                let r2 = call(tokens, rows, i, m, left);
+                let Got::At(j, m2) = r2 else {
+                    return r2;
+                };
+                i = j;
+                m = m2;
+            }
+            Term::UnknownVariable => {
+                return taken(tokens, i, 36, 0);
+            }
+            Term::NoTerm => {
+                break;
+            }
+        }
+    }
+    Got::At(i, m)
+}
+
+// Terms and the kind that closes them.
+fn until(tokens: &[u32], rows: &mut [u32], at: usize, n: usize, left: usize, want: u32) -> Got
+    requires { ⌜ Ready (now tokens) at × (n ≤ at + 2) × (want ≤ 16) ⌝ }
+    ensures { λ r. ⌜ UntilPost (now (tokens .entry)) (now (rows .entry)) (now (rows .exit)) at n left want r ⌝ }
+{
+    let r = terms(tokens, rows, at, n, left);
+    let Got::At(j, m) = r else {
+        return r;
+    };
+    closes(tokens, j, m, want)
+}
+
+// The bracket that opens at `at`; its row is row n.
+fn bracket(tokens: &[u32], rows: &mut [u32], at: usize, n: usize, left: usize) -> Got
+    requires { ⌜ Ready (now tokens) at × (n ≤ at + 2) × (termAt (now tokens) at ≡ Bracket) ⌝ }
+    ensures { λ r. ⌜ BracketPost (now (tokens .entry)) (now (rows .entry)) (now (rows .exit)) at n left r ⌝ }
+{
+    if left == 0 {
+        return present(tokens, at, 37, 0);
+    }
+    let body = at + 6;
+    let first = n + 1;
+    let r = until(tokens, rows, body, first, left - 1, token::RPAREN);
+    let Got::At(j, m) = r else {
+        return r;
+    };
+    put_node(
+        rows,
+        n,
+        node::BRACKET,
+        0,
+        0,
+        0,
+        span_from(tokens, at),
+        end_before(tokens, j),
+        m,
+    );
+    Got::At(j, m)
+}
+
+// The call that opens at `at`; its row is row n.
+fn call(tokens: &[u32], rows: &mut [u32], at: usize, n: usize, left: usize) -> Got
+    requires { ⌜ Ready (now tokens) at × (n ≤ at + 2) × (termAt (now tokens) at ≡ Call) ⌝ }
+    ensures { λ r. ⌜ CallPost (now (tokens .entry)) (now (rows .entry)) (now (rows .exit)) at n left r ⌝ }
+{
+    if left == 0 {
+        return present(tokens, at, 37, 0);
+    }
+    let name = at + 6;
+    if kind(tokens, name) != token::IDENTIFIER {
+        return taken(tokens, name, 33, token::IDENTIFIER);
+    }
+    let body = name + 6;
+    let first = n + 1;
+    let r = until(tokens, rows, body, first, left - 1, token::RANGLE);
+    let Got::At(j, m) = r else {
+        return r;
+    };
+    put_node(
+        rows,
+        n,
+        node::CALL,
+        0,
+        text_start(tokens, name),
+        text_len(tokens, name),
+        span_from(tokens, at),
+        end_before(tokens, j),
+        m,
+    );
+    Got::At(j, m)
+}
+
+// A Terms row, row n, its terms and the kind that closes them.
+pub fn clause(tokens: &[u32], rows: &mut [u32], at: usize, n: usize, left: usize, want: u32) -> Got
+    requires { ⌜ Ready (now tokens) at × (n ≤ at + 1) × (want ≤ 16) ⌝ }
+    ensures { λ r. ⌜ ClausePost (now (tokens .entry)) (now (rows .entry)) (now (rows .exit)) at n left want r ⌝ }
+{
+    let first = n + 1;
+    let r = until(tokens, rows, at, first, left, want);
+    let Got::At(j, m) = r else {
+        return r;
+    };
+    put_terms(rows, n, m);
+    Got::At(j, m)
+}
+
+// After a pattern's terms: a comma or `=`, which is left to the caller; Eof there is 35, another kind 34.
+fn follows(tokens: &[u32], at: usize, m: usize) -> Got
+    requires { ⌜ Ready (now tokens) at ⌝ }
+    ensures { λ r. ⌜ FollowsPost (now (tokens .entry)) at m r ⌝ }
+{
+    let k = kind(tokens, at);
+    if k == token::COMMA {
+        return Got::At(at, m);
+    }
+    if k == token::EQUALS {
+        return Got::At(at, m);
+    }
+    if k == token::EOF {
+        return present(tokens, at, 35, token::EQUALS);
+    }
+    taken(tokens, at, 34, 0)
+}
+
+// A pattern: a Terms row, row n, and its terms, up to a comma or `=`.
+pub fn pattern(tokens: &[u32], rows: &mut [u32], at: usize, n: usize, left: usize) -> Got
+    requires { ⌜ Ready (now tokens) at × (n ≤ at + 1) ⌝ }
+    ensures { λ r. ⌜ PatternPost (now (tokens .entry)) (now (rows .entry)) (now (rows .exit)) at n left r ⌝ }
+{
+    let first = n + 1;
+    let r = terms(tokens, rows, at, first, left);
+    let Got::At(j, m) = r else {
+        return r;
+    };
+    put_terms(rows, n, m);
+    follows(tokens, j, m)
+}
