@@ -1,3 +1,4 @@
+-- `refal_writer::bytes::copy` meets its contract.
 use Rattle.refal_writer.specs.Puts.{copy-from}
 use Prim.Native.Nat.{ℕ, _+_, _-_, _≤_, _<_}
 use native.Mathlib.Omega.{arith}
@@ -7,8 +8,6 @@ use lib.ListN.{length, take, drop, set, length-set}
 use borrow.Author.Needs.{needs}
 use Rattle.refal_writer.proofs.bytes.copy.Statement.{statement}
 use Rattle.refal_writer.proofs.bytes.copy.Tie as tie
-use Rattle.refal_writer.proofs.bytes.copy.Reads as reads
-use Rattle.refal_writer.proofs.bytes.copy.Lts as lts
 
 abbrev Inv-loop : tie.InvT-loop
 Inv-loop src start n out₀ i₀ out i = (i ≤ n) × (length out ≡ length out₀) × (out ≡ take i (drop start src) ++ drop i out₀)
@@ -16,42 +15,33 @@ Inv-loop src start n out₀ i₀ out i = (i ≤ n) × (length out ≡ length out
 abbrev μ-loop : tie.MeasureT-loop
 μ-loop src start n out₀ i₀ out i = n - i
 
--- src/bytes.rt:14:5
 loop-holds : tie.Need-loop-holds Inv-loop μ-loop
 loop-holds c = (search needs, refl, refl)
 
--- src/bytes.rt:15:22
 add-out : tie.Need-add-out Inv-loop μ-loop
 add-out c = search needs
 
--- src/bytes.rt:15:18
 shared-slice-read-out : tie.Need-shared-slice-read-out Inv-loop μ-loop
 shared-slice-read-out c = search needs
 
--- src/bytes.rt:15:9
 slice-write-out : tie.Need-slice-write-out Inv-loop μ-loop
 slice-write-out c = search needs
 
--- src/bytes.rt:16:9
 add-i : tie.Need-add-i Inv-loop μ-loop
 add-i c = search needs
 
--- src/bytes.rt:14:5
 loop-less : tie.Need-loop-less Inv-loop μ-loop
 loop-less c = search needs
 
--- src/bytes.rt:14:5
 loop-again : tie.Need-loop-again Inv-loop μ-loop
 loop-again c = let a = c .before .before .before .args in
     let h : a .start + c .before .before .loop .i < length (a .src .now) = omega arith in
     let h₀ : c .before .before .loop .i < length (a .out .now) = omega arith in
     (omega arith, simp length-set (c .before .before .loop .inv .1), copy-from _ _ (a .src .now) _ _ (c .before .before .loop .inv .2) h h₀)
 
--- src/bytes.rt:9:1
 same-length : tie.Need-same-length Inv-loop μ-loop
 same-length c = search needs
 
--- src/bytes.rt:9:1
 returns : tie.Need-returns Inv-loop μ-loop
 returns c = let a = c .before .before .args in
     let e : c .before .loop .i ≡ a .n = omega arith in

@@ -1,3 +1,4 @@
+-- `refal_writer::bytes::put2` meets its contract.
 use native.Mathlib.Omega.{arith}
 use lib.ListN.{length-set}
 use mathlib.Core.Path.{refl}
@@ -5,26 +6,19 @@ use Rattle.refal_writer.specs.Puts.{Puts, two-set}
 use borrow.Author.Needs.{needs}
 use Rattle.refal_writer.proofs.bytes.put2.Statement.{statement}
 use Rattle.refal_writer.proofs.bytes.put2.Tie as tie
-use Rattle.refal_writer.proofs.bytes.put2.Reads as reads
-use Rattle.refal_writer.proofs.bytes.put2.Lts as lts
 
--- src/bytes.rt:45:9
 slice-write-out : tie.Need-slice-write-out
 slice-write-out c = search needs
 
--- src/bytes.rt:46:9
 slice-write-out-2 : tie.Need-slice-write-out-2
 slice-write-out-2 c = simp length-set (omega arith)
 
--- src/bytes.rt:41:1
 same-length : tie.Need-same-length
 same-length c = simp length-set
 
--- src/bytes.rt:41:1
 returns : tie.Need-returns
 returns c = (record { count = refl; bytes = λ h. two-set (c .before .args .out .now) _ _ h }, omega arith)
 
--- src/bytes.rt:41:1
 returns-2 : tie.Need-returns-2
 returns-2 c = (record { count = refl; bytes = λ h. absurd (omega arith) }, omega arith)
 

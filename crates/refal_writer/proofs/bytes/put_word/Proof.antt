@@ -1,3 +1,4 @@
+-- `refal_writer::bytes::put_word` meets its contract.
 use native.Mathlib.Omega.{arith}
 use native.Mathlib.Nat.{le-refl}
 use mathlib.Core.List.{List, _++_}
@@ -8,24 +9,17 @@ use Rattle.refal_writer.specs.Puts.{Puts}
 use borrow.Author.Needs.{needs}
 use Rattle.refal_writer.proofs.bytes.put_word.Statement.{statement}
 use Rattle.refal_writer.proofs.bytes.put_word.Tie as tie
-use Rattle.refal_writer.proofs.bytes.put_word.Reads as reads
-use Rattle.refal_writer.proofs.bytes.put_word.Lts as lts
-use Rattle.refal_writer.proofs.bytes.copy.Reads as copy-reads
 
--- src/bytes.rt:26:9
 copy-requires : tie.Need-copy-requires
 copy-requires c κs = search needs
 
--- src/bytes.rt:21:1
 same-length : tie.Need-same-length
 same-length c = search needs
 
--- src/bytes.rt:21:1
 returns : tie.Need-returns
 returns c = let a = c .before .before .before .before .before .before .before .args in
     record { count = refl; bytes = λ h. c .before .before .copy .ensures ∙ ap (λ (l : List _). l ++ drop (length (a .word .now)) (a .out .now)) (take-length (a .word .now)) }
 
--- src/bytes.rt:21:1
 returns-2 : tie.Need-returns-2
 returns-2 c = record { count = refl; bytes = λ h. absurd (omega arith) }
 

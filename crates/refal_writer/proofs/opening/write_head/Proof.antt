@@ -1,3 +1,4 @@
+-- `refal_writer::opening::write_head` meets its contract.
 use native.Mathlib.Omega.{arith}
 use mathlib.Core.List.{[], _∷_}
 use borrow.Author.Tests.{eq-eqb, ne-eqb}
@@ -6,58 +7,41 @@ use Rattle.refal_writer.specs.TextPuts.{text-two}
 use borrow.Author.Needs.{needs}
 use Rattle.refal_writer.proofs.opening.write_head.Statement.{statement}
 use Rattle.refal_writer.proofs.opening.write_head.Tie as tie
-use Rattle.refal_writer.proofs.opening.write_head.Reads as reads
-use Rattle.refal_writer.proofs.opening.write_head.Lts as lts
-use Rattle.refal_rows.proofs.least.Reads as least-reads
-use Rattle.refal_writer.proofs.opening.write_two.Reads as write-two-reads
-use Rattle.refal_writer.proofs.token.write_mark.Reads as write-mark-reads
 
--- src/opening.rt:44:13
 write-mark-requires : tie.Need-write-mark-requires
 write-mark-requires c κs = search needs
 
--- src/opening.rt:45:13
 least-requires : tie.Need-least-requires
 least-requires c κs = search needs
 
--- src/opening.rt:46:56
 sub-write-two : tie.Need-sub-write-two
 sub-write-two c = search needs
 
--- src/opening.rt:46:56
 part-write-two-start : tie.Need-part-write-two-start
 part-write-two-start c = search needs
 
--- src/opening.rt:46:56
 part-write-two-end : tie.Need-part-write-two-end
 part-write-two-end c = search needs
 
--- src/opening.rt:46:13
 write-two-requires : tie.Need-write-two-requires
 write-two-requires c κs = search needs
 
--- src/opening.rt:47:16
 add-result : tie.Need-add-result
 add-result c = search needs
 
--- src/opening.rt:47:9
 same-length : tie.Need-same-length
 same-length c = search needs
 
--- src/opening.rt:47:9
 returns : tie.Need-returns
 returns c = let a = c .before .before .before .before .before .before .before .before .before .before .before .before .args in
     (simp (eq-eqb _ _ (c .before .before .before .before .before .before .before .before .before .if1 .taken)) (text-two (a .src .now) (mark 1 ∷ []) (nameOf (a .start) (a .len) ∷ mark 7 ∷ []) _ _ _ _ _ _ (c .before .before .before .before .before .before .before .write-mark .ensures .0) (c .before .before .before .before .before .before .before .write-mark .kept .1 .0) (c .before .before .before .before .least .ensures) (c .before .before .write-two .ensures .0)), omega arith)
 
--- src/opening.rt:49:5
 write-two-requires-2 : tie.Need-write-two-requires-2
 write-two-requires-2 c κs = search needs
 
--- src/opening.rt:40:1
 same-length-2 : tie.Need-same-length-2
 same-length-2 c = search needs
 
--- src/opening.rt:40:1
 returns-2 : tie.Need-returns-2
 returns-2 c = (simp (ne-eqb _ _ (c .before .before .before .before .if1 .left)) (c .before .before .write-two2 .ensures .0), omega arith)
 

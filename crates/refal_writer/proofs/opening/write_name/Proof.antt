@@ -1,34 +1,25 @@
+-- `refal_writer::opening::write_name` meets its contract.
 use native.Mathlib.Omega.{arith}
 use borrow.Author.Tests.{eq-eqb, ne-eqb}
 use borrow.Author.Needs.{needs}
 use Rattle.refal_writer.proofs.opening.write_name.Statement.{statement}
 use Rattle.refal_writer.proofs.opening.write_name.Tie as tie
-use Rattle.refal_writer.proofs.opening.write_name.Reads as reads
-use Rattle.refal_writer.proofs.opening.write_name.Lts as lts
-use Rattle.refal_writer.proofs.opening.write_two.Reads as write-two-reads
-use Rattle.refal_writer.proofs.token.write_token.Reads as write-token-reads
 
--- src/opening.rt:34:9
 write-two-requires : tie.Need-write-two-requires
 write-two-requires c κs = search needs
 
--- src/opening.rt:34:9
 same-length : tie.Need-same-length
 same-length c = search needs
 
--- src/opening.rt:34:9
 returns : tie.Need-returns
 returns c = (simp (eq-eqb _ _ (c .before .before .before .before .if1 .taken)) (c .before .before .write-two .ensures .0), omega arith)
 
--- src/opening.rt:36:5
 write-token-requires : tie.Need-write-token-requires
 write-token-requires c κs = search needs
 
--- src/opening.rt:30:1
 same-length-2 : tie.Need-same-length-2
 same-length-2 c = search needs
 
--- src/opening.rt:30:1
 returns-2 : tie.Need-returns-2
 returns-2 c = (simp (ne-eqb _ _ (c .before .before .before .before .if1 .left)) (c .before .before .write-token .ensures .0), omega arith)
 

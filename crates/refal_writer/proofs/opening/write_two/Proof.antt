@@ -1,3 +1,4 @@
+-- `refal_writer::opening::write_two` meets its contract.
 use native.Mathlib.Omega.{arith}
 use mathlib.Core.List.{[], _∷_}
 use Rattle.refal_ast.specs.Flatten.{flatToken}
@@ -5,44 +6,31 @@ use Rattle.refal_writer.specs.TextPuts.{text-two}
 use borrow.Author.Needs.{needs}
 use Rattle.refal_writer.proofs.opening.write_two.Statement.{statement}
 use Rattle.refal_writer.proofs.opening.write_two.Tie as tie
-use Rattle.refal_writer.proofs.opening.write_two.Reads as reads
-use Rattle.refal_writer.proofs.opening.write_two.Lts as lts
-use Rattle.refal_rows.proofs.least.Reads as least-reads
-use Rattle.refal_writer.proofs.token.write_token.Reads as write-token-reads
 
--- src/opening.rt:23:9
 write-token-requires : tie.Need-write-token-requires
 write-token-requires c κs = search needs
 
--- src/opening.rt:24:9
 least-requires : tie.Need-least-requires
 least-requires c κs = search needs
 
--- src/opening.rt:25:44
 sub-write-token : tie.Need-sub-write-token
 sub-write-token c = search needs
 
--- src/opening.rt:25:44
 part-write-token-start : tie.Need-part-write-token-start
 part-write-token-start c = search needs
 
--- src/opening.rt:25:44
 part-write-token-end : tie.Need-part-write-token-end
 part-write-token-end c = search needs
 
--- src/opening.rt:25:9
 write-token-requires-2 : tie.Need-write-token-requires-2
 write-token-requires-2 c κs = search needs
 
--- src/opening.rt:26:5
 add-result : tie.Need-add-result
 add-result c = search needs
 
--- src/opening.rt:19:1
 same-length : tie.Need-same-length
 same-length c = search needs
 
--- src/opening.rt:19:1
 returns : tie.Need-returns
 returns c = let a = c .before .before .before .before .before .before .before .before .before .before .before .args in
     (text-two (a .src .now) (flatToken (a .a) 0 (a .sa) (a .la) ∷ []) (flatToken (a .b) 0 (a .sb) (a .lb) ∷ []) _ _ _ _ _ _ (c .before .before .before .before .before .before .before .write-token .ensures .0) (c .before .before .before .before .before .before .before .write-token .kept .1 .1 .1 .1 .1 .0) (c .before .before .before .before .least .ensures) (c .before .before .write-token2 .ensures .0), omega arith)

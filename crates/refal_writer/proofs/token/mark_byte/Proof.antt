@@ -1,3 +1,4 @@
+-- `refal_writer::token::mark_byte` meets its contract.
 use Prim.Native.Nat.{ℕ}
 use mathlib.Core.List.{List, [], _∷_}
 use native.Mathlib.Omega.{arith}
@@ -6,17 +7,13 @@ use Rattle.refal_spelling.specs.Spell.{markByte}
 use borrow.Author.Needs.{needs}
 use Rattle.refal_writer.proofs.token.mark_byte.Statement.{statement}
 use Rattle.refal_writer.proofs.token.mark_byte.Tie as tie
-use Rattle.refal_writer.proofs.token.mark_byte.Reads as reads
-use Rattle.refal_writer.proofs.token.mark_byte.Lts as lts
 
 table : List ℕ
 table = 0 ∷ 0 ∷ 0 ∷ 0 ∷ 0 ∷ 0 ∷ 0 ∷ 123 ∷ 125 ∷ 40 ∷ 41 ∷ 60 ∷ 62 ∷ 44 ∷ 58 ∷ 61 ∷ 59 ∷ []
 
--- src/token.rt:25:5
 array-read-result : tie.Need-array-read-result
 array-read-result c = search needs
 
--- src/token.rt:21:1
 returns : tie.Need-returns
 unfolding table
 returns c = let a = c .args in let h = c .pre in table-is markByte table 17 tt (a .kind) (omega arith)

@@ -1,3 +1,4 @@
+-- `refal_writer::token::write_char` meets its contract.
 use native.Mathlib.Omega.{arith}
 use mathlib.Core.List.{List, [], _∷_, _++_}
 use mathlib.Core.Path.{_≡_, _∙_}
@@ -7,70 +8,49 @@ use Rattle.refal_spelling.specs.Spell.{body, quoted}
 use borrow.Author.Needs.{needs}
 use Rattle.refal_writer.proofs.token.write_char.Statement.{statement}
 use Rattle.refal_writer.proofs.token.write_char.Tie as tie
-use Rattle.refal_writer.proofs.token.write_char.Reads as reads
-use Rattle.refal_writer.proofs.token.write_char.Lts as lts
-use Rattle.refal_rows.proofs.least.Reads as least-reads
-use Rattle.refal_writer.proofs.bytes.put1.Reads as put1-reads
-use Rattle.refal_writer.proofs.bytes.put2.Reads as put2-reads
-use Rattle.refal_writer.proofs.token.put_code.Reads as put-code-reads
 
--- src/token.rt:87:9
 put1-requires : tie.Need-put1-requires
 put1-requires c κs = search needs
 
--- src/token.rt:88:9
 least-requires : tie.Need-least-requires
 least-requires c κs = search needs
 
--- src/token.rt:89:25
 sub-put-code : tie.Need-sub-put-code
 sub-put-code c = search needs
 
--- src/token.rt:89:25
 part-put-code-start : tie.Need-part-put-code-start
 part-put-code-start c = search needs
 
--- src/token.rt:89:25
 part-put-code-end : tie.Need-part-put-code-end
 part-put-code-end c = search needs
 
--- src/token.rt:89:9
 put-code-requires : tie.Need-put-code-requires
 put-code-requires c κs = search needs
 
--- src/token.rt:90:14
 add-ab : tie.Need-add-ab
 add-ab c = search needs
 
--- src/token.rt:91:9
 least-requires-2 : tie.Need-least-requires-2
 least-requires-2 c κs = search needs
 
--- src/token.rt:92:26
 sub-put2 : tie.Need-sub-put2
 sub-put2 c = search needs
 
--- src/token.rt:92:26
 part-put2-start : tie.Need-part-put2-start
 part-put2-start c = search needs
 
--- src/token.rt:92:26
 part-put2-end : tie.Need-part-put2-end
 part-put2-end c = search needs
 
--- src/token.rt:92:9
 put2-requires : tie.Need-put2-requires
 put2-requires c κs = search needs
 
--- src/token.rt:93:5
 add-result : tie.Need-add-result
 add-result c = search needs
 
--- src/token.rt:84:1
 same-length : tie.Need-same-length
 same-length c = search needs
 
--- src/token.rt:84:1
 returns : tie.Need-returns
 returns c = let x = c .before .before .before .before .before .before .before .before .before .before .before .before .before .before .before .args .x in
     let p1 = pours-first (39 ∷ []) (body x ++ 39 ∷ 32 ∷ []) _ _ _ (c .before .before .before .before .before .before .before .before .before .before .before .before .put1 .ensures .0) in

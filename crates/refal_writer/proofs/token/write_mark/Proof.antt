@@ -1,3 +1,4 @@
+-- `refal_writer::token::write_mark` meets its contract.
 use native.Mathlib.Omega.{arith}
 use mathlib.Core.List.{List, [], _∷_, _++_}
 use mathlib.Core.Path.{_≡_, ap, _∙_}
@@ -6,57 +7,40 @@ use Rattle.refal_writer.specs.Token.{tokenText, entry-text, extern-text,
 use borrow.Author.Needs.{needs}
 use Rattle.refal_writer.proofs.token.write_mark.Statement.{statement}
 use Rattle.refal_writer.proofs.token.write_mark.Tie as tie
-use Rattle.refal_writer.proofs.token.write_mark.Reads as reads
-use Rattle.refal_writer.proofs.token.write_mark.Lts as lts
-use Rattle.refal_writer.proofs.bytes.put2.Reads as put2-reads
-use Rattle.refal_writer.proofs.bytes.put_word.Reads as put-word-reads
-use Rattle.refal_writer.proofs.token.mark_byte.Reads as mark-byte-reads
 
--- src/token.rt:102:25
 slice-aggregate-put-word : tie.Need-slice-aggregate-put-word
 slice-aggregate-put-word c = search needs
 
--- src/token.rt:102:9
 put-word-requires : tie.Need-put-word-requires
 put-word-requires c κs = search needs
 
--- src/token.rt:102:9
 same-length : tie.Need-same-length
 same-length c = search needs
 
--- src/token.rt:102:9
 returns : tie.Need-returns
 returns c = (puts-as _ _ (entry-text (c .before .before .before .before .before .before .before .args .kind) 0 [] (c .before .before .before .before .before .if1 .taken)) (c .before .before .put-word .ensures), omega (arith, c .before .before .put-word .ensures .count))
 
--- src/token.rt:105:25
 slice-aggregate-put-word-2 : tie.Need-slice-aggregate-put-word-2
 slice-aggregate-put-word-2 c = search needs
 
--- src/token.rt:105:9
 put-word-requires-2 : tie.Need-put-word-requires-2
 put-word-requires-2 c κs = search needs
 
--- src/token.rt:105:9
 same-length-2 : tie.Need-same-length-2
 same-length-2 c = search needs
 
--- src/token.rt:105:9
 returns-2 : tie.Need-returns-2
 returns-2 c = (puts-as _ _ (extern-text (c .before .before .before .before .before .before .before .before .args .kind) 0 [] (c .before .before .before .before .before .if2 .taken)) (c .before .before .put-word2 .ensures), omega (arith, c .before .before .put-word2 .ensures .count))
 
--- src/token.rt:107:10
 mark-byte-requires : tie.Need-mark-byte-requires
 mark-byte-requires c κs = search needs
 
--- src/token.rt:107:5
 put2-requires : tie.Need-put2-requires
 put2-requires c κs = search needs
 
--- src/token.rt:97:1
 same-length-3 : tie.Need-same-length-3
 same-length-3 c = search needs
 
--- src/token.rt:97:1
 returns-3 : tie.Need-returns-3
 returns-3 c = let k = c .before .before .before .before .before .before .before .before .args .kind in
     (puts-as _ _ (ap (λ b. b ∷ 32 ∷ []) (c .before .before .before .before .mark-byte .ensures) ∙ mark-text k 0 [] (c .before .before .before .before .before .before .before .before .pre) (c .before .before .before .before .before .before .if1 .left) (c .before .before .before .before .before .if2 .left)) (c .before .before .put2 .ensures .0), omega arith)

@@ -1,3 +1,4 @@
+-- `refal_writer::token::write_token` meets its contract.
 use native.Mathlib.Omega.{arith}
 use Rattle.refal_spelling.specs.Spell.{textAt}
 use Rattle.refal_writer.specs.Puts.{Puts, puts-as}
@@ -5,74 +6,53 @@ use Rattle.refal_writer.specs.Token.{tokenText, Mark, name-text, variabl
 use borrow.Author.Needs.{needs}
 use Rattle.refal_writer.proofs.token.write_token.Statement.{statement}
 use Rattle.refal_writer.proofs.token.write_token.Tie as tie
-use Rattle.refal_writer.proofs.token.write_token.Reads as reads
-use Rattle.refal_writer.proofs.token.write_token.Lts as lts
-use Rattle.refal_writer.proofs.token.write_char.Reads as write-char-reads
-use Rattle.refal_writer.proofs.token.write_mark.Reads as write-mark-reads
-use Rattle.refal_writer.proofs.token.write_text.Reads as write-text-reads
-use Rattle.refal_writer.proofs.token.write_variable.Reads as write-variable-reads
 
--- src/token.rt:116:9
 write-text-requires : tie.Need-write-text-requires
 write-text-requires c κs = search needs
 
--- src/token.rt:116:9
 same-length : tie.Need-same-length
 same-length c = search needs
 
--- src/token.rt:116:9
 returns : tie.Need-returns
 returns c = let a = c .before .before .before .before .before .before .before .args in
     (puts-as _ _ (name-text (a .kind) (a .detail) (textAt (a .src .now) (a .start) (a .len)) (c .before .before .before .before .if1 .taken)) (c .before .before .write-text .ensures .0), omega arith)
 
--- src/token.rt:119:9
 write-variable-requires : tie.Need-write-variable-requires
 write-variable-requires c κs = c .before .before .before .before .before .pre .letter (c .before .if2 .taken)
 
--- src/token.rt:119:9
 same-length-2 : tie.Need-same-length-2
 same-length-2 c = search needs
 
--- src/token.rt:119:9
 returns-2 : tie.Need-returns-2
 returns-2 c = let a = c .before .before .before .before .before .before .before .before .args in
     (puts-as _ _ (variable-text (a .kind) (a .detail) (textAt (a .src .now) (a .start) (a .len)) (c .before .before .before .before .if2 .taken)) (c .before .before .write-variable .ensures .0), omega arith)
 
--- src/token.rt:122:9
 write-text-requires-2 : tie.Need-write-text-requires-2
 write-text-requires-2 c κs = search needs
 
--- src/token.rt:122:9
 same-length-3 : tie.Need-same-length-3
 same-length-3 c = search needs
 
--- src/token.rt:122:9
 returns-3 : tie.Need-returns-3
 returns-3 c = let a = c .before .before .before .before .before .before .before .before .before .args in
     (puts-as _ _ (number-text (a .kind) (a .detail) (textAt (a .src .now) (a .start) (a .len)) (c .before .before .before .before .if3 .taken)) (c .before .before .write-text2 .ensures .0), omega arith)
 
--- src/token.rt:125:9
 write-char-requires : tie.Need-write-char-requires
 write-char-requires c κs = search needs
 
--- src/token.rt:125:9
 same-length-4 : tie.Need-same-length-4
 same-length-4 c = search needs
 
--- src/token.rt:125:9
 returns-4 : tie.Need-returns-4
 returns-4 c = let a = c .before .before .before .before .before .before .before .before .before .before .args in
     (puts-as _ _ (char-text (a .kind) (a .detail) (textAt (a .src .now) (a .start) (a .len)) (c .before .before .before .before .if4 .taken)) (c .before .before .write-char .ensures .0), omega arith)
 
--- src/token.rt:127:5
 write-mark-requires : tie.Need-write-mark-requires
 write-mark-requires c κs = search needs
 
--- src/token.rt:111:1
 same-length-5 : tie.Need-same-length-5
 same-length-5 c = search needs
 
--- src/token.rt:111:1
 returns-5 : tie.Need-returns-5
 returns-5 c = let a = c .before .before .before .before .before .before .before .before .before .before .args in
     (puts-as _ _ (bare-text (a .kind) (a .detail) (textAt (a .src .now) (a .start) (a .len)) (record { few = c .before .before .before .before .before .before .before .before .before .before .pre .few; no-name = c .before .before .before .before .before .before .before .if1 .left; no-variable = c .before .before .before .before .before .before .if2 .left; no-number = c .before .before .before .before .before .if3 .left; no-char = c .before .before .before .before .if4 .left })) (c .before .before .write-mark .ensures .0), omega arith)

@@ -1,3 +1,4 @@
+-- `refal_writer::walk::write_rows` meet their contracts, as one cycle of calls.
 use Prim.Native.Nat.{ℕ, _+_, _*_, _-_, _≤_, _<_}
 use mathlib.Core.List.{List, []}
 use mathlib.Core.Path.{_≡_, refl, sym, subst, _∙_}
@@ -42,7 +43,6 @@ write-rows-Inv-loop tree src from to start out₀ i₀ st₀ at₀ out i st at =
 abbrev write-rows-μ-loop : write-rows-lts.MeasureT-loop
 write-rows-μ-loop tree src from to start out₀ i₀ st₀ at₀ out i st at = to - i
 
--- src/walk.rt:57:5
 write-rows-loop-holds : (t : ℕ) → write-rows-lts.Need-loop-holds (
   kind-reads.Asked,
   kind-reads.Learnt,
@@ -63,7 +63,6 @@ write-rows-loop-holds : (t : ℕ) → write-rows-lts.Need-loop-holds (
 ) (write-rows-at t) write-rows.Post write-rows-Inv-loop write-rows-μ-loop
 write-rows-loop-holds t c = (omega arith, c .before .before .before .pre .1 .0, refl, omega arith, c .before .before .before .pre .1 .3, pours-start _ _)
 
--- src/walk.rt:58:13
 write-rows-kind-requires : (t : ℕ) → write-rows-lts.Need-kind-requires (
   kind-reads.Asked,
   kind-reads.Learnt,
@@ -84,7 +83,6 @@ write-rows-kind-requires : (t : ℕ) → write-rows-lts.Need-kind-requires (
 ) (write-rows-at t) write-rows.Post write-rows-Inv-loop write-rows-μ-loop
 write-rows-kind-requires t c κs = search needs
 
--- src/walk.rt:59:13
 write-rows-next-requires : (t : ℕ) → write-rows-lts.Need-next-requires (
   kind-reads.Asked,
   kind-reads.Learnt,
@@ -105,7 +103,6 @@ write-rows-next-requires : (t : ℕ) → write-rows-lts.Need-next-requires (
 ) (write-rows-at t) write-rows.Post write-rows-Inv-loop write-rows-μ-loop
 write-rows-next-requires t c κs = search needs
 
--- src/walk.rt:60:21
 write-rows-add-first : (t : ℕ) → write-rows-lts.Need-add-first (
   kind-reads.Asked,
   kind-reads.Learnt,
@@ -126,7 +123,6 @@ write-rows-add-first : (t : ℕ) → write-rows-lts.Need-add-first (
 ) (write-rows-at t) write-rows.Post write-rows-Inv-loop write-rows-μ-loop
 write-rows-add-first t c = search needs
 
--- src/walk.rt:61:13
 write-rows-least-requires : (t : ℕ) → write-rows-lts.Need-least-requires (
   kind-reads.Asked,
   kind-reads.Learnt,
@@ -147,7 +143,6 @@ write-rows-least-requires : (t : ℕ) → write-rows-lts.Need-least-requires (
 ) (write-rows-at t) write-rows.Post write-rows-Inv-loop write-rows-μ-loop
 write-rows-least-requires t c κs = search needs
 
--- src/walk.rt:62:44
 write-rows-sub-open-row : (t : ℕ) → write-rows-lts.Need-sub-open-row (
   kind-reads.Asked,
   kind-reads.Learnt,
@@ -168,7 +163,6 @@ write-rows-sub-open-row : (t : ℕ) → write-rows-lts.Need-sub-open-row (
 ) (write-rows-at t) write-rows.Post write-rows-Inv-loop write-rows-μ-loop
 write-rows-sub-open-row t c = search needs
 
--- src/walk.rt:62:44
 write-rows-part-open-row-start : (t : ℕ) → write-rows-lts.Need-part-open-row-start (
   kind-reads.Asked,
   kind-reads.Learnt,
@@ -189,7 +183,6 @@ write-rows-part-open-row-start : (t : ℕ) → write-rows-lts.Need-part-open-row
 ) (write-rows-at t) write-rows.Post write-rows-Inv-loop write-rows-μ-loop
 write-rows-part-open-row-start t c = search needs
 
--- src/walk.rt:62:44
 write-rows-part-open-row-end : (t : ℕ) → write-rows-lts.Need-part-open-row-end (
   kind-reads.Asked,
   kind-reads.Learnt,
@@ -210,7 +203,6 @@ write-rows-part-open-row-end : (t : ℕ) → write-rows-lts.Need-part-open-row-e
 ) (write-rows-at t) write-rows.Post write-rows-Inv-loop write-rows-μ-loop
 write-rows-part-open-row-end t c = search needs
 
--- src/walk.rt:62:13
 write-rows-open-row-requires : (t : ℕ) → write-rows-lts.Need-open-row-requires (
   kind-reads.Asked,
   kind-reads.Learnt,
@@ -234,7 +226,6 @@ write-rows-open-row-requires t c κs = let a = c .before .before .before .before
     let m : g .i < a .to = c .before .before .before .before .loop-test .taken in
     (omega arith, walk-row (a .tree .now) (g .i) (a .to) (g .st) (c .before .before .before .kind .result) (c .before .before .next .result) (c .before .before .before .kind .ensures) (c .before .before .next .ensures) (c .before .before .before .before .before .before .before .before .before .pre .1 .1) m (g .inv .4))
 
--- src/walk.rt:63:22
 write-rows-add-opened : (t : ℕ) → write-rows-lts.Need-add-opened (
   kind-reads.Asked,
   kind-reads.Learnt,
@@ -255,7 +246,6 @@ write-rows-add-opened : (t : ℕ) → write-rows-lts.Need-add-opened (
 ) (write-rows-at t) write-rows.Post write-rows-Inv-loop write-rows-μ-loop
 write-rows-add-opened t c = search needs
 
--- src/walk.rt:64:13
 write-rows-least-requires-2 : (t : ℕ) → write-rows-lts.Need-least-requires-2 (
   kind-reads.Asked,
   kind-reads.Learnt,
@@ -276,7 +266,6 @@ write-rows-least-requires-2 : (t : ℕ) → write-rows-lts.Need-least-requires-2
 ) (write-rows-at t) write-rows.Post write-rows-Inv-loop write-rows-μ-loop
 write-rows-least-requires-2 t c κs = search needs
 
--- src/walk.rt:65:51
 write-rows-inside-requires : (t : ℕ) → write-rows-lts.Need-inside-requires (
   kind-reads.Asked,
   kind-reads.Learnt,
@@ -297,7 +286,6 @@ write-rows-inside-requires : (t : ℕ) → write-rows-lts.Need-inside-requires (
 ) (write-rows-at t) write-rows.Post write-rows-Inv-loop write-rows-μ-loop
 write-rows-inside-requires t c κs = search needs
 
--- src/walk.rt:65:62
 write-rows-sub-write-rows : (t : ℕ) → write-rows-lts.Need-sub-write-rows (
   kind-reads.Asked,
   kind-reads.Learnt,
@@ -318,7 +306,6 @@ write-rows-sub-write-rows : (t : ℕ) → write-rows-lts.Need-sub-write-rows (
 ) (write-rows-at t) write-rows.Post write-rows-Inv-loop write-rows-μ-loop
 write-rows-sub-write-rows t c = search needs
 
--- src/walk.rt:65:62
 write-rows-part-write-rows-start : (t : ℕ) → write-rows-lts.Need-part-write-rows-start (
   kind-reads.Asked,
   kind-reads.Learnt,
@@ -339,7 +326,6 @@ write-rows-part-write-rows-start : (t : ℕ) → write-rows-lts.Need-part-write-
 ) (write-rows-at t) write-rows.Post write-rows-Inv-loop write-rows-μ-loop
 write-rows-part-write-rows-start t c = search needs
 
--- src/walk.rt:65:62
 write-rows-part-write-rows-end : (t : ℕ) → write-rows-lts.Need-part-write-rows-end (
   kind-reads.Asked,
   kind-reads.Learnt,
@@ -360,7 +346,6 @@ write-rows-part-write-rows-end : (t : ℕ) → write-rows-lts.Need-part-write-ro
 ) (write-rows-at t) write-rows.Post write-rows-Inv-loop write-rows-μ-loop
 write-rows-part-write-rows-end t c = search needs
 
--- src/walk.rt:65:13
 write-rows-write-rows-requires : (t : ℕ) → write-rows-lts.Need-write-rows-requires (
   kind-reads.Asked,
   kind-reads.Learnt,
@@ -389,7 +374,6 @@ write-rows-write-rows-requires t c κs = let a = c .before .before .before .befo
     let e = c .before .before .before .before .before .before .before .before .before .before .before .before .before .before .before .pre .0 in
     (omega arith, (omega arith, omega arith, omega arith, s))
 
--- src/walk.rt:66:22
 write-rows-add-filled : (t : ℕ) → write-rows-lts.Need-add-filled (
   kind-reads.Asked,
   kind-reads.Learnt,
@@ -415,7 +399,6 @@ write-rows-add-filled t c = let a = c .before .before .before .before .before .b
     let f = filled-small (a .from) (g .i) (c .before .before .before .before .before .before .before .before .before .before .before .next .result) (a .to) (g .at) (c .before .before .before .before .before .before .before .before .open-row .result) (c .before .before .write-rows .result) (g .inv .3) (c .before .before .before .before .before .before .before .before .open-row .ensures .1) (c .before .before .write-rows .ensures .1) hi (c .before .before .before .before .before .before .before .before .before .before .before .before .before .before .before .before .before .before .pre .1 .2) in
     search needs
 
--- src/walk.rt:67:13
 write-rows-least-requires-3 : (t : ℕ) → write-rows-lts.Need-least-requires-3 (
   kind-reads.Asked,
   kind-reads.Learnt,
@@ -436,7 +419,6 @@ write-rows-least-requires-3 : (t : ℕ) → write-rows-lts.Need-least-requires-3
 ) (write-rows-at t) write-rows.Post write-rows-Inv-loop write-rows-μ-loop
 write-rows-least-requires-3 t c κs = search needs
 
--- src/walk.rt:68:43
 write-rows-sub-write-closing : (t : ℕ) → write-rows-lts.Need-sub-write-closing (
   kind-reads.Asked,
   kind-reads.Learnt,
@@ -457,7 +439,6 @@ write-rows-sub-write-closing : (t : ℕ) → write-rows-lts.Need-sub-write-closi
 ) (write-rows-at t) write-rows.Post write-rows-Inv-loop write-rows-μ-loop
 write-rows-sub-write-closing t c = search needs
 
--- src/walk.rt:68:43
 write-rows-part-write-closing-start : (t : ℕ) → write-rows-lts.Need-part-write-closing-start (
   kind-reads.Asked,
   kind-reads.Learnt,
@@ -478,7 +459,6 @@ write-rows-part-write-closing-start : (t : ℕ) → write-rows-lts.Need-part-wri
 ) (write-rows-at t) write-rows.Post write-rows-Inv-loop write-rows-μ-loop
 write-rows-part-write-closing-start t c = search needs
 
--- src/walk.rt:68:43
 write-rows-part-write-closing-end : (t : ℕ) → write-rows-lts.Need-part-write-closing-end (
   kind-reads.Asked,
   kind-reads.Learnt,
@@ -499,7 +479,6 @@ write-rows-part-write-closing-end : (t : ℕ) → write-rows-lts.Need-part-write
 ) (write-rows-at t) write-rows.Post write-rows-Inv-loop write-rows-μ-loop
 write-rows-part-write-closing-end t c = search needs
 
--- src/walk.rt:68:13
 write-rows-write-closing-requires : (t : ℕ) → write-rows-lts.Need-write-closing-requires (
   kind-reads.Asked,
   kind-reads.Learnt,
@@ -520,7 +499,6 @@ write-rows-write-closing-requires : (t : ℕ) → write-rows-lts.Need-write-clos
 ) (write-rows-at t) write-rows.Post write-rows-Inv-loop write-rows-μ-loop
 write-rows-write-closing-requires t c κs = search needs
 
--- src/walk.rt:69:14
 write-rows-add-at : (t : ℕ) → write-rows-lts.Need-add-at (
   kind-reads.Asked,
   kind-reads.Learnt,
@@ -547,7 +525,6 @@ write-rows-add-at t c = let a = c .before .before .before .before .before .befor
     let l = c .before .before .write-closing .ensures .1 in
     search needs
 
--- src/walk.rt:70:9
 write-rows-after-requires : (t : ℕ) → write-rows-lts.Need-after-requires (
   kind-reads.Asked,
   kind-reads.Learnt,
@@ -568,7 +545,6 @@ write-rows-after-requires : (t : ℕ) → write-rows-lts.Need-after-requires (
 ) (write-rows-at t) write-rows.Post write-rows-Inv-loop write-rows-μ-loop
 write-rows-after-requires t c κs = search needs
 
--- src/walk.rt:57:5
 write-rows-loop-less : (t : ℕ) → write-rows-lts.Need-loop-less (
   kind-reads.Asked,
   kind-reads.Learnt,
@@ -592,7 +568,6 @@ write-rows-loop-less t c = let a = c .before .before .before .before .before .be
     let m : g .i < a .to = c .before .before .before .before .before .before .before .before .before .before .before .before .before .before .before .before .before .before .before .loop-test .taken in
     left-falls (g .i) (c .before .before .before .before .before .before .before .before .before .before .before .before .before .before .before .before .before .next .result) (a .to) (walk-low (a .tree .now) (g .i) (a .to) (g .st) (c .before .before .before .before .before .before .before .before .before .before .before .before .before .before .before .before .before .before .kind .result) (c .before .before .before .before .before .before .before .before .before .before .before .before .before .before .before .before .before .next .result) (c .before .before .before .before .before .before .before .before .before .before .before .before .before .before .before .before .before .before .kind .ensures) (c .before .before .before .before .before .before .before .before .before .before .before .before .before .before .before .before .before .next .ensures) (c .before .before .before .before .before .before .before .before .before .before .before .before .before .before .before .before .before .before .before .before .before .before .before .before .pre .1 .1) m (g .inv .4)) (walk-high (a .tree .now) (g .i) (a .to) (g .st) (c .before .before .before .before .before .before .before .before .before .before .before .before .before .before .before .before .before .before .kind .result) (c .before .before .before .before .before .before .before .before .before .before .before .before .before .before .before .before .before .next .result) (c .before .before .before .before .before .before .before .before .before .before .before .before .before .before .before .before .before .before .kind .ensures) (c .before .before .before .before .before .before .before .before .before .before .before .before .before .before .before .before .before .next .ensures) (c .before .before .before .before .before .before .before .before .before .before .before .before .before .before .before .before .before .before .before .before .before .before .before .before .pre .1 .1) m (g .inv .4))
 
--- src/walk.rt:57:5
 write-rows-loop-again : (t : ℕ) → write-rows-lts.Need-loop-again (
   kind-reads.Asked,
   kind-reads.Learnt,
@@ -627,7 +602,6 @@ write-rows-loop-again t c = let a = c .before .before .before .before .before .b
     let f : a .from ≤ c .before .before .before .before .before .before .before .before .before .before .before .before .before .before .before .before .before .next .result = let i = g .inv .0 in omega arith in
     (f, hi, c .before .before .out3 .given .1 ∙ c .before .before .before .before .before .before .before .out2 .given .1 ∙ c .before .before .before .before .before .before .before .before .before .before .before .before .before .out .given .1 ∙ g .inv .2, b, rest, p3)
 
--- src/walk.rt:50:1
 write-rows-same-length : (t : ℕ) → write-rows-lts.Need-same-length (
   kind-reads.Asked,
   kind-reads.Learnt,
@@ -648,7 +622,6 @@ write-rows-same-length : (t : ℕ) → write-rows-lts.Need-same-length (
 ) (write-rows-at t) write-rows.Post write-rows-Inv-loop write-rows-μ-loop
 write-rows-same-length t c = c .before .loop .inv .2
 
--- src/walk.rt:50:1
 write-rows-returns : (t : ℕ) → write-rows-lts.Need-returns (
   kind-reads.Asked,
   kind-reads.Learnt,
