@@ -104,7 +104,7 @@ accepted w B T g f =
           ∙ ap (λ (b : Bool). pickAnswer b (Done (sizeP (c .0))) (Refused (refusal 38 0 0 0 0 (sizeP (c .0))))) (le-leb (nodeWidth * sizeP (c .0)) (length B) r),
     )
 
-one : (w B : List ℕ) (m : ℕ) → parseAnswer w B ≡ Done m → (T : List ℕ) (t : Lawful T) → Flattens t w → SameButSpans T (parserTree w B m)
+pub one : (w B : List ℕ) (m : ℕ) → parseAnswer w B ≡ Done m → (T : List ℕ) (t : Lawful T) → Flattens t w → SameButSpans T (parserTree w B m)
 one w B m e T t f =
     let S = success (parsed w) B m e in
     let r : parserTree w B m ≡ encP (S .t) 0 = parser-tree w B m (S .t) (S .is) (S .size) (S .room) in

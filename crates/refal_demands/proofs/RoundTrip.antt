@@ -24,7 +24,7 @@ use Rattle.refal_spelling.specs.Sound.{Sound, AllSound, sound-none, sound-more,
 use Rattle.refal_spelling.specs.Good.{AllGood}
 use Rattle.refal_spelling.specs.RoundTrip.{withEof, LeavesGood, ReadsBack, Suffices, reading-gives-good, text-reads, text-reads-back, length-at, first-rows, first-rows-back}
 use Rattle.refal_demands.specs.Trees.{Lawful, withoutLast, tokensBeforeEof}
-use Rattle.refal_demands.specs.RoundTrip.{tokenRows, Accepted, treeRows, SameAsSpelled, RowsSuffice}
+use Rattle.refal_demands.specs.RoundTrip.{tokenRows, Accepted, treeRows, SameAsSpelled, RowsSuffice, Again}
 use Rattle.refal_demands.proofs.Respan.{eraseP, size-respanP}
 use Rattle.refal_demands.proofs.FlatSpans.{same-flat, loose-own}
 use Rattle.refal_demands.proofs.Retext.{Alike, AllAlike, alike-none, alike-more, retext}
@@ -137,10 +137,6 @@ text-back s t a d M R =
     (ap (views (text ws)) e ∙ R .same) (g .sound)
 
 -- ---- over what the calls answer and leave
-pub record Again (s T s′ M B : List ℕ) : Type 0 where
-  pub accepted : Accepted s′ M B
-  pub same : SameAsSpelled s T s′ (treeRows accepted)
-
 done : (o : Outcome) (u : Program) (B : List ℕ) → o ≡ tree u → nodeWidth * sizeP u ≤ length B → answerOf o B ≡ Done (sizeP u)
 done o u B e r = ap (λ (x : Outcome). answerOf x B) e ∙ ap (λ (b : Bool). pickAnswer b (Done (sizeP u)) (Refused (refusal 38 0 0 0 0 (sizeP u)))) (le-leb (nodeWidth * sizeP u) (length B) r)
 
