@@ -4,7 +4,6 @@ use Prim.Native.Nat.{ℕ, _*_, _≤_}
 use mathlib.Core.List.{List, [], _∷_, _++_}
 use mathlib.Core.Bool.{Bool, true, false}
 use native.Mathlib.Omega.{arith}
-use lib.Dec.{leb}
 use lib.ListN.{length, take, drop, replicate}
 use lib.Seq.{take-at}
 use borrow.Author.Tests.{leb-true, le-leb}
@@ -16,10 +15,9 @@ use Rattle.refal_ast.specs.Check.{wellFormed}
 use Rattle.refal_ast.specs.Tree.{Program, sizeP, depthP}
 use Rattle.refal_ast.specs.Encode.{nodeWidth, encP}
 use Rattle.refal_ast.specs.Flatten.{Flat, mark, flatOf, flatsOf, Loose}
-use Rattle.refal_ast.specs.declared.Answer.{Answer}
 use Rattle.refal_ast.specs.declared.Answer.the-variants.{Done, Refused}
 use Rattle.refal_parser.specs.Machine.{Outcome, tree, refuse}
-use Rattle.refal_parser.specs.Parse.{parsed, fits, answerOf, rowsLeft, parseAnswer, parseRows}
+use Rattle.refal_parser.specs.Parse.{parsed, fits, answerOf, rowsLeft, parseAnswer}
 use Rattle.refal_tree.specs.ForestLaws.{length-enc}
 use Rattle.refal_tree.specs.Typed.{toForest}
 use Rattle.refal_tree.specs.TypedWords.{enc-tree, size-tree}
@@ -27,7 +25,7 @@ use Rattle.refal_demands.specs.Spans.{SameButSpans}
 use Rattle.refal_demands.specs.Trees.{Lawful, withoutLast, tokensBeforeEof, Flattens}
 use Rattle.refal_demands.specs.Demand3.{Fits, parserTree, Theorem}
 use Rattle.refal_demands.proofs.Fields.{Ends, ends, plain}
-use Rattle.refal_demands.proofs.Respan.{eraseP, size-respanP}
+use Rattle.refal_demands.proofs.Respan.{size-respanP}
 use Rattle.refal_demands.proofs.Moved.{same-rows}
 use Rattle.refal_demands.proofs.Theorems.{ok-tokens, soundness, completeness, uniqueness}
 

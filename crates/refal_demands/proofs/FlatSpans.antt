@@ -1,11 +1,10 @@
 -- A tree's flattening has no spans, and is one of the lists that the tree flattens to but for semicolons outside items.
 use mathlib.Core.Path.{_≡_, refl, sym, ap, _∙_}
 use Prim.Native.Nat.{ℕ}
-use mathlib.Core.List.{List, [], _∷_, _++_}
-use Rattle.refal_ast.specs.Kinds.{tokLParen, tokRParen, tokLAngle, tokRAngle, tokRBrace, tokLBrace}
+use mathlib.Core.List.{List, _++_}
 use Rattle.refal_ast.specs.Tree.{Terms, t0, tLeaf, tBracket, tCall, Conditions, c0, cTerms, cBlock, Sentences, s0, sTerms, sBlock}
 use Rattle.refal_ast.specs.Tree.{Program, p0, pDeclaration, pFunction}
-use Rattle.refal_ast.specs.Flatten.{Flat, mark, nameOf, flatEntry, flatDeclaration, flatFunction, flattenT, flattenC, flattenS, flattenP}
+use Rattle.refal_ast.specs.Flatten.{Flat, flatDeclaration, flattenT, flattenC, flattenS, flattenP}
 use Rattle.refal_ast.specs.Flatten.{Loose, loose-none, loose-declaration, loose-function}
 use Rattle.refal_demands.proofs.Respan.{respanT, respanC, respanS, respanP, eraseP}
 

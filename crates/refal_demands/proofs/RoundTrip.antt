@@ -8,7 +8,7 @@ use lib.ListN.{length, length-append}
 use borrow.Author.Tests.{le-leb}
 use Rattle.refal_ast.specs.Kinds.{tokEof}
 use Rattle.refal_ast.specs.Answers.{refusal, pickAnswer}
-use Rattle.refal_ast.specs.Tokens.{Token, token, flat, tokensOf, tokens-flat}
+use Rattle.refal_ast.specs.Tokens.{Token, flat, tokensOf, tokens-flat}
 use Rattle.refal_ast.specs.Check.{wellFormed}
 use Rattle.refal_ast.specs.Encode.{nodeWidth, encP}
 use Rattle.refal_ast.specs.Tree.{Program, sizeP, depthP}
@@ -16,18 +16,18 @@ use Rattle.refal_ast.specs.Flatten.{Flat, mark, flatOf, flatsOf, flattenP, Loos
 use Rattle.refal_ast.specs.declared.Answer.the-variants.{Done, Refused}
 use Rattle.refal_lexer.specs.Lex.{Out, lex}
 use Rattle.refal_parser.specs.Machine.{Outcome, tree}
-use Rattle.refal_parser.specs.Parse.{parsed, answerOf, parseAnswer}
+use Rattle.refal_parser.specs.Parse.{parsed, answerOf}
 use Rattle.refal_tree.specs.Lawful.{lawful, lawful-is, mostRows}
 use Rattle.refal_spelling.specs.Spell.{Spelled, view, views, text}
 use Rattle.refal_spelling.specs.Places.{tokensAt}
-use Rattle.refal_spelling.specs.Sound.{Sound, AllSound, sound-none, sound-more, sound-good, loose-sound}
+use Rattle.refal_spelling.specs.Sound.{AllSound, sound-more, sound-good, loose-sound}
 use Rattle.refal_spelling.specs.Good.{AllGood}
-use Rattle.refal_spelling.specs.RoundTrip.{withEof, LeavesGood, ReadsBack, Suffices, reading-gives-good, text-reads, text-reads-back, length-at, first-rows, first-rows-back}
-use Rattle.refal_demands.specs.Trees.{Lawful, withoutLast, tokensBeforeEof}
-use Rattle.refal_demands.specs.RoundTrip.{tokenRows, Accepted, treeRows, SameAsSpelled, RowsSuffice, Again}
-use Rattle.refal_demands.proofs.Respan.{eraseP, size-respanP}
+use Rattle.refal_spelling.specs.RoundTrip.{withEof, ReadsBack, Suffices, reading-gives-good, text-reads, text-reads-back, length-at, first-rows, first-rows-back}
+use Rattle.refal_demands.specs.Trees.{withoutLast, tokensBeforeEof}
+use Rattle.refal_demands.specs.RoundTrip.{tokenRows, Accepted, treeRows, RowsSuffice, Again}
+use Rattle.refal_demands.proofs.Respan.{size-respanP}
 use Rattle.refal_demands.proofs.FlatSpans.{same-flat, loose-own}
-use Rattle.refal_demands.proofs.Retext.{Alike, AllAlike, alike-none, alike-more, retext}
+use Rattle.refal_demands.proofs.Retext.{AllAlike, alike-none, alike-more, retext}
 use Rattle.refal_demands.proofs.Theorems.{completeness}
 use Rattle.refal_demands.proofs.Demand3.{success, parser-tree, without-last, flattens, is-deep}
 use Rattle.refal_demands.proofs.Bound.{nodes-few}

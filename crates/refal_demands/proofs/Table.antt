@@ -1,5 +1,5 @@
 -- The rows of document 01's worked table hold, by computing the definitions.
-use mathlib.Core.Path.{_≡_, refl}
+use mathlib.Core.Path.{refl}
 use Rattle.refal_demands.specs.Table.{AllHold, table}
 use Rattle.refal_ast.specs.Tokens.{tokensOf}
 use Rattle.refal_ast.specs.Check.{okTokens, wellFormed}
