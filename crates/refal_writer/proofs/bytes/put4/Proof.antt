@@ -1,0 +1,41 @@
+-- `refal_writer::bytes::put4` meets its contract.
+use native.Mathlib.Omega.{arith}
+use lib.ListN.{length-set}
+use mathlib.Core.Path.{refl}
+use Rattle.refal_writer.specs.Puts.{Puts, four-set}
+use borrow.Author.Needs.{needs}
+use Rattle.refal_writer.proofs.bytes.put4.Statement.{statement}
+use Rattle.refal_writer.proofs.bytes.put4.Tie as tie
+
+slice-write-out : tie.Need-slice-write-out
+slice-write-out c = search needs
+
+slice-write-out-2 : tie.Need-slice-write-out-2
+slice-write-out-2 c = simp length-set (omega arith)
+
+slice-write-out-3 : tie.Need-slice-write-out-3
+slice-write-out-3 c = simp length-set (omega arith)
+
+slice-write-out-4 : tie.Need-slice-write-out-4
+slice-write-out-4 c = simp length-set (omega arith)
+
+same-length : tie.Need-same-length
+same-length c = simp length-set
+
+returns : tie.Need-returns
+returns c = (record { count = refl; bytes = λ h. four-set (c .before .args .out .now) _ _ _ _ h }, omega arith)
+
+returns-2 : tie.Need-returns-2
+returns-2 c = (record { count = refl; bytes = λ h. absurd (omega arith) }, omega arith)
+
+pub put4-spec : {M : Type 1} → statement M
+put4-spec =
+    tie.close
+    (tie.spec
+    slice-write-out
+    slice-write-out-2
+    slice-write-out-3
+    slice-write-out-4
+    same-length
+    returns
+    returns-2)

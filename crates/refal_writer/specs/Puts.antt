@@ -1,0 +1,170 @@
+-- What writers of bytes leave in a slice: `Puts`, bytes at its front where they fit; `Pours`, a text put part by part, each part into
+-- the rest of the slice lent from its middle.
+use Prim.Native.Nat.{ℕ, zero, suc, _+_, _-_, _<_, _≤_, min}
+use native.Mathlib.Omega.{arith}
+use native.Mathlib.Numerals.{add-one}
+use native.Mathlib.Decide.{decLe}
+use native.Mathlib.Nat.{zero-add, le-of-eq}
+use mathlib.Core.List.{List, [], _∷_, _++_, append-nil, append-assoc}
+use mathlib.Core.Path.{_≡_, refl, ap, _∙_, sym, subst}
+use lib.ListN.{length, take, drop, getD, set, length-drop, length-append, drop-of-length-le}
+use lib.Seq.{getD-drop, drop-cons, drop-drop, set-at, take-at, drop-at, take-add, append-snoc, take-all, take-length, drop-length, length-take-le}
+use borrow.Rule.Slice.PartMut.{putMid}
+use Rattle.refal_rows.specs.Tests.{copy-turn}
+
+-- ---- bytes put at the front of a slice: r is their count, and where they fit the slice begins with them and is otherwise as it was
+pub record Puts (bs : List ℕ) (r : ℕ) (o o′ : List ℕ) : Type 0 where
+  pub count : r ≡ length bs
+  pub bytes : r ≤ length o → o′ ≡ bs ++ drop r o
+
+pub puts-none : (o : List ℕ) → Puts [] 0 o o
+puts-none o = record { count = refl; bytes = λ h. refl }
+
+-- the same bytes, written otherwise
+pub puts-as : {r : ℕ} {o o′ : List ℕ} (bs cs : List ℕ) → bs ≡ cs → Puts bs r o o′ → Puts cs r o o′
+puts-as {r} {o} {o′} bs cs e p = subst (λ (l : List ℕ). Puts l r o o′) e p
+
+pub one-set : (o : List ℕ) (a : ℕ) → 1 ≤ length o → set o 0 a ≡ a ∷ drop 1 o
+one-set [] a h = absurd (omega arith)
+one-set (x ∷ o) a h = refl
+
+pub three-set : (o : List ℕ) (a b c : ℕ) → 3 ≤ length o → set (set (set o 0 a) 1 b) 2 c ≡ a ∷ b ∷ c ∷ drop 3 o
+three-set [] a b c h = absurd (omega arith)
+three-set (x ∷ []) a b c h = absurd (omega arith)
+three-set (x ∷ y ∷ []) a b c h = absurd (omega arith)
+three-set (x ∷ y ∷ z ∷ o) a b c h = refl
+
+pub four-set : (o : List ℕ) (a b c d : ℕ) → 4 ≤ length o → set (set (set (set o 0 a) 1 b) 2 c) 3 d ≡ a ∷ b ∷ c ∷ d ∷ drop 4 o
+four-set [] a b c d h = absurd (omega arith)
+four-set (x ∷ []) a b c d h = absurd (omega arith)
+four-set (x ∷ y ∷ []) a b c d h = absurd (omega arith)
+four-set (x ∷ y ∷ z ∷ []) a b c d h = absurd (omega arith)
+four-set (x ∷ y ∷ z ∷ w ∷ o) a b c d h = refl
+
+pub two-set : (o : List ℕ) (a b : ℕ) → 2 ≤ length o → set (set o 0 a) 1 b ≡ a ∷ b ∷ drop 2 o
+two-set [] a b h = absurd (omega arith)
+two-set (x ∷ []) a b h = absurd (omega arith)
+two-set (x ∷ y ∷ o) a b h = refl
+
+-- one more byte behind t
+pub set-behind : (t o : List ℕ) (n a : ℕ) → length t ≡ n → n < length o → set (t ++ drop n o) n a ≡ (t ++ a ∷ []) ++ drop (n + 1) o
+set-behind t o n a e h = ap (λ (m : List ℕ). set (t ++ m) n a) (drop-cons o n 0 h) ∙ set-at t (getD o n 0) (drop (suc n) o) a n e ∙ sym (rw (add-one n) (append-snoc t a (drop (suc n) o)))
+
+-- what is taken past the end is not there
+take-clip : (k : ℕ) (t : List ℕ) → take (min k (length t)) t ≡ take k t
+take-clip k t = go (decLe k (length t))
+  where
+    go : Dec (k ≤ length t) → take (min k (length t)) t ≡ take k t
+    go (yes h) =
+        let e : min k (length t) ≡ k = omega arith in
+        rw e
+    go (no h) =
+        let e : min k (length t) ≡ length t = omega arith in
+        rw e (take-length t) ∙ sym (take-all k t (omega arith))
+
+drop-clip : (k : ℕ) (t : List ℕ) → drop (min k (length t)) t ≡ drop k t
+drop-clip k t = go (decLe k (length t))
+  where
+    go : Dec (k ≤ length t) → drop (min k (length t)) t ≡ drop k t
+    go (yes h) =
+        let e : min k (length t) ≡ k = omega arith in
+        rw e
+    go (no h) =
+        let e : min k (length t) ≡ length t = omega arith in
+        let g : length t ≤ k = omega arith in
+        rw e (drop-length t) ∙ sym (drop-of-length-le t g)
+
+pub clip : (src : List ℕ) (start len from n : ℕ) → from ≡ min start (length src) → n ≡ min len (length src - from) → take n (drop from src) ≡ take len (drop start src)
+clip src start len from n e f =
+    f′ ∙ take-clip len (drop from src) ∙ ap (λ (l : List ℕ). take len l) (ap (λ (k : ℕ). drop k src) e ∙ drop-clip start src)
+  where
+    f′ : take n (drop from src) ≡ take (min len (length (drop from src))) (drop from src)
+    f′ = ap (λ (k : ℕ). take k (drop from src)) (f ∙ ap (min len) (sym (length-drop from src)))
+
+module _ (src o : List ℕ) (start len from n : ℕ) (e : from ≡ min start (length src)) (f : n ≡ min len (length src - from)) where
+  text-count : n + 1 ≡ length (take len (drop start src) ++ 32 ∷ [])
+  text-count =
+      let h : n ≤ length (drop from src) = rw length-drop (omega arith) in
+      let l = length-take-le n (drop from src) h in
+      rw (← clip src start len from n e f, length-append, l) refl
+
+  pub text-puts : (o₁ : List ℕ) → n + 1 ≤ length o → o₁ ≡ take n (drop from src) ++ drop n o → Puts (take len (drop start src) ++ 32 ∷ []) (n + 1) o (set o₁ n 32)
+  text-puts o₁ r g =
+      let h : n ≤ length (drop from src) = rw length-drop (omega arith) in
+      let p : n < length o = omega arith in
+      record { count = text-count; bytes = λ _. ap (λ (l : List ℕ). set l n 32) g ∙ set-behind (take n (drop from src)) o n 32 (length-take-le n (drop from src) h) p ∙ ap (λ (t : List ℕ). (t ++ 32 ∷ []) ++ drop (n + 1) o) (clip src start len from n e f) }
+
+  pub text-short : length o < n + 1 → Puts (take len (drop start src) ++ 32 ∷ []) (n + 1) o o
+  text-short r = record { count = text-count; bytes = λ h. absurd (omega arith) }
+
+-- ---- a copy's turn, from a place of src
+pub copy-from : (l l₀ src : List ℕ) (start i : ℕ) → l ≡ take i (drop start src) ++ drop i l₀ → start + i < length src → i < length l₀ → set l i (getD src (start + i) 0) ≡ take (i + 1) (drop start src) ++ drop (i + 1) l₀
+copy-from l l₀ src start i e h h₀ =
+    let n : i < length (drop start src) = rw length-drop (omega arith) in
+    rw (← getD-drop start src i 0) (copy-turn l l₀ (drop start src) i e n h₀)
+
+-- ---- a text t that is poured part by part: at bytes are done, `rest` is still to come
+pub record Pours (t rest : List ℕ) (at : ℕ) (o o₀ : List ℕ) : Type 0 where
+  pub rest-is : drop at t ≡ rest
+  pub count : at + length rest ≡ length t
+  pub bytes : at ≤ length o₀ → o ≡ take at t ++ drop at o₀
+
+pub pours-start : (t o : List ℕ) → Pours t t 0 o o
+pours-start t o = record { rest-is = refl; count = zero-add _; bytes = λ h. refl }
+
+pub pours-end : (t o o₀ : List ℕ) (at : ℕ) → Pours t [] at o o₀ → Puts t at o₀ o
+pours-end t o o₀ at p =
+    let e : at ≡ length t = omega (arith, p .count) in
+    record { count = e; bytes = λ h. p .bytes h ∙ ap (λ (l : List ℕ). l ++ drop at o₀) (take-all at t (omega arith)) }
+
+-- ---- the rest of a slice lent from its middle, `&mut o[from..]`: what the callee is lent, and what comes back
+pub lent-rest : (o : List ℕ) (from : ℕ) → take (length o - from) (drop from o) ≡ drop from o
+lent-rest o from = take-all (length o - from) (drop from o) (le-of-eq (length-drop from o))
+
+pub back-rest : (o p : List ℕ) (from : ℕ) → putMid from (length o - from) o p ≡ take from o ++ p
+back-rest o p from =
+    let e : drop (length o - from) (drop from o) ≡ [] = drop-of-length-le (drop from o) (le-of-eq (length-drop from o)) in
+    ap (λ (l : List ℕ). take from o ++ (p ++ l)) e ∙ ap (λ (l : List ℕ). take from o ++ l) (append-nil p)
+
+module _ (t bs rest o o₀ p : List ℕ) (at from k : ℕ) (h : Pours t (bs ++ rest) at o o₀) (l : length o ≡ length o₀) (e : from ≡ min at (length o)) (q : Puts bs k (take (length o - from) (drop from o)) p) where
+  count-on : at + k + length rest ≡ length t
+  count-on = omega (arith, q .count, length-append bs rest, h .count)
+
+  rest-on : drop (at + k) t ≡ rest
+  rest-on = sym (drop-drop k at t) ∙ rw (h .rest-is) (drop-at bs rest k (sym (q .count)))
+
+  bytes-on : at + k ≤ length o₀ → putMid from (length o - from) o p ≡ take (at + k) t ++ drop (at + k) o₀
+  bytes-on r =
+      let f : from ≡ at = omega arith in
+      let g : at ≤ length o₀ = omega arith in
+      let n : length (take at t) ≡ at = length-take-le at t (omega (arith, count-on)) in
+      let oe : o ≡ take at t ++ drop at o₀ = h .bytes g in
+      let oa : take at o ≡ take at t = ap (take at) oe ∙ take-at (take at t) (drop at o₀) at n in
+      let od : drop at o ≡ drop at o₀ = ap (drop at) oe ∙ drop-at (take at t) (drop at o₀) at n in
+      let fr : drop from o ≡ drop at o₀ = ap (λ (j : ℕ). drop j o) f ∙ od in
+      let room : k ≤ length (take (length o - from) (drop from o)) = rw (lent-rest o from, fr, length-drop at o₀) (omega arith) in
+      let pe : p ≡ bs ++ drop k (drop at o₀) = q .bytes room ∙ ap (λ (x : List ℕ). bs ++ drop k x) (lent-rest o from ∙ fr) in
+      let ta : take (at + k) t ≡ take at t ++ bs = take-add at k t ∙ ap (λ (x : List ℕ). take at t ++ x) (ap (take k) (h .rest-is) ∙ take-at bs rest k (sym (q .count))) in
+      back-rest o p from
+      ∙ ap (λ (x : List ℕ). x ++ p) (ap (λ (j : ℕ). take j o) f ∙ oa)
+      ∙ ap (λ (x : List ℕ). take at t ++ x) (pe ∙ ap (λ (x : List ℕ). bs ++ x) (drop-drop k at o₀))
+      ∙ sym (append-assoc (take at t) bs (drop (at + k) o₀))
+      ∙ ap (λ (x : List ℕ). x ++ drop (at + k) o₀) (sym ta)
+
+  pub pours-on : Pours t rest (at + k) (putMid from (length o - from) o p) o₀
+  pours-on = record { rest-is = rest-on; count = count-on; bytes = bytes-on }
+
+-- the first part of a text, put at the front of the whole
+pub pours-first : (bs rest o p : List ℕ) (k : ℕ) → Puts bs k o p → Pours (bs ++ rest) rest k p o
+pours-first bs rest o p k q = record {
+  rest-is = drop-at bs rest k (sym (q .count));
+  count = omega (arith, q .count, length-append bs rest);
+  bytes = λ h. q .bytes h ∙ ap (λ (l : List ℕ). l ++ drop k o) (sym (take-at bs rest k (sym (q .count))));
+}
+
+-- two parts: the first at the front, the second in the rest
+pub puts-two : (xs bs o p q : List ℕ) (a from b : ℕ) → Puts xs a o p → length p ≡ length o → from ≡ min a (length p) → Puts bs b (take (length p - from) (drop from p)) q
+    → Puts (xs ++ bs) (a + b) o (putMid from (length p - from) p q)
+puts-two xs bs o p q a from b x l e y =
+    puts-as (xs ++ (bs ++ [])) (xs ++ bs) (ap (λ (l : List ℕ). xs ++ l) (append-nil bs))
+    (pours-end _ _ _ _ (pours-on (xs ++ (bs ++ [])) bs [] p o q a from b (pours-first xs (bs ++ []) o p a x) l e y))

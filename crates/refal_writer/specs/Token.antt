@@ -1,0 +1,85 @@
+-- The text of flattened tokens, what the writers of tokens ask of a token, and the text of each kind of token.
+use Prim.Native.Nat.{ℕ, _≤_, _<_}
+use mathlib.Core.List.{List, [], _∷_, _++_, append-assoc, append-nil}
+use mathlib.Core.Path.{_≡_, refl, sym, ap, _∙_}
+use lib.Dec.{eqb}
+use borrow.Author.Tests.{ne-eqb}
+use Rattle.refal_ast.specs.Flatten.{Flat}
+use Rattle.refal_spelling.specs.Spell.{Spelled, spelled, view, views, spelling, text, entryWord, externWord, body, quoted, dotted, markByte}
+
+-- a list of flattened tokens, written with the source src
+abbrev pub textOf : List ℕ → List Flat → List ℕ
+textOf src fs = text (views src fs)
+
+-- one token, written: its spelling and a space
+abbrev pub tokenText : Spelled → List ℕ
+tokenText t = text (t ∷ [])
+
+-- a token that is its kind alone: Entry, Extern, or one byte
+pub record Mark (kind : ℕ) : Type 0 where
+  pub few : kind ≤ 16
+  pub no-name : kind ≡ 3 → ⊥
+  pub no-variable : kind ≡ 4 → ⊥
+  pub no-number : kind ≡ 5 → ⊥
+  pub no-char : kind ≡ 6 → ⊥
+
+-- any token but Eof, a variable's letter being a byte
+pub record Writable (kind detail : ℕ) : Type 0 where
+  pub few : kind ≤ 16
+  pub letter : kind ≡ 4 → detail < 256
+
+-- ---- two lists of tokens
+pub text-append : (ts us : List Spelled) → text (ts ++ us) ≡ text ts ++ text us
+unfolding text
+text-append [] us = refl
+text-append (t ∷ ts) us =
+    ap (λ (l : List ℕ). (spelling t ++ 32 ∷ []) ++ l) (text-append ts us) ∙ sym (append-assoc (spelling t ++ 32 ∷ []) (text ts) (text us))
+
+views-append : (src : List ℕ) (fs gs : List Flat) → views src (fs ++ gs) ≡ views src fs ++ views src gs
+views-append src [] gs = refl
+views-append src (f ∷ fs) gs = ap (λ (l : List Spelled). view src f ∷ l) (views-append src fs gs)
+
+pub text-of-append : (src : List ℕ) (fs gs : List Flat) → textOf src (fs ++ gs) ≡ textOf src fs ++ textOf src gs
+text-of-append src fs gs = ap text (views-append src fs gs) ∙ text-append (views src fs) (views src gs)
+
+-- ---- the text of a token of each kind
+pub quoted-text : (x : ℕ) → 39 ∷ (body x ++ 39 ∷ 32 ∷ []) ≡ quoted x ++ 32 ∷ []
+quoted-text x = ap (λ (l : List ℕ). 39 ∷ l) (sym (append-assoc (body x) (39 ∷ []) (32 ∷ [])))
+
+-- no token after it
+alone : (l : List ℕ) → l ++ 32 ∷ [] ≡ (l ++ 32 ∷ []) ++ []
+alone l = sym (append-nil (l ++ 32 ∷ []))
+
+module _ (k d : ℕ) (w : List ℕ) where
+  pub entry-text : k ≡ 1 → entryWord ++ 32 ∷ [] ≡ tokenText (spelled k d w)
+  unfolding spelling text
+  entry-text e = rw e refl
+
+  pub extern-text : k ≡ 2 → externWord ++ 32 ∷ [] ≡ tokenText (spelled k d w)
+  unfolding spelling text
+  extern-text e = rw e refl
+
+  pub name-text : k ≡ 3 → w ++ 32 ∷ [] ≡ tokenText (spelled k d w)
+  unfolding spelling text
+  name-text e = rw e (alone w)
+
+  pub variable-text : k ≡ 4 → dotted d w ++ 32 ∷ [] ≡ tokenText (spelled k d w)
+  unfolding spelling text
+  variable-text e = rw e (alone (dotted d w))
+
+  pub number-text : k ≡ 5 → w ++ 32 ∷ [] ≡ tokenText (spelled k d w)
+  unfolding spelling text
+  number-text e = rw e (alone w)
+
+  pub char-text : k ≡ 6 → quoted d ++ 32 ∷ [] ≡ tokenText (spelled k d w)
+  unfolding spelling text
+  char-text e = rw e (alone (quoted d))
+
+  pub mark-text : Mark k → (k ≡ 1 → ⊥) → (k ≡ 2 → ⊥) → markByte k ∷ 32 ∷ [] ≡ tokenText (spelled k d w)
+  unfolding spelling text
+  mark-text m a b = sym (rw (ne-eqb k 1 a, ne-eqb k 2 b, ne-eqb k 3 (m .no-name), ne-eqb k 5 (m .no-number), ne-eqb k 4 (m .no-variable), ne-eqb k 6 (m .no-char)) refl)
+
+  -- a mark's detail and word do not matter
+  pub bare-text : Mark k → tokenText (spelled k 0 []) ≡ tokenText (spelled k d w)
+  unfolding spelling text
+  bare-text m = rw (ne-eqb k 3 (m .no-name), ne-eqb k 5 (m .no-number), ne-eqb k 4 (m .no-variable), ne-eqb k 6 (m .no-char)) refl

@@ -1,0 +1,72 @@
+// Bytes at the front of a slice: put where they all fit, their count in any case.
+ghost use mathlib.Core.Path.{_≡_};
+ghost use mathlib.Core.List.{[], _∷_, _++_};
+ghost use Prim.Native.Nat.{_+_, _≤_};
+ghost use lib.ListN.{length, take, drop};
+ghost use Rattle.refal_writer.specs.Puts.{Puts};
+
+// The n bytes of src from start, copied to the front of out.
+pub fn copy(src: &[u8], start: usize, n: usize, out: &mut [u8])
+    requires { ⌜ (start + n ≤ length (now src)) × (n ≤ length (now out)) ⌝ }
+    ensures { λ _. ⌜ now (out .exit) ≡ take n (drop start (now (src .entry))) ++ drop n (now (out .entry)) ⌝ }
+{
+    let mut i = 0;
+    while i < n {
+        out[i] = src[start + i];
+        i += 1;
+    }
+}
+
+// The bytes of a word.
+pub fn put_word(word: &[u8], out: &mut [u8]) -> usize
+    ensures { λ r. ⌜ Puts (now (word .entry)) r (now (out .entry)) (now (out .exit)) ⌝ }
+{
+    let n = word.len();
+    if n <= out.len() {
+        copy(word, 0, n, out);
+    }
+    n
+}
+
+// One to four bytes.
+pub fn put1(a: u8, out: &mut [u8]) -> usize
+    ensures { λ r. ⌜ Puts (a ∷ []) r (now (out .entry)) (now (out .exit)) × (r ≤ 4) ⌝ }
+{
+    if 1 <= out.len() {
+        out[0] = a;
+    }
+    1
+}
+
+pub fn put2(a: u8, b: u8, out: &mut [u8]) -> usize
+    ensures { λ r. ⌜ Puts (a ∷ b ∷ []) r (now (out .entry)) (now (out .exit)) × (r ≤ 4) ⌝ }
+{
+    if 2 <= out.len() {
+        out[0] = a;
+        out[1] = b;
+    }
+    2
+}
+
+pub fn put3(a: u8, b: u8, c: u8, out: &mut [u8]) -> usize
+    ensures { λ r. ⌜ Puts (a ∷ b ∷ c ∷ []) r (now (out .entry)) (now (out .exit)) × (r ≤ 4) ⌝ }
+{
+    if 3 <= out.len() {
+        out[0] = a;
+        out[1] = b;
+        out[2] = c;
+    }
+    3
+}
+
+pub fn put4(a: u8, b: u8, c: u8, d: u8, out: &mut [u8]) -> usize
+    ensures { λ r. ⌜ Puts (a ∷ b ∷ c ∷ d ∷ []) r (now (out .entry)) (now (out .exit)) × (r ≤ 4) ⌝ }
+{
+    if 4 <= out.len() {
+        out[0] = a;
+        out[1] = b;
+        out[2] = c;
+        out[3] = d;
+    }
+    4
+}
