@@ -1,13 +1,17 @@
 -- The rows of document 01's worked table hold, by computing the definitions.
-use mathlib.Core.Path.{_≡_, refl}
+use mathlib.Core.Path.{refl}
 use Rattle.refal_demands.specs.Table.{AllHold, table}
 use Rattle.refal_ast.specs.Tokens.{tokensOf}
 use Rattle.refal_ast.specs.Check.{okTokens, wellFormed}
 use Rattle.refal_ast.specs.Tree.{sizeT, sizeC, sizeS, sizeN, sizeP}
 use Rattle.refal_ast.specs.Encode.{encT, encC, encS, encN, encP}
+use Rattle.refal_text.specs.Utf8.{decode, wellTo}
+use Rattle.refal_lexer.specs.Blanks.{closeFrom}
+use Rattle.refal_lexer.specs.Literals.{litChar, litFrom, charTokens}
+use Rattle.refal_lexer.specs.Lex.{lex}
 use Rattle.refal_parser.specs.Machine.{run}
 use Rattle.refal_parser.specs.Parse.{parsed}
 
 pub table-holds : AllHold table
-unfolding table tokensOf okTokens wellFormed sizeT sizeC sizeS sizeN sizeP encT encC encS encN encP run parsed
-table-holds = ((refl, refl), ((refl, refl), ((refl, refl), ((refl, refl), ((refl, refl), ((refl, refl), tt))))))
+unfolding table tokensOf okTokens wellFormed sizeT sizeC sizeS sizeN sizeP encT encC encS encN encP run parsed decode wellTo closeFrom litChar litFrom charTokens lex
+table-holds = refl
