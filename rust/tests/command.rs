@@ -94,7 +94,7 @@ fn refused_sources() {
             &json.stdout,
             &mut failures,
         );
-        for command in ["tree", "write"] {
+        for command in ["tree", "write", "page"] {
             let output = refal5("refused", &[command, &file], b"");
             assert_eq!(output.status.code(), Some(1), "{command} {file}");
             assert_eq!(text(&output.stdout), "", "{command} {file}");
@@ -202,6 +202,8 @@ fn usage() {
         &["chek", "empty.ref"],
         &["check", "--jsn", "empty.ref"],
         &["check", "--color=red", "empty.ref"],
+        &["page", "empty.ref", "worked-go.ref"],
+        &["page", "--json", "empty.ref"],
     ] {
         let output = refal5("accepted", args, b"");
         assert_eq!(output.status.code(), Some(2), "{args:?}");
@@ -273,4 +275,37 @@ fn a_reader_that_stops_early_is_no_failure() {
     let output = child.wait_with_output().expect("the command ends");
     assert_eq!(output.status.code(), Some(0));
     assert_eq!(text(&output.stderr), "");
+}
+
+/// Runs a shell command on a terminal of its own and gives what stands on it, if `script` is there to make one.
+fn on_a_terminal(command: &str) -> Option<String> {
+    let output = Command::new("script")
+        .args(["-qec", command, "/dev/null"])
+        .current_dir(golden("refused"))
+        .env("REFAL5", env!("CARGO_BIN_EXE_refal5"))
+        .env("TERM", "xterm")
+        .env_remove("NO_COLOR")
+        .stdin(Stdio::null())
+        .output()
+        .ok()?;
+    String::from_utf8(output.stdout).ok()
+}
+
+#[test]
+fn on_a_terminal_there_are_colours_and_after_a_second_progress() {
+    let Some(quick) = on_a_terminal("\"$REFAL5\" check 34-worked-table.ref") else {
+        println!("there is no `script` to make a terminal");
+        return;
+    };
+    assert!(
+        quick.contains("\u{1b}[1;31mrefusal 34:\u{1b}[0m"),
+        "{quick}"
+    );
+    assert!(!quick.contains("file 1 of 1"), "{quick}");
+    let slow = "(sleep 1.6; printf 'F{=A}') | \"$REFAL5\" check 34-worked-table.ref -";
+    let slow = on_a_terminal(slow).expect("there was a terminal");
+    let line = "\r\u{1b}[Krefal5: 1 s, file 2 of 2: <standard input>\r\u{1b}[K";
+    assert!(slow.contains(line), "{slow:?}");
+    let plain = on_a_terminal("NO_COLOR=1 \"$REFAL5\" check 34-worked-table.ref");
+    assert!(!plain.expect("there was a terminal").contains('\u{1b}'));
 }

@@ -8,6 +8,7 @@ pub enum Command {
     Tokens,
     Tree,
     Write,
+    Page,
 }
 
 /// When colours are used.
@@ -64,6 +65,9 @@ pub fn parse(args: impl Iterator<Item = OsString>) -> Result<Parsed, String> {
     if files.iter().filter(|file| *file == "-").count() > 1 {
         return Err("standard input can be read once only".into());
     }
+    if command == Command::Page && (files.len() > 1 || json) {
+        return Err("page takes one file, and no --json".into());
+    }
     Ok(Parsed::Run(Args {
         command,
         files,
@@ -82,6 +86,7 @@ fn command(word: Option<&OsStr>) -> Result<Command, String> {
         Some("tokens") => Command::Tokens,
         Some("tree") => Command::Tree,
         Some("write") => Command::Write,
+        Some("page") => Command::Page,
         _ => return Err(format!("unknown command `{}`", word.display())),
     })
 }

@@ -11,6 +11,7 @@ use crate::{Status, input, report};
 
 pub fn run(args: &Args, output: &mut Output) -> io::Result<Status> {
     let mut status = Status::Fine;
+    let mut apart = "";
     for name in &args.files {
         let file = input::shown(name);
         output.progress.begin(&file);
@@ -18,12 +19,13 @@ pub fn run(args: &Args, output: &mut Output) -> io::Result<Status> {
             Ok(source) => match refal5::check(&source) {
                 Ok(accepted) => fine(&file, accepted, output)?,
                 Err(diagnosis) => {
-                    let text = if output.json {
-                        report::json(&file, &diagnosis)
+                    if output.json {
+                        output.print(&report::json(&file, &diagnosis))?;
                     } else {
-                        report::text(&file, &source, &diagnosis, output.styles())
-                    };
-                    output.print(&text)?;
+                        let text = report::text(&file, &source, &diagnosis, output.styles());
+                        output.print(&format!("{apart}{text}"))?;
+                        apart = "\n";
+                    }
                     Status::Refused
                 }
             },

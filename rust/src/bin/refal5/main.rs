@@ -7,6 +7,7 @@ mod input;
 mod json;
 mod listing;
 mod output;
+mod page;
 mod progress;
 mod report;
 mod walk;
@@ -51,6 +52,7 @@ fn run(args: &Args) -> Status {
         Command::Tokens => listing::run(args, &mut output, listing::tokens),
         Command::Tree => listing::run(args, &mut output, listing::tree),
         Command::Write => listing::run(args, &mut output, listing::write),
+        Command::Page => page::run(args, &mut output),
     };
     settle(result)
 }
