@@ -19,19 +19,39 @@ fn main() {
     println!("cargo::rerun-if-changed={}", archive.display());
     println!("cargo::rustc-link-search=native={}", folder.display());
     println!("cargo::rustc-link-lib=static=refal5");
+    note_the_original();
+}
+
+/// Sets `original` for the tests where the oracle finds the original's files too: in the folder that REFAL5_ORIGINAL names,
+/// and otherwise in ../shared/docs/src beside the repository.
+fn note_the_original() {
+    println!("cargo::rustc-check-cfg=cfg(original)");
+    println!("cargo::rerun-if-env-changed=REFAL5_ORIGINAL");
+    let folder = match env::var_os("REFAL5_ORIGINAL") {
+        Some(name) if !name.is_empty() => PathBuf::from(name),
+        _ => repository().join("../shared/docs/src"),
+    };
+    let lexer = folder.join("crates/refal-syntax/src/lexer.rs");
+    println!("cargo::rerun-if-changed={}", lexer.display());
+    if lexer.is_file() {
+        println!("cargo::rustc-cfg=original");
+    }
+}
+
+fn repository() -> PathBuf {
+    let here = env::var_os("CARGO_MANIFEST_DIR").expect("cargo sets CARGO_MANIFEST_DIR");
+    let repository = Path::new(&here).parent();
+    repository.expect("rust/ stands in the repository").into()
 }
 
 /// The repository's folder with the archive, which is proved and compiled first where it is absent.
 fn made_in_the_repository() -> PathBuf {
-    let here = env::var_os("CARGO_MANIFEST_DIR").expect("cargo sets CARGO_MANIFEST_DIR");
-    let repository = Path::new(&here)
-        .parent()
-        .expect("rust/ stands in the repository");
+    let repository = repository();
     let folder = repository.join("target/staticlib");
     if !folder.join(ARCHIVE).is_file() {
         let made = Command::new("rt")
             .args(["staticlib", "refal5"])
-            .current_dir(repository)
+            .current_dir(&repository)
             .status();
         match made {
             Ok(status) if status.success() => {}

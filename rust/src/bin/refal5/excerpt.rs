@@ -1,58 +1,62 @@
 //! A source line as it is printed, with lines of marks under it.
 
-/// The most columns of a source line that are printed.
+/// The most characters of a source line that are printed.
 const WIDTH: usize = 100;
-/// Columns printed before the first mark where the line is cut.
+/// Characters printed before the first mark where the line is cut.
 const BEFORE: usize = 40;
 
-/// A line of the source fit to be printed: its characters with their columns on a terminal.
+/// A part of a source line fit to be printed: its characters with their columns on a terminal.
 pub struct Excerpt {
+    /// The number of the first character printed, counted from 0.
+    first: usize,
     cells: Vec<(char, usize)>,
-    /// The columns printed: `from` up to `to`.
-    from: usize,
-    to: usize,
+    /// The columns that are printed.
     width: usize,
+    /// Whether the line goes on after them.
+    goes_on: bool,
 }
 
 impl Excerpt {
     /// The part of a line that holds the character `around`, counted from 0.
     pub fn new(line: &[u8], around: usize) -> Self {
-        let mut cells = Vec::new();
-        let mut width = 0;
-        for character in String::from_utf8_lossy(line).chars() {
-            cells.push((character, width));
-            width += columns(character);
-        }
-        let at = cells.get(around).map_or(width, |cell| cell.1);
-        let from = if width <= WIDTH {
-            0
-        } else {
-            at.saturating_sub(BEFORE)
+        let line = String::from_utf8_lossy(line);
+        let first = match line.char_indices().nth(WIDTH) {
+            Some(_) => around.saturating_sub(BEFORE),
+            None => 0,
         };
+        let mut rest = line.chars().skip(first);
+        let mut width = 0;
+        let cells = rest
+            .by_ref()
+            .take(WIDTH)
+            .map(|character| {
+                let column = width;
+                width += columns(character);
+                (character, column)
+            })
+            .collect();
         Self {
+            first,
             cells,
-            from,
-            to: from + WIDTH,
             width,
+            goes_on: rest.next().is_some(),
         }
     }
 
-    /// The line, cut with `…` at either end where it is longer.
+    /// The part, with `…` at either end where the line is longer.
     pub fn text(&self) -> String {
         let mut text = String::new();
-        if self.from > 0 {
+        if self.first > 0 {
             text.push('…');
         }
-        for &(character, column) in &self.cells {
-            if (self.from..self.to).contains(&column) {
-                match character {
-                    '\t' => text.push_str("    "),
-                    other if other.is_control() || other == '\u{feff}' => text.push('\u{fffd}'),
-                    other => text.push(other),
-                }
+        for &(character, _) in &self.cells {
+            match character {
+                '\t' => text.push_str("    "),
+                other if other.is_control() || other == '\u{feff}' => text.push('\u{fffd}'),
+                other => text.push(other),
             }
         }
-        if self.to < self.width {
+        if self.goes_on {
             text.push('…');
         }
         text.truncate(text.trim_end().len());
@@ -61,19 +65,21 @@ impl Excerpt {
 
     /// Whether the character, or the line's end, is in the part that is printed.
     pub fn holds(&self, character: usize) -> bool {
-        (self.from..=self.to).contains(&self.column(character))
+        (self.first..=self.first + self.cells.len()).contains(&character)
     }
 
     /// Spaces up to the character `start`, then marks up to `end`, at least one.
     pub fn marks(&self, start: usize, end: usize, mark: char) -> (String, String) {
         let left = self.column(start);
-        let right = self.column(end).min(self.to).max(left + 1);
-        let indent = left - self.from + usize::from(self.from > 0);
+        let right = self.column(end).max(left + 1);
+        let indent = left + usize::from(self.first > 0);
         (" ".repeat(indent), String::from(mark).repeat(right - left))
     }
 
+    /// The column of a character, or of the end of what is printed.
     fn column(&self, character: usize) -> usize {
-        self.cells.get(character).map_or(self.width, |cell| cell.1)
+        let at = character.saturating_sub(self.first);
+        self.cells.get(at).map_or(self.width, |cell| cell.1)
     }
 }
 
