@@ -107,6 +107,23 @@ fn refused_sources() {
     assert!(failures.is_empty(), "{}", failures.join("\n"));
 }
 
+/// Each refused source with the change made that the advice names.
+#[test]
+fn following_the_advice_helps() {
+    assert_eq!(sources("fixed"), sources("refused"));
+    let files: Vec<String> = sources("fixed")
+        .iter()
+        .map(|name| format!("{name}.ref"))
+        .collect();
+    let args: Vec<&str> = ["check"]
+        .into_iter()
+        .chain(files.iter().map(String::as_str))
+        .collect();
+    let output = refal5("fixed", &args, b"");
+    assert_eq!(text(&output.stdout), "");
+    assert_eq!(output.status.code(), Some(0));
+}
+
 #[test]
 fn accepted_sources() {
     let mut failures = Vec::new();

@@ -2,6 +2,9 @@
 
 #![cfg(original)]
 
+use std::fs;
+use std::path::Path;
+
 use oracle::generate::{Rng, delivery, sources};
 use oracle::{ast, lexer, messages, parser};
 
@@ -75,6 +78,25 @@ fn small_sources() {
             programs(&source);
         }
     }
+}
+
+#[test]
+fn golden_sources() {
+    let golden = Path::new(env!("CARGO_MANIFEST_DIR")).join("tests/golden");
+    let mut count = 0;
+    for folder in ["accepted", "refused", "fixed"] {
+        for entry in fs::read_dir(golden.join(folder)).expect("the golden files are there") {
+            let path = entry.expect("the folder can be listed").path();
+            if path.extension().is_some_and(|extension| extension == "ref") {
+                // The one that is not UTF-8 is not for the original.
+                if let Ok(source) = fs::read_to_string(path) {
+                    programs(&source);
+                    count += 1;
+                }
+            }
+        }
+    }
+    assert!(count > 100);
 }
 
 #[test]

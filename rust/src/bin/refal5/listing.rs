@@ -13,8 +13,8 @@ use crate::output::Output;
 use crate::walk::{Step, walk};
 use crate::{Status, input};
 
-/// Puts a listing of a source into text, or gives the refusal explained.
-pub type List = fn(&Listing<'_>, &mut String) -> Result<(), Box<Diagnosis>>;
+/// Puts a listing of a source down. A refusal comes before anything is put.
+pub type List = fn(&Listing<'_>, &mut Sink<'_>) -> Result<(), Trouble>;
 
 pub struct Listing<'a> {
     file: &'a str,
@@ -22,30 +22,69 @@ pub struct Listing<'a> {
     json: bool,
 }
 
-/// Lists each file, under its name where there are several.
+/// Why a listing is not made.
+pub enum Trouble {
+    Refused(Box<Diagnosis>),
+    Output(io::Error),
+}
+
+impl From<Box<Diagnosis>> for Trouble {
+    fn from(diagnosis: Box<Diagnosis>) -> Self {
+        Self::Refused(diagnosis)
+    }
+}
+
+impl From<io::Error> for Trouble {
+    fn from(error: io::Error) -> Self {
+        Self::Output(error)
+    }
+}
+
+/// Gathers text and prints it in pieces.
+pub struct Sink<'a> {
+    output: &'a Output,
+    text: String,
+    /// Whether what was put last ends a line.
+    ended: bool,
+}
+
+impl Sink<'_> {
+    const PIECE: usize = 1 << 16;
+
+    fn put(&mut self, text: &str) -> io::Result<()> {
+        if !text.is_empty() {
+            self.ended = text.ends_with('\n');
+        }
+        self.text.push_str(text);
+        if self.text.len() < Self::PIECE {
+            return Ok(());
+        }
+        let printed = self.output.print(&self.text);
+        self.text.clear();
+        printed
+    }
+
+    fn line(&mut self, text: &str) -> io::Result<()> {
+        self.put(text.trim_end())?;
+        self.put("\n")
+    }
+}
+
+/// Lists each file; several under their names, each in a line that is a Refal comment.
 pub fn run(args: &Args, output: &mut Output, list: List) -> io::Result<Status> {
     let mut status = Status::Fine;
+    let headed = args.files.len() > 1 && !output.json;
     for name in &args.files {
         let file = input::shown(name);
         output.progress.begin(&file);
         let one = match input::read(name) {
             Ok(source) => {
-                let listing = Listing {
-                    file: &file,
-                    source: &source,
-                    json: output.json,
+                let heading = if headed {
+                    format!("* {file}\n")
+                } else {
+                    String::new()
                 };
-                let mut text = String::new();
-                match list(&listing, &mut text) {
-                    Ok(()) => {
-                        if args.files.len() > 1 && !output.json {
-                            text = headed(&file, &text);
-                        }
-                        output.print(&text)?;
-                        Status::Fine
-                    }
-                    Err(diagnosis) => refused(&file, &source, &diagnosis, output)?,
-                }
+                one(&file, &source, heading, output, list)?
             }
             Err(error) => unreadable(&file, &error, output)?,
         };
@@ -54,14 +93,35 @@ pub fn run(args: &Args, output: &mut Output, list: List) -> io::Result<Status> {
     Ok(status)
 }
 
-/// A listing under its file's name, which a Refal comment holds.
-fn headed(file: &str, text: &str) -> String {
-    let end = if text.is_empty() || text.ends_with('\n') {
-        ""
-    } else {
-        "\n"
+fn one(
+    file: &str,
+    source: &[u8],
+    heading: String,
+    output: &Output,
+    list: List,
+) -> io::Result<Status> {
+    let headed = !heading.is_empty();
+    let listing = Listing {
+        file,
+        source,
+        json: output.json,
     };
-    format!("* {file}\n{text}{end}")
+    let mut sink = Sink {
+        output,
+        text: heading,
+        ended: headed,
+    };
+    match list(&listing, &mut sink) {
+        Ok(()) => {
+            if headed && !sink.ended {
+                sink.text.push('\n');
+            }
+            output.print(&sink.text)?;
+            Ok(Status::Fine)
+        }
+        Err(Trouble::Refused(diagnosis)) => refused(file, source, &diagnosis, output),
+        Err(Trouble::Output(error)) => Err(error),
+    }
 }
 
 impl Listing<'_> {
@@ -71,30 +131,34 @@ impl Listing<'_> {
     }
 
     /// Reads and parses, and lends the tree to `work`.
-    fn with_tree<T>(
+    fn with_tree(
         &self,
-        work: impl FnOnce(Tree<'_>) -> Result<T, Refusal>,
-    ) -> Result<T, Box<Diagnosis>> {
+        work: impl FnOnce(Tokens<'_>, Tree<'_>) -> Result<(), Trouble>,
+    ) -> Result<(), Trouble> {
         let mut token_rows = TokenRows::new();
         let tokens = self.read(&mut token_rows)?;
         let mut node_rows = NodeRows::new();
-        let explained = |refusal| Box::new(Diagnosis::of_parsing(tokens, refusal));
-        let tree = node_rows.parse(tokens).map_err(explained)?;
-        work(tree).map_err(explained)
+        match node_rows.parse(tokens) {
+            Ok(tree) => work(tokens, tree),
+            Err(refusal) => Err(explained(tokens, refusal)),
+        }
     }
 }
 
-pub fn tokens(listing: &Listing<'_>, out: &mut String) -> Result<(), Box<Diagnosis>> {
+fn explained(tokens: Tokens<'_>, refusal: Refusal) -> Trouble {
+    Trouble::Refused(Box::new(Diagnosis::of_parsing(tokens, refusal)))
+}
+
+pub fn tokens(listing: &Listing<'_>, out: &mut Sink<'_>) -> Result<(), Trouble> {
     let mut rows = TokenRows::new();
     for (index, token) in listing.read(&mut rows)?.iter().enumerate() {
         if listing.json {
-            *out += &token_object(listing.file, index, token);
+            out.line(&token_object(listing.file, index, token))?;
         } else {
             let span = format!("{}-{}", token.span().start, token.span().end);
-            let line = format!("{span:<11} {:<10} {}", token.kind().name(), spelled(token));
-            *out += line.trim_end();
+            let kind = token.kind().name();
+            out.line(&format!("{span:<11} {kind:<10} {}", spelled(token)))?;
         }
-        out.push('\n');
     }
     Ok(())
 }
@@ -140,15 +204,14 @@ fn character(object: Object, character: Option<char>) -> Object {
     object.string("character", &String::from_iter(character))
 }
 
-pub fn tree(listing: &Listing<'_>, out: &mut String) -> Result<(), Box<Diagnosis>> {
-    listing.with_tree(|tree| {
+pub fn tree(listing: &Listing<'_>, out: &mut Sink<'_>) -> Result<(), Trouble> {
+    listing.with_tree(|_, tree| {
         for step in walk(tree) {
             if listing.json {
-                *out += &node_object(listing.file, &step);
+                out.line(&node_object(listing.file, &step))?;
             } else {
-                *out += &node_line(&step);
+                out.line(&node_line(&step))?;
             }
-            out.push('\n');
         }
         Ok(())
     })
@@ -206,13 +269,17 @@ fn node_object(file: &str, step: &Step<'_>) -> String {
         .end()
 }
 
-pub fn write(listing: &Listing<'_>, out: &mut String) -> Result<(), Box<Diagnosis>> {
-    let text = listing.with_tree(|tree| tree.to_text())?;
-    if listing.json {
-        let object = Object::new().string("file", listing.file);
-        *out += &(object.string("text", &text).end() + "\n");
-    } else {
-        *out += &text;
-    }
-    Ok(())
+pub fn write(listing: &Listing<'_>, out: &mut Sink<'_>) -> Result<(), Trouble> {
+    listing.with_tree(|tokens, tree| {
+        let text = tree
+            .to_text()
+            .map_err(|refusal| explained(tokens, refusal))?;
+        if listing.json {
+            let object = Object::new().string("file", listing.file);
+            out.line(&object.string("text", &text).end())?;
+        } else {
+            out.put(&text)?;
+        }
+        Ok(())
+    })
 }

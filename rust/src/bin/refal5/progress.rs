@@ -7,6 +7,8 @@ use std::thread::{self, JoinHandle};
 use std::time::{Duration, Instant};
 
 const FIRST: Duration = Duration::from_secs(1);
+/// Characters of a file's name that fit on the line: its last.
+const NAME: usize = 40;
 const AGAIN: Duration = Duration::from_millis(250);
 
 #[derive(Default)]
@@ -47,7 +49,8 @@ impl Progress {
     pub fn begin(&self, file: &str) {
         let mut state = self.state.lock().unwrap_or_else(PoisonError::into_inner);
         state.begun += 1;
-        state.file = file.to_owned();
+        let long = file.chars().count().saturating_sub(NAME);
+        state.file = file.chars().skip(long).collect();
     }
 
     /// Takes the line away while something else is printed.
