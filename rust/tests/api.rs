@@ -386,21 +386,20 @@ fn a_written_text_over_the_limit() {
     );
 }
 
-/// Sources above the size where rows are sized from the need.
+/// Sources and lists of tokens above the size where rows are sized from the need.
 #[test]
 fn large_sources() {
-    let source = "F { s1 'abc' = <G (s1) 12>, s1 : A; }\n"
-        .replace(", s1 : A", "")
-        .repeat(4_000);
-    assert!(source.len() > 1 << 16);
+    const COUNT: usize = 80_000;
+    let source = "F { s1 'abc' = <G (s1) 12>; }\n".repeat(COUNT);
+    assert!(source.len() > 1 << 20 && tokenize(&source).len() > 1 << 20);
     let program = parse(&source);
-    assert_eq!(program.items.len(), 4_000);
+    assert_eq!(program.items.len(), COUNT);
     let mut token_rows = TokenRows::new();
     let tokens = token_rows.read(source.as_bytes()).unwrap();
     assert_eq!(tokens.len(), tokenize(&source).len());
     let mut node_rows = NodeRows::new();
     let tree = node_rows.parse(tokens).unwrap();
-    assert_eq!(tree.items().count(), 4_000);
+    assert_eq!(tree.items().count(), COUNT);
     let text = tree.to_text().unwrap();
     assert_eq!(spelled(&text), spelled(&source));
     let broken = source.clone() + "%";

@@ -44,7 +44,9 @@ impl Build<'_> {
     }
 
     fn sentences(&mut self, nodes: Children<'_>) -> Vec<Sentence> {
-        nodes.map(|node| self.sentence(node)).collect()
+        let mut sentences = Vec::with_capacity(nodes.clone().count());
+        sentences.extend(nodes.map(|node| self.sentence(node)));
+        sentences
     }
 
     /// Terms, then conditions, then terms or a block.
@@ -103,10 +105,12 @@ impl Build<'_> {
 
     /// The children of a Terms, Bracket or Call.
     fn terms(&mut self, node: Option<Node<'_>>) -> Vec<Term> {
-        node.into_iter()
-            .flat_map(Node::children)
-            .map(|term| self.term(term))
-            .collect()
+        let Some(node) = node else {
+            return Vec::new();
+        };
+        let mut terms = Vec::with_capacity(node.children().count());
+        terms.extend(node.children().map(|term| self.term(term)));
+        terms
     }
 
     fn term(&mut self, node: Node<'_>) -> Term {

@@ -6,7 +6,7 @@ use crate::raw::{self, MAX_BYTES, NODE_WORDS, TOKEN_WORDS, node_bound, token_bou
 
 /// Up to so many bytes or tokens the rows are sized from the bound; above, from the need that a first call without rows
 /// gives, which is exact where the bound sets aside several times as much.
-const SMALL: usize = 1 << 16;
+const SMALL: usize = 1 << 20;
 
 /// Owns the words that token rows stand in; used again by the next read.
 #[derive(Debug, Clone, Default)]
