@@ -72,7 +72,18 @@ returns-10 : tie.Need-returns-10
 returns-10 c = rw (c .before .if10 .taken) (c .only6 .ensures)
 
 returns-11 : tie.Need-returns-11
-returns-11 c = rw (ne-eqb _ _ (c .before .before .before .before .before .before .before .before .before .if1 .left), ne-eqb _ _ (c .before .before .before .before .before .before .before .before .if2 .left), ne-eqb _ _ (c .before .before .before .before .before .before .before .if3 .left), ne-eqb _ _ (c .before .before .before .before .before .before .if4 .left), ne-eqb _ _ (c .before .before .before .before .before .if5 .left), ne-eqb _ _ (c .before .before .before .before .if6 .left), ne-eqb _ _ (c .before .before .before .if7 .left), ne-eqb _ _ (c .before .before .if8 .left), ne-eqb _ _ (c .before .if9 .left), ne-eqb _ _ (c .if10 .left))
+returns-11 c = rw (
+  ne-eqb _ _ (c .before .before .before .before .before .before .before .before .before .if1 .left),
+  ne-eqb _ _ (c .before .before .before .before .before .before .before .before .if2 .left),
+  ne-eqb _ _ (c .before .before .before .before .before .before .before .if3 .left),
+  ne-eqb _ _ (c .before .before .before .before .before .before .if4 .left),
+  ne-eqb _ _ (c .before .before .before .before .before .if5 .left),
+  ne-eqb _ _ (c .before .before .before .before .if6 .left),
+  ne-eqb _ _ (c .before .before .before .if7 .left),
+  ne-eqb _ _ (c .before .before .if8 .left),
+  ne-eqb _ _ (c .before .if9 .left),
+  ne-eqb _ _ (c .if10 .left),
+)
 
 pub after-spec : {M : Type 1} → statement M
 after-spec =
