@@ -32,18 +32,18 @@ fn variable_of(letter: u32, start: u32, len: u32) -> Term
     match letter {
         115 => Term::Variable {
             kind: VariableKind::Symbol,
-            start: start,
-            len: len,
+            start,
+            len,
         },
         116 => Term::Variable {
             kind: VariableKind::Term,
-            start: start,
-            len: len,
+            start,
+            len,
         },
         101 => Term::Variable {
             kind: VariableKind::Expression,
-            start: start,
-            len: len,
+            start,
+            len,
         },
         _ => Term::UnknownVariable,
     }
@@ -54,18 +54,12 @@ fn term_of(kind: u32, detail: u32, start: u32, len: u32) -> Term
     ensures { λ r. ⌜ r ≡ termOf kind detail start len ⌝ }
 {
     match kind {
-        3 => Term::Symbol(Symbol::Identifier {
-            start: start,
-            len: len,
-        }),
-        5 => Term::Symbol(Symbol::Number {
-            start: start,
-            len: len,
-        }),
-        6 => Term::Symbol(Symbol::Char(detail)),
-        4 => variable_of(detail, start, len),
-        9 => Term::Bracket,
-        11 => Term::Call,
+        token::IDENTIFIER => Term::Symbol(Symbol::Identifier { start, len }),
+        token::NUMBER => Term::Symbol(Symbol::Number { start, len }),
+        token::CHAR => Term::Symbol(Symbol::Char(detail)),
+        token::VARIABLE => variable_of(detail, start, len),
+        token::LPAREN => Term::Bracket,
+        token::LANGLE => Term::Call,
         _ => Term::NoTerm,
     }
 }
