@@ -1,4 +1,5 @@
--- The theorems' proofs: Demand3, RoundTrip, Table, Edge, Bound, LawfulRows, and Theorems (the same over trees). The other modules serve them.
+-- The theorems' proofs: Demand3Whole (by Demand3, RoundTrip and SpelledRows), Table, Edge, Bound, LawfulRows, and Theorems (the same over
+-- trees). The other modules serve them.
 pub mod Flats
 pub mod Levels
 pub mod Fields
@@ -19,4 +20,6 @@ pub mod Table
 pub mod Edge
 pub mod Bound
 pub mod RoundTrip
+pub mod SpelledRows
+pub mod Demand3Whole
 pub mod LawfulRows

@@ -11,6 +11,7 @@ use Rattle.refal_ast.specs.declared.Answer.{Answer}
 use Rattle.refal_ast.specs.declared.Answer.the-variants.{Done, Refused}
 use Rattle.refal_lexer.specs.Read.{readAnswer, readRows}
 use Rattle.refal_parser.specs.Parse.{parseAnswer, parseRows}
+use Rattle.refal_writer.specs.Write.{writeAnswer, writeBytes}
 
 -- a row of the table
 pub data Case : Type 0 where
@@ -18,8 +19,10 @@ pub data Case : Type 0 where
   reading : List ℕ → List ℕ → Answer → List ℕ → Case
   -- parsing: the token words, the node words lent, the answer, the node words left
   parsing : List ℕ → List ℕ → Answer → List ℕ → Case
+  -- writing: the node words, the source's bytes, the bytes lent, the answer, the bytes left
+  writing : List ℕ → List ℕ → List ℕ → Answer → List ℕ → Case
 
--- what a call gives: its answer, and the words that it leaves in those lent
+-- what a call gives: its answer, and the words or bytes that it leaves in those lent
 pub record Given : Type 0 where
   pub answer : Answer
   pub left : List ℕ
@@ -28,11 +31,13 @@ pub record Given : Type 0 where
 abbrev pub gives : Case → Given
 gives (reading s M a R) = record { answer = readAnswer s (length M); left = readRows s M }
 gives (parsing w B a R) = record { answer = parseAnswer w B; left = parseRows w B }
+gives (writing T s out a R) = record { answer = writeAnswer T s out; left = writeBytes T s out }
 
 -- what the row says that it gives
 abbrev pub claims : Case → Given
 claims (reading s M a R) = record { answer = a; left = R }
 claims (parsing w B a R) = record { answer = a; left = R }
+claims (writing T s out a R) = record { answer = a; left = R }
 
 abbrev pub each : (Case → Given) → List Case → List Given
 each f [] = []
@@ -110,6 +115,10 @@ tokens4 = sign tokEntry 0 6 ++ (name 2 7 9 ++ (sign tokLBrace 9 10 ++ (sign tokE
 abbrev pub nodes4 : List ℕ
 nodes4 = node nodeFunction 1 7 2 0 13 4 ++ (node nodeSentence 0 0 0 10 12 4 ++ (terms 3 ++ terms 4))
 
+-- `$ENTRY Go { = ; } `
+abbrev pub written4 : List ℕ
+written4 = 36 ∷ 69 ∷ 78 ∷ 84 ∷ 82 ∷ 89 ∷ 32 ∷ 71 ∷ 111 ∷ 32 ∷ 123 ∷ 32 ∷ 61 ∷ 32 ∷ 59 ∷ 32 ∷ 125 ∷ 32 ∷ []
+
 unfoldable pub table : List Case
 table =
     -- empty: Eof 0-0, no node
@@ -162,4 +171,6 @@ table =
     -- `$ENTRY Go{=;}`: the four rows that `tree` prints
     ∷ reading source4 lent (Done 7) (tokens4 ++ replicate 45 9)
     ∷ parsing tokens4 lent (Done 4) (nodes4 ++ replicate 59 9)
+    -- its written text is `$ENTRY Go { = ; } `, 18 bytes
+    ∷ writing nodes4 source4 (replicate 20 9) (Done 18) (written4 ++ replicate 2 9)
     ∷ []
