@@ -69,7 +69,7 @@ pub fn skip_ascii(src: &[u8], at: usize, line: bool) -> Place
 }
 
 // The same past white space of any length: runs of one byte each, and longer characters between them.
-pub fn skip_white(src: &[u8], at: usize, line: bool) -> Place
+fn skip_white(src: &[u8], at: usize, line: bool) -> Place
     requires { ⌜ at ≤ length (now src) ⌝ }
     ensures { λ r. ⌜ (lex 0 (r .at) (r .line) (drop (r .at) (now (src .entry))) ≡ lex 0 at line (drop at (now (src .entry)))) × (at ≤ r .at) × (r .at ≤ length (now (src .entry))) ⌝ }
 {
@@ -180,4 +180,27 @@ pub fn wide_at(src: &[u8], at: usize, line: bool, b: u8) -> Scan
         return Scan::Blank { end, line: l };
     }
     Scan::Bad { number: 10, end }
+}
+
+// Past white space and the block comments between it. An unclosed comment is left to the scan that refuses it.
+pub fn skip_blank(src: &[u8], at: usize, line: bool) -> Place
+    requires { ⌜ at ≤ length (now src) ⌝ }
+    ensures { λ r. ⌜ (lex 0 (r .at) (r .line) (drop (r .at) (now (src .entry))) ≡ lex 0 at line (drop at (now (src .entry)))) × (at ≤ r .at) × (r .at ≤ length (now (src .entry))) ⌝ }
+{
+    let p = skip_white(src, at, line);
+    let mut i = p.at;
+    let mut l = p.line;
+    while i < src.len() {
+        if src[i] != 47 {
+            return Place { at: i, line: l };
+        }
+        let s = slash_at(src, i);
+        let Scan::Blank { end, line: m } = s else {
+            return Place { at: i, line: l };
+        };
+        let q = skip_white(src, end, m);
+        i = q.at;
+        l = q.line;
+    }
+    Place { at: i, line: l }
 }
