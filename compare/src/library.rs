@@ -1,7 +1,6 @@
 //! librefal5.a's functions as safe Rust ones.
 
 use oracle::cases::{Case, Functions};
-use oracle::reference;
 use oracle::terms::Answer;
 
 /// Whether the archive was there when this was built.
@@ -122,7 +121,7 @@ impl Functions for Library {
     }
     #[cfg(not(feature = "read"))]
     fn read(&self, src: &[u8], rows: &mut [u32]) -> Answer {
-        reference::read(src, rows)
+        oracle::reference::read(src, rows)
     }
 
     #[cfg(feature = "parse")]
@@ -142,7 +141,7 @@ impl Functions for Library {
     }
     #[cfg(not(feature = "parse"))]
     fn parse(&self, tokens: &[u32], rows: &mut [u32]) -> Answer {
-        reference::parse(tokens, rows)
+        oracle::reference::parse(tokens, rows)
     }
 
     #[cfg(feature = "write")]
@@ -164,28 +163,28 @@ impl Functions for Library {
     }
     #[cfg(not(feature = "write"))]
     fn write(&self, tree: &[u32], src: &[u8], out: &mut [u8]) -> Answer {
-        reference::write(tree, src, out)
+        oracle::reference::write(tree, src, out)
     }
 }
 
 #[cfg(not(library))]
 impl Functions for Library {
     fn canonical_name(&self, name: &[u8], out: &mut [u8]) -> Answer {
-        reference::canonical_name(name, out)
+        oracle::reference::canonical_name(name, out)
     }
     fn canonical_index(&self, name: &[u8], out: &mut [u8]) -> Answer {
-        reference::canonical_index(name, out)
+        oracle::reference::canonical_index(name, out)
     }
     fn names_equal(&self, a: &[u8], b: &[u8]) -> bool {
-        reference::names_equal(a, b)
+        oracle::reference::names_equal(a, b)
     }
     fn read(&self, src: &[u8], rows: &mut [u32]) -> Answer {
-        reference::read(src, rows)
+        oracle::reference::read(src, rows)
     }
     fn parse(&self, tokens: &[u32], rows: &mut [u32]) -> Answer {
-        reference::parse(tokens, rows)
+        oracle::reference::parse(tokens, rows)
     }
     fn write(&self, tree: &[u32], src: &[u8], out: &mut [u8]) -> Answer {
-        reference::write(tree, src, out)
+        oracle::reference::write(tree, src, out)
     }
 }
