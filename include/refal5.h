@@ -36,6 +36,10 @@ void refal5_read(const uint8_t *src, size_t n, uint32_t *rows, size_t m, uint64_
  * nodes. Refusals 30 to 38. */
 void refal5_parse(const uint32_t *tokens, size_t n, uint32_t *rows, size_t m, uint64_t answer[7]);
 
+/* Writing: a tree's rows and its source as text, each token and then one space; n counts words. Refusals 40 to 42; the need of 42 is
+ * the text's length. */
+void refal5_write(const uint32_t *tree, size_t n, const uint8_t *src, size_t k, uint8_t *out, size_t m, uint64_t answer[7]);
+
 #ifdef __cplusplus
 }
 #endif

@@ -7,6 +7,7 @@ ghost use lib.ListN.{length};
 ghost use Rattle.refal_ast.specs.Names.{canonicalName, canonicalIndex, namesEqual, formAnswer, formBytes};
 ghost use Rattle.refal_lexer.specs.Read.{readAnswer, readRows};
 ghost use Rattle.refal_parser.specs.Parse.{parseAnswer, parseRows};
+ghost use Rattle.refal_writer.specs.Write.{writeAnswer, writeBytes};
 ghost use Rattle.refal5.specs.Words.{answerWords};
 
 // An answer's seven words.
@@ -69,4 +70,13 @@ pub extern "C" fn refal5_parse(tokens: &[u32], rows: &mut [u32], answer: &mut [u
     ensures left { λ _. ⌜ now (rows .exit) ≡ parseRows (now (tokens .entry)) (now (rows .entry)) ⌝ }
 {
     *answer = words(refal_parser::parse(tokens, rows));
+}
+
+// Writing: the text of the tree's tokens, each as spelled in its source, then one space.
+#[no_mangle]
+pub extern "C" fn refal5_write(tree: &[u32], src: &[u8], out: &mut [u8], answer: &mut [u64; 7])
+    ensures told { λ _. ⌜ now (answer .exit) ≡ answerWords (writeAnswer (now (tree .entry)) (now (src .entry)) (now (out .entry))) ⌝ }
+    ensures left { λ _. ⌜ now (out .exit) ≡ writeBytes (now (tree .entry)) (now (src .entry)) (now (out .entry)) ⌝ }
+{
+    *answer = words(refal_writer::write(tree, src, out));
 }

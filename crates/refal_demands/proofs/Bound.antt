@@ -1,8 +1,8 @@
 -- Nodes are bounded by tokens: a tree has at most twice as many rows as the tokens, Eof aside, that it flattens to.
-use mathlib.Core.Path.{_≡_, refl, sym, ap, _∙_}
-use Prim.Native.Nat.{ℕ, suc, _+_, _*_, _%_, _≤_}
-use mathlib.Core.List.{List, [], _∷_, _++_}
-use mathlib.Core.Bool.{Bool, true, false, _&&_}
+use mathlib.Core.Path.{_≡_, refl, ap}
+use Prim.Native.Nat.{ℕ, _+_, _*_, _%_, _≤_}
+use mathlib.Core.List.{List, [], _∷_}
+use mathlib.Core.Bool.{true, _&&_}
 use native.Mathlib.Omega.{arith}
 use lib.Dec.{leb, eqb}
 use lib.ListN.{length, length-append}
@@ -12,8 +12,8 @@ use Rattle.refal_ast.specs.Kinds.{tokEof}
 use Rattle.refal_ast.specs.Tokens.{Token, tokensOf}
 use Rattle.refal_ast.specs.Check.{okTokens, wellFormed}
 use Rattle.refal_ast.specs.Tree.{Terms, t0, tLeaf, tBracket, tCall, Conditions, c0, cTerms, cBlock, Sentences, s0, sTerms, sBlock}
-use Rattle.refal_ast.specs.Tree.{Names, nOne, nMore, Program, p0, pDeclaration, pFunction, sizeT, sizeC, sizeS, sizeN, sizeP}
-use Rattle.refal_ast.specs.Flatten.{Flat, mark, flatOf, flatsOf, flatEntry, flattenT, flattenC, flattenS, flattenN, flatDeclaration, flatFunction}
+use Rattle.refal_ast.specs.Tree.{Names, nOne, nMore, Program, sizeT, sizeC, sizeS, sizeN, sizeP}
+use Rattle.refal_ast.specs.Flatten.{Flat, mark, flatsOf, flattenT, flattenC, flattenS, flattenN}
 use Rattle.refal_ast.specs.Flatten.{Loose, loose-none, loose-semicolon, loose-declaration, loose-function}
 use Rattle.refal_parser.specs.Machine.{tree}
 use Rattle.refal_parser.specs.Parse.{parsed}

@@ -4,7 +4,6 @@ use Prim.Native.Nat.{ℕ, _*_, _≤_}
 use mathlib.Core.List.{List, [], _∷_, _++_}
 use mathlib.Core.Bool.{Bool, true, false}
 use native.Mathlib.Omega.{arith}
-use lib.Dec.{leb}
 use lib.ListN.{length, take, drop, replicate}
 use lib.Seq.{take-at}
 use borrow.Author.Tests.{leb-true, le-leb}
@@ -16,10 +15,9 @@ use Rattle.refal_ast.specs.Check.{wellFormed}
 use Rattle.refal_ast.specs.Tree.{Program, sizeP, depthP}
 use Rattle.refal_ast.specs.Encode.{nodeWidth, encP}
 use Rattle.refal_ast.specs.Flatten.{Flat, mark, flatOf, flatsOf, Loose}
-use Rattle.refal_ast.specs.declared.Answer.{Answer}
 use Rattle.refal_ast.specs.declared.Answer.the-variants.{Done, Refused}
 use Rattle.refal_parser.specs.Machine.{Outcome, tree, refuse}
-use Rattle.refal_parser.specs.Parse.{parsed, fits, answerOf, rowsLeft, parseAnswer, parseRows}
+use Rattle.refal_parser.specs.Parse.{parsed, fits, answerOf, rowsLeft, parseAnswer}
 use Rattle.refal_tree.specs.ForestLaws.{length-enc}
 use Rattle.refal_tree.specs.Typed.{toForest}
 use Rattle.refal_tree.specs.TypedWords.{enc-tree, size-tree}
@@ -27,22 +25,22 @@ use Rattle.refal_demands.specs.Spans.{SameButSpans}
 use Rattle.refal_demands.specs.Trees.{Lawful, withoutLast, tokensBeforeEof, Flattens}
 use Rattle.refal_demands.specs.Demand3.{Fits, parserTree, Theorem}
 use Rattle.refal_demands.proofs.Fields.{Ends, ends, plain}
-use Rattle.refal_demands.proofs.Respan.{eraseP, size-respanP}
+use Rattle.refal_demands.proofs.Respan.{size-respanP}
 use Rattle.refal_demands.proofs.Moved.{same-rows}
 use Rattle.refal_demands.proofs.Theorems.{ok-tokens, soundness, completeness, uniqueness}
 
 -- how many words a tree's rows have
-words-of : (t : Program) → length (encP t 0) ≡ nodeWidth * sizeP t
+pub words-of : (t : Program) → length (encP t 0) ≡ nodeWidth * sizeP t
 words-of t = ap length (sym (enc-tree t 0)) ∙ length-enc (toForest t) 0 ∙ ap (λ (n : ℕ). nodeWidth * n) (size-tree t)
 
 -- what an answer of success says of the outcome
-record Success (o : Outcome) (B : List ℕ) (m : ℕ) : Type 0 where
-  t : Program
-  is : o ≡ tree t
-  size : m ≡ sizeP t
-  room : nodeWidth * sizeP t ≤ length B
+pub record Success (o : Outcome) (B : List ℕ) (m : ℕ) : Type 0 where
+  pub t : Program
+  pub is : o ≡ tree t
+  pub size : m ≡ sizeP t
+  pub room : nodeWidth * sizeP t ≤ length B
 
-success : (o : Outcome) (B : List ℕ) (m : ℕ) → answerOf o B ≡ Done m → Success o B m
+pub success : (o : Outcome) (B : List ℕ) (m : ℕ) → answerOf o B ≡ Done m → Success o B m
 success (refuse number expected found from to) B m e = let z : _≡_ {A = ℕ} 0 1 = cc in let y : ⊥ = omega arith in absurd y
 success (tree t) B m e = go (fits t B) refl e
   where
@@ -51,13 +49,13 @@ success (tree t) B m e = go (fits t B) refl e
     go false f h = let z : _≡_ {A = ℕ} 0 1 = cc in let y : ⊥ = omega arith in absurd y
 
 -- then the rows left begin with the tree's
-parser-tree : (w B : List ℕ) (m : ℕ) (t : Program) → parsed w ≡ tree t → m ≡ sizeP t → nodeWidth * sizeP t ≤ length B → parserTree w B m ≡ encP t 0
+pub parser-tree : (w B : List ℕ) (m : ℕ) (t : Program) → parsed w ≡ tree t → m ≡ sizeP t → nodeWidth * sizeP t ≤ length B → parserTree w B m ≡ encP t 0
 parser-tree w B m t e s r =
     ap (λ (o : Outcome). take (nodeWidth * m) (rowsLeft o B)) e
     ∙ ap (λ (b : Bool). take (nodeWidth * m) (pickList b (encP t 0 ++ drop (nodeWidth * sizeP t) B) (replicate (length B) 0))) (le-leb (nodeWidth * sizeP t) (length B) r)
     ∙ take-at (encP t 0) (drop (nodeWidth * sizeP t) B) (nodeWidth * m) (words-of t ∙ ap (λ (k : ℕ). nodeWidth * k) (sym s))
 
-without-last : (l : List Flat) (c : Flat) → withoutLast (l ++ (c ∷ [])) ≡ l
+pub without-last : (l : List Flat) (c : Flat) → withoutLast (l ++ (c ∷ [])) ≡ l
 without-last [] c = refl
 without-last (x ∷ []) c = refl
 without-last (x ∷ y ∷ l) c = ap (λ (k : List Flat). x ∷ k) (without-last (y ∷ l) c)
@@ -69,16 +67,16 @@ with-eof (t ∷ []) h = ap (λ (c : Flat). c ∷ []) (plain t tokEof (λ d s l. 
 with-eof (t ∷ u ∷ ts) h = ap (λ (l : List Flat). flatOf t ∷ l) (with-eof (u ∷ ts) (h .2))
 
 -- the parser's tree flattens to the tokens
-flattens : (w : List ℕ) (t : Program) → parsed w ≡ tree t → Loose t (tokensBeforeEof w)
+pub flattens : (w : List ℕ) (t : Program) → parsed w ≡ tree t → Loose t (tokensBeforeEof w)
 flattens w t e =
     let s = soundness w t e in
     subst (Loose t) (sym (ap withoutLast (s .1) ∙ without-last (s .0) (mark tokEof))) (s .2)
 
-is-deep : (w : List ℕ) (t : Program) → parsed w ≡ tree t → depthP t ≤ 64
+pub is-deep : (w : List ℕ) (t : Program) → parsed w ≡ tree t → depthP t ≤ 64
 is-deep w t e = soundness w t e .3
 
 -- what parsing accepts
-gives : (w B : List ℕ) (m : ℕ) → parseAnswer w B ≡ Done m → Fits w B (parserTree w B m) × (length (parserTree w B m) ≡ nodeWidth * m)
+pub gives : (w B : List ℕ) (m : ℕ) → parseAnswer w B ≡ Done m → Fits w B (parserTree w B m) × (length (parserTree w B m) ≡ nodeWidth * m)
 gives w B m e =
     let S = success (parsed w) B m e in
     let r : parserTree w B m ≡ encP (S .t) 0 = parser-tree w B m (S .t) (S .is) (S .size) (S .room) in
@@ -104,7 +102,7 @@ accepted w B T g f =
           ∙ ap (λ (b : Bool). pickAnswer b (Done (sizeP (c .0))) (Refused (refusal 38 0 0 0 0 (sizeP (c .0))))) (le-leb (nodeWidth * sizeP (c .0)) (length B) r),
     )
 
-one : (w B : List ℕ) (m : ℕ) → parseAnswer w B ≡ Done m → (T : List ℕ) (t : Lawful T) → Flattens t w → SameButSpans T (parserTree w B m)
+pub one : (w B : List ℕ) (m : ℕ) → parseAnswer w B ≡ Done m → (T : List ℕ) (t : Lawful T) → Flattens t w → SameButSpans T (parserTree w B m)
 one w B m e T t f =
     let S = success (parsed w) B m e in
     let r : parserTree w B m ≡ encP (S .t) 0 = parser-tree w B m (S .t) (S .is) (S .size) (S .room) in

@@ -4,16 +4,15 @@ use Prim.Native.Nat.{ℕ, zero, suc, _+_}
 use mathlib.Core.List.{List, [], _∷_, _++_, append-assoc, append-nil}
 use mathlib.Core.Bool.{Bool, true, false}
 use native.Mathlib.Omega.{arith}
-use lib.Dec.{eqb}
 use Rattle.refal_ast.specs.Kinds.{nodeDeclaration, nodeFunction}
 use Rattle.refal_ast.specs.Tokens.{Token}
-use Rattle.refal_ast.specs.Tree.{Terms, Conditions, Sentences, Program, p0, pDeclaration, pFunction, sizeN, sizeS, sizeP}
+use Rattle.refal_ast.specs.Tree.{Terms, Sentences, Program, p0, pDeclaration, pFunction, sizeN, sizeS, sizeP}
 use Rattle.refal_ast.specs.Encode.{node, entryWord, encN, encS, encP}
 use Rattle.refal_ast.specs.declared.tree.Term.{Term}
 use Rattle.refal_ast.specs.declared.tree.Term.the-variants.{Symbol as theSymbol, Variable, Bracket, Call, UnknownVariable, NoTerm}
 use Rattle.refal_parser.specs.Machine.{termOf, Block, body, inCondition, inEnding, Place, pattern, argument, matching, result, ending, bracket, call}
 use Rattle.refal_parser.specs.Machine.{State, items, wantsName, wantsMore, named, entered, headed, between, within, calling}
-use Rattle.refal_parser.specs.Machine.{matched, conditioned, equated, blocked, ended, Outcome, tree, refuse, Step, go, stop, pick}
+use Rattle.refal_parser.specs.Machine.{matched, conditioned, equated, blocked, ended, Step, go, stop, pick}
 use Rattle.refal_parser.specs.Machine.{opens, endOf, inTerms, leave, step, follow, nextFrom, nextTo, run}
 use Rattle.refal_demands.specs.Edge.{joinP, before, shift}
 use Rattle.refal_demands.proofs.Moved.{rows-shifted}

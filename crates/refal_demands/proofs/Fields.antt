@@ -1,16 +1,16 @@
 -- What check 30 gives of a token: its unused fields are 0, so that its flattened form is known from its kind.
-use mathlib.Core.Path.{_≡_, refl, sym, ap, _∙_}
-use Prim.Native.Nat.{ℕ, zero, suc, _<_, _≤_}
-use mathlib.Core.Bool.{Bool, true, false, _&&_}
+use mathlib.Core.Path.{_≡_, sym, ap, _∙_}
+use Prim.Native.Nat.{ℕ}
+use mathlib.Core.Bool.{true, _&&_}
 use mathlib.Core.List.{List, [], _∷_}
 use native.Mathlib.Omega.{arith}
 use lib.Dec.{leb, eqb}
 use borrow.Author.Tests.{eqb-true}
 use Rattle.refal_rows.specs.Tests.{and-left, and-right, range-hi}
-use Rattle.refal_ast.specs.Kinds.{tokIdentifier, tokNumber, tokChar, tokEof}
+use Rattle.refal_ast.specs.Kinds.{tokChar, tokEof}
 use Rattle.refal_ast.specs.Tokens.{Token}
-use Rattle.refal_ast.specs.Check.{scalar, goodFields, goodToken, goodEof, okTokens}
-use Rattle.refal_ast.specs.Flatten.{Flat, flatToken, mark, nameOf, flatOf}
+use Rattle.refal_ast.specs.Check.{scalar, goodFields, goodToken, okTokens}
+use Rattle.refal_ast.specs.Flatten.{flatToken, mark, flatOf}
 
 -- a token's fields are good
 abbrev pub Fields : Token → Type 0

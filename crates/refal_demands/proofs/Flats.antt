@@ -1,10 +1,12 @@
 -- Flattening before a list: `flatT f r` is the flattening of f with r after it, which a proof by parts follows without associativity.
 use mathlib.Core.Path.{_≡_, refl, sym, ap, _∙_}
 use Prim.Native.Nat.{ℕ}
+use mathlib.Core.Bool.{Bool}
 use mathlib.Core.List.{List, [], _∷_, _++_, append-assoc}
-use Rattle.refal_ast.specs.Kinds.{tokLBrace, tokRBrace, tokLParen, tokRParen, tokLAngle, tokRAngle, tokComma, tokColon, tokEquals, tokSemicolon}
+use Rattle.refal_ast.specs.Kinds.{tokExtern, tokLBrace, tokRBrace, tokLParen, tokRParen, tokLAngle, tokRAngle, tokComma, tokColon, tokEquals, tokSemicolon}
 use Rattle.refal_ast.specs.Tree.{Terms, t0, tLeaf, tBracket, tCall, Conditions, c0, cTerms, cBlock, Sentences, s0, sTerms, sBlock, Names, nOne, nMore}
-use Rattle.refal_ast.specs.Flatten.{Flat, mark, nameOf, flatLeaf, flattenT, flattenC, flattenS, flattenN}
+use Rattle.refal_ast.specs.Tree.{Program, p0, pDeclaration, pFunction}
+use Rattle.refal_ast.specs.Flatten.{Flat, mark, nameOf, flatLeaf, flatEntry, flatDeclaration, flatFunction, flattenT, flattenC, flattenS, flattenN, flattenP}
 
 unfoldable pub flatT : Terms → List Flat → List Flat
 flatT t0 r = r
@@ -72,3 +74,26 @@ pub flatN-is : (ns : Names) (r : List Flat) → flatN ns r ≡ flattenN ns ++ r
 unfolding flatN flattenN
 flatN-is (nOne s l) r = refl
 flatN-is (nMore ns s l) r = flatN-is ns (mark tokComma ∷ nameOf s l ∷ r) ∙ simp append-assoc
+
+unfoldable pub flatP : Program → List Flat → List Flat
+flatP p0 r = r
+flatP (pDeclaration p a ns b) r = flatP p (mark tokExtern ∷ flatN ns (mark tokSemicolon ∷ r))
+flatP (pFunction p a x s l v b) r = flatP p (flatEntry x ++ (nameOf s l ∷ mark tokLBrace ∷ flatS v (mark tokRBrace ∷ r)))
+
+declaration-is : (ns : Names) (r : List Flat) → mark tokExtern ∷ flatN ns (mark tokSemicolon ∷ r) ≡ flatDeclaration ns ++ r
+declaration-is ns r = ap (λ (q : List Flat). mark tokExtern ∷ q) (flatN-is ns (mark tokSemicolon ∷ r)) ∙ simp append-assoc
+
+function-is : (x : Bool) (s l : ℕ) (v : Sentences) (r : List Flat) → flatEntry x ++ (nameOf s l ∷ mark tokLBrace ∷ flatS v (mark tokRBrace ∷ r)) ≡ flatFunction x s l v ++ r
+function-is x s l v r = ap (λ (q : List Flat). flatEntry x ++ (nameOf s l ∷ mark tokLBrace ∷ q)) (flatS-is v (mark tokRBrace ∷ r)) ∙ simp append-assoc
+
+pub flatP-is : (p : Program) (r : List Flat) → flatP p r ≡ flattenP p ++ r
+unfolding flatP flattenP
+flatP-is p0 r = refl
+flatP-is (pDeclaration p a ns b) r =
+    flatP-is p (mark tokExtern ∷ flatN ns (mark tokSemicolon ∷ r))
+    ∙ ap (λ (q : List Flat). flattenP p ++ q) (declaration-is ns r)
+    ∙ sym (append-assoc (flattenP p) (flatDeclaration ns) r)
+flatP-is (pFunction p a x s l v b) r =
+    flatP-is p (flatEntry x ++ (nameOf s l ∷ mark tokLBrace ∷ flatS v (mark tokRBrace ∷ r)))
+    ∙ ap (λ (q : List Flat). flattenP p ++ q) (function-is x s l v r)
+    ∙ sym (append-assoc (flattenP p) (flatFunction x s l v) r)

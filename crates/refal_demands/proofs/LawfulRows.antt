@@ -1,13 +1,12 @@
 -- Rows are a lawful tree, in document 01's wording row by row, exactly when they are the rows of some tree; and of one tree only, so that
 -- the depth and the flattening of lawful rows are those of their tree.
-use mathlib.Core.Path.{_≡_, refl, sym, ap, _∙_}
-use Prim.Native.Nat.{ℕ, _+_, _≤_}
+use mathlib.Core.Path.{_≡_, ap, _∙_}
+use Prim.Native.Nat.{ℕ, _+_}
 use mathlib.Core.List.{List}
 use mathlib.Core.Logic.{_↔_}
 use mathlib.Core.Option.{some}
 use native.Mathlib.Omega.{arith}
-use Rattle.refal_ast.specs.Tree.{Program, depthP}
-use Rattle.refal_ast.specs.Encode.{encP}
+use Rattle.refal_ast.specs.Tree.{depthP}
 use Rattle.refal_tree.specs.Lawful.{treeOf, tree-of, of-tree}
 use Rattle.refal_demands.specs.Trees.{Lawful, ByRows}
 

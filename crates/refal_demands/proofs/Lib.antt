@@ -1,10 +1,13 @@
--- The theorems' proofs: Demand3, Table, Edge, Bound, LawfulRows, and Theorems (the same over trees). The other modules serve them.
+-- The theorems' proofs: Demand3Whole (by Demand3, RoundTrip and SpelledRows), Table, Edge, Bound, LawfulRows, and Theorems (the same over
+-- trees). The other modules serve them.
 pub mod Flats
 pub mod Levels
 pub mod Fields
 pub mod Read
 pub mod Sound
 pub mod Respan
+pub mod FlatSpans
+pub mod Retext
 pub mod Eat
 pub mod ReadsTerms
 pub mod Begins
@@ -16,4 +19,7 @@ pub mod Demand3
 pub mod Table
 pub mod Edge
 pub mod Bound
+pub mod RoundTrip
+pub mod SpelledRows
+pub mod Demand3Whole
 pub mod LawfulRows

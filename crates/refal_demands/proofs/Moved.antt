@@ -1,13 +1,13 @@
 -- A tree's rows, moved k rows on and with a function put on the spans: all other words stay. So trees that agree but for spans have rows
 -- that agree in every word but the two of the span, and a tree's rows from row k on are its rows from row 0 on, shifted.
-use mathlib.Core.Path.{_≡_, refl, sym, ap, subst, _∙_}
-use Prim.Native.Nat.{ℕ, zero, suc, _+_, _*_, _%_}
+use mathlib.Core.Path.{_≡_, refl, sym, subst, _∙_}
+use Prim.Native.Nat.{ℕ, zero, suc, _+_}
 use mathlib.Core.List.{List, [], _∷_, _++_}
 use native.Mathlib.Omega.{arith}
 use lib.ListN.{length, getD}
 use Rattle.refal_ast.specs.Tree.{Leaf, symbol, variable, Terms, t0, tLeaf, tBracket, tCall, Conditions, c0, cTerms, cBlock, Sentences, s0, sTerms, sBlock}
 use Rattle.refal_ast.specs.Tree.{Names, nOne, nMore, Program, p0, pDeclaration, pFunction, sizeT, sizeC, sizeS, sizeN, sizeP}
-use Rattle.refal_ast.specs.Encode.{nodeWidth, leafRow, encT, encTerms, encC, encS, encN, encP}
+use Rattle.refal_ast.specs.Encode.{leafRow, encT, encTerms, encC, encS, encN, encP}
 use Rattle.refal_ast.specs.declared.tree.Symbol.the-variants.{Char, Identifier, Number}
 use Rattle.refal_demands.specs.Spans.{OutsideSpan, SameButSpans}
 use Rattle.refal_demands.specs.Edge.{shift}

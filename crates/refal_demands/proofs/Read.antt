@@ -1,8 +1,7 @@
 -- What a state of the machine has read since the last item's edge, what items stand before it, and that its parts are no deeper than the levels.
 use mathlib.Core.Path.{_≡_}
 use Prim.Native.Nat.{ℕ, suc, _≤_}
-use mathlib.Core.Bool.{Bool}
-use mathlib.Core.List.{List, [], _∷_, _++_}
+use mathlib.Core.List.{List, _∷_, _++_}
 use Rattle.refal_ast.specs.Kinds.{tokEntry, tokExtern, tokLBrace, tokRBrace, tokLParen, tokLAngle, tokComma, tokColon, tokEquals}
 use Rattle.refal_ast.specs.Tree.{Terms, Conditions, Sentences, Program, depthT, depthC, depthS, depthP}
 use Rattle.refal_ast.specs.Flatten.{Flat, mark, nameOf, flatEntry}

@@ -1,6 +1,6 @@
 -- Where the machine accepts, its tree flattens to what was read, but for semicolons outside items, and is no deeper than the levels.
 use mathlib.Core.Path.{_≡_, refl, sym, ap, subst, _∙_}
-use Prim.Native.Nat.{ℕ, zero, suc, max, _+_, _≤_, _<_}
+use Prim.Native.Nat.{ℕ, zero, suc, _≤_}
 use mathlib.Core.List.{List, [], _∷_, _++_, append-assoc}
 use mathlib.Core.Bool.{Bool, true, false}
 use native.Mathlib.Omega.{arith}
@@ -9,20 +9,18 @@ use borrow.Author.Tests.{eqb-true, eqb-false}
 use Rattle.refal_ast.specs.Kinds.{tokEntry, tokExtern, tokIdentifier, tokVariable, tokNumber, tokChar, tokLBrace, tokRBrace, tokLParen, tokRParen}
 use Rattle.refal_ast.specs.Kinds.{tokLAngle, tokRAngle, tokComma, tokColon, tokEquals, tokSemicolon, tokEof}
 use Rattle.refal_ast.specs.Tokens.{Token}
-use Rattle.refal_ast.specs.Tree.{Leaf, symbol, variable, Terms, t0, tLeaf, tBracket, tCall, Conditions, c0, cTerms, cBlock, Sentences, s0, sTerms, sBlock}
-use Rattle.refal_ast.specs.Tree.{Names, nOne, nMore, Program, p0, pDeclaration, pFunction, depthT, depthC, depthS, depthP}
-use Rattle.refal_ast.specs.Flatten.{Flat, flatToken, mark, nameOf, flatOf, flatsOf, flatLeaf, flatEntry, flatDeclaration, flatFunction, flattenS, flattenN}
-use Rattle.refal_ast.specs.Flatten.{Loose, loose-none, loose-semicolon, loose-declaration, loose-function}
-use Rattle.refal_ast.specs.declared.tree.Symbol.the-variants.{Char, Identifier, Number}
+use Rattle.refal_ast.specs.Tree.{Leaf, variable, Terms, t0, tLeaf, Conditions, c0, cTerms, Sentences, s0}
+use Rattle.refal_ast.specs.Tree.{Program, depthT, depthC, depthS, depthP}
+use Rattle.refal_ast.specs.Flatten.{Flat, flatToken, mark, nameOf, flatOf, flatsOf, flatLeaf, flatEntry, flatDeclaration, flatFunction}
+use Rattle.refal_ast.specs.Flatten.{Loose, loose-semicolon, loose-declaration, loose-function}
 use Rattle.refal_ast.specs.declared.tree.VariableKind.{VariableKind}
 use Rattle.refal_ast.specs.declared.tree.VariableKind.the-variants.{Symbol as kindS, Term as kindT, Expression as kindE}
 use Rattle.refal_ast.specs.declared.tree.Term.{Term}
-use Rattle.refal_ast.specs.declared.tree.Term.the-variants.{Symbol as theSymbol, Variable, Bracket, Call, UnknownVariable, NoTerm}
-use Rattle.refal_parser.specs.Machine.{pickTerm, variableOf, termOf, Block, body, inCondition, inEnding}
+use Rattle.refal_parser.specs.Machine.{pickTerm, Block, body, inCondition, inEnding}
 use Rattle.refal_parser.specs.Machine.{Place, pattern, argument, matching, result, ending, bracket, call}
 use Rattle.refal_parser.specs.Machine.{State, items, wantsName, wantsMore, named, entered, headed, between, within, calling}
-use Rattle.refal_parser.specs.Machine.{matched, conditioned, equated, blocked, ended, Outcome, tree, refuse, Step, go, stop, pick, on}
-use Rattle.refal_parser.specs.Machine.{expected, noTerm, opens, closing, lastEnd, afterPattern, afterTerms, endOf, inTerms, atTerms, leave, step, follow, nextFrom, nextTo}
+use Rattle.refal_parser.specs.Machine.{matched, conditioned, equated, blocked, ended, tree, refuse, Step, go, stop, pick, on}
+use Rattle.refal_parser.specs.Machine.{opens, closing, lastEnd, afterPattern, afterTerms, endOf, inTerms, atTerms, leave, step, follow}
 use Rattle.refal_demands.proofs.Flats.{flatT, flatC, flatS, flatN, flatS-is, flatN-is}
 use Rattle.refal_demands.proofs.Levels.{stepAt, runAt}
 use Rattle.refal_demands.proofs.Fields.{Fields, plain, texted, detailed, Ends}

@@ -1,13 +1,28 @@
 -- The rows of document 01's worked table hold, by computing the definitions.
-use mathlib.Core.Path.{_≡_, refl}
+use mathlib.Core.Path.{refl}
 use Rattle.refal_demands.specs.Table.{AllHold, table}
 use Rattle.refal_ast.specs.Tokens.{tokensOf}
 use Rattle.refal_ast.specs.Check.{okTokens, wellFormed}
 use Rattle.refal_ast.specs.Tree.{sizeT, sizeC, sizeS, sizeN, sizeP}
 use Rattle.refal_ast.specs.Encode.{encT, encC, encS, encN, encP}
+use Rattle.refal_text.specs.Utf8.{decode, wellTo}
+use Rattle.refal_lexer.specs.Blanks.{closeFrom}
+use Rattle.refal_lexer.specs.Literals.{litChar, litFrom, charTokens}
+use Rattle.refal_lexer.specs.Lex.{lex}
 use Rattle.refal_parser.specs.Machine.{run}
 use Rattle.refal_parser.specs.Parse.{parsed}
+use Rattle.refal_ast.specs.Flatten.{flattenT, flattenC, flattenS, flattenP}
+use Rattle.refal_tree.specs.Forest.{sizeG, joinG, cut, forestOf}
+use Rattle.refal_tree.specs.Rules.{okG}
+use Rattle.refal_tree.specs.Typed.{getT, getS, getSentence, getTail, getBlock, getCondition, getRight, getN, getNs, getP}
+use Rattle.refal_tree.specs.Lawful.{treeOf, lawful}
+use Rattle.refal_spelling.specs.Spell.{body, spelling, text}
+use Rattle.refal_spelling.specs.Spells.{spells}
+use Rattle.refal_writer.specs.Spellings.{rowSpelled, allSpelled}
+use Rattle.refal_writer.specs.Write.{written, writeAnswer, writeBytes}
 
 pub table-holds : AllHold table
-unfolding table tokensOf okTokens wellFormed sizeT sizeC sizeS sizeN sizeP encT encC encS encN encP run parsed
-table-holds = ((refl, refl), ((refl, refl), ((refl, refl), ((refl, refl), ((refl, refl), ((refl, refl), tt))))))
+unfolding table tokensOf okTokens wellFormed sizeT sizeC sizeS sizeN sizeP encT encC encS encN encP run parsed decode wellTo closeFrom litChar litFrom
+    charTokens lex flattenT flattenC flattenS flattenP sizeG joinG cut forestOf okG getT getS getSentence getTail getBlock getCondition getRight getN
+    getNs getP treeOf lawful body spelling text spells rowSpelled allSpelled written writeAnswer writeBytes
+table-holds = refl

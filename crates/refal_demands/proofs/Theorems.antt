@@ -1,6 +1,6 @@
 -- The definition `parsed` over trees: it is sound, complete up to 64 levels, and a list of tokens has one tree at most, spans aside.
-use mathlib.Core.Path.{_≡_, refl, sym, ap, subst, _∙_}
-use Prim.Native.Nat.{ℕ, zero, suc, _+_, _*_, _%_, _≤_, _<_}
+use mathlib.Core.Path.{_≡_, refl, sym, ap, _∙_}
+use Prim.Native.Nat.{ℕ, _+_, _*_, _%_, _≤_}
 use mathlib.Core.List.{List, [], _∷_, _++_}
 use mathlib.Core.Bool.{Bool, true, false, _&&_}
 use native.Mathlib.Omega.{arith}
@@ -11,8 +11,8 @@ use Rattle.refal_ast.specs.Kinds.{tokEof}
 use Rattle.refal_ast.specs.Tokens.{Token, token, tokensOf}
 use Rattle.refal_ast.specs.Check.{okTokens, wellFormed}
 use Rattle.refal_ast.specs.Tree.{Program, p0, depthP}
-use Rattle.refal_ast.specs.Flatten.{Flat, mark, flatOf, flatsOf, Loose, loose-none}
-use Rattle.refal_parser.specs.Machine.{items, Outcome, tree, refuse, run}
+use Rattle.refal_ast.specs.Flatten.{Flat, mark, flatsOf, Loose, loose-none}
+use Rattle.refal_parser.specs.Machine.{items, tree, refuse, run}
 use Rattle.refal_parser.specs.Parse.{pickOutcome, parsed}
 use Rattle.refal_demands.proofs.Levels.{runAt, run-is}
 use Rattle.refal_demands.proofs.Fields.{ends}

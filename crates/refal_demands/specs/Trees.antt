@@ -1,6 +1,6 @@
 -- Lawful trees of rows, and what it is to flatten to the tokens of a list of words.
 use mathlib.Core.Path.{_≡_}
-use Prim.Native.Nat.{ℕ, _≤_}
+use Prim.Native.Nat.{ℕ}
 use mathlib.Core.List.{List, [], _∷_}
 use mathlib.Core.Option.{some}
 use Rattle.refal_ast.specs.Tokens.{tokensOf}

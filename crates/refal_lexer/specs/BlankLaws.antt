@@ -1,26 +1,27 @@
 -- Laws of white space and comments: the ways out of their scans.
 use Prim.Native.Nat.{ℕ, suc, _+_, _<_, _≤_}
-use borrow.Author.Tests.{lt-ltb, eq-eqb, ne-eqb}
+use borrow.Author.Tests.{eq-eqb, ne-eqb}
 use native.Mathlib.Decide.{decLe}
 use native.Mathlib.Nat.{add-zero}
 use native.Mathlib.Numerals.{add-one}
 use native.Mathlib.Omega.{arith}
 use mathlib.Core.List.{List}
 use mathlib.Core.Bool.{Bool, true, false, not, _&&_}
-use mathlib.Core.Path.{_≡_, refl, ap, _∙_, sym, subst}
+use mathlib.Core.Path.{_≡_, refl, ap, _∙_, sym}
 use lib.Dec.{eqb}
 use lib.ListN.{length, drop, getD, drop-of-length-le, List·getD-eq-default}
 use lib.Seq.{drop-cons, drop-drop, getD-drop}
 use Rattle.refal_text.specs.Pick.{pick}
 use Rattle.refal_text.specs.Utf8.{decode, char}
-use Rattle.refal_text.specs.Utf8Laws.{decode-in, decode-ascii}
 use Rattle.refal_text.specs.White.{whiteSpace}
+use Rattle.refal_text.specs.Utf8.{ill, leads, two, three, well2, well3, code2, code3}
+use Rattle.refal_text.specs.Utf8Laws.{char-two, char-three, step-in}
+use mathlib.Core.Bool.{true≢false}
+use mathlib.Core.Path.{refl}
 use Rattle.refal_text.specs.declared.Char.{Char}
-use Rattle.refal_lexer.specs.Classes.{blank}
 use Rattle.refal_lexer.specs.declared.Scan.{Scan}
 use Rattle.refal_lexer.specs.declared.Scan.the-variants.{Blank, Bad}
 use Rattle.refal_lexer.specs.Blanks.{whiteLen, closeFrom, slashScan}
-use Rattle.refal_lexer.specs.ClassLaws.{blank-white}
 
 -- a byte that is not 0 is there
 pub nonzero-in : (s : List ℕ) (i : ℕ) → (getD s i 0 ≡ 0 → ⊥) → i < length s
@@ -62,26 +63,32 @@ module _ (s : List ℕ) (at x : ℕ) (e : x ≡ getD s (at + 1) 0) where
   pub slash-in : x ≡ 42 → at + 2 ≤ length s
   slash-in z = let l = nonzero-in s (at + 1) (λ y. omega arith) in omega arith
 
--- ---- white space
-decode-low : (s : List ℕ) (at : ℕ) → at < length s → getD s at 0 < 128 → decode (drop at s) ≡ char (getD s at 0) 1
-decode-low s at h l = ap decode (drop-cons s at 0 h) ∙ decode-ascii (getD s at 0) (drop (suc at) s) (lt-ltb _ _ l)
+-- ---- white space of two bytes, and of three: n is the lead byte's count
+white-is : (s : List ℕ) (c : Char) → c ≡ decode s → whiteLen s ≡ pick (whiteSpace (c .code)) (c .len) 0
+white-is s c e = ap (λ (x : Char). pick (whiteSpace (x .code)) (x .len) 0) (sym e)
 
-module _ (s : List ℕ) (at : ℕ) (h : at < length s) where
-  white-low : (t : Bool) → getD s at 0 < 128 → blank (getD s at 0) ≡ t → whiteLen (drop at s) ≡ pick t 1 0
-  white-low t l e =
-      ap (λ (c : Char). pick (whiteSpace (c .code)) (c .len) 0) (decode-low s at h l)
-      ∙ ap (λ (u : Bool). pick u 1 0) (sym (blank-white _ l) ∙ e)
+white-len : (t : Bool) (x n : ℕ) → whiteSpace (pick t (char x n) ill .code) ≡ true → pick (whiteSpace (pick t (char x n) ill .code)) (pick t (char x n) ill .len) 0 ≡ n
+white-len true x n h = rw h
+white-len false x n h = absurd (true≢false (sym h))
 
-  pub white-one : getD s at 0 < 128 → blank (getD s at 0) ≡ true → (1 ≡ whiteLen (drop at s)) × (at + 1 ≤ length s)
-  white-one l e = (sym (white-low true l e), omega arith)
+white-in : (s : List ℕ) (at n : ℕ) (c : Char) → at < length s → c ≡ decode (drop at s) → c .len ≡ n → at + n ≤ length s
+white-in s at n c h e f = let d = step-in s at c h e in omega arith
 
-  pub white-none : getD s at 0 < 128 → blank (getD s at 0) ≡ false → (0 ≡ whiteLen (drop at s)) × (at + 0 ≤ length s)
-  white-none l e = (sym (white-low false l e), omega arith)
+some-len : (t : Bool) (x n : ℕ) → whiteSpace (pick t (char x n) ill .code) ≡ true → pick t (char x n) ill .len ≡ n
+some-len true x n h = refl
+some-len false x n h = absurd (true≢false (sym h))
 
-  pub white-wide : (c : Char) → c ≡ decode (drop at s) → whiteSpace (c .code) ≡ true → (c .len ≡ whiteLen (drop at s)) × (at + c .len ≤ length s)
-  white-wide c e w =
-      let l = decode-in s at h in
-      (sym (rw (← e, w) refl), subst (λ (x : Char). at + x .len ≤ length s) (sym e) l)
+module _ (s : List ℕ) (at n a b : ℕ) (h : at < length s) (ea : a ≡ getD s at 0) (en : n ≡ leads a) (eb : b ≡ getD s (at + 1) 0) where
+  lead-is : n ≡ leads (getD s at 0)
+  lead-is = en ∙ ap leads ea
 
-  pub white-not : (c : Char) → c ≡ decode (drop at s) → whiteSpace (c .code) ≡ false → (0 ≡ whiteLen (drop at s)) × (at + 0 ≤ length s)
-  white-not c e w = (sym (rw (← e, w) refl), omega arith)
+  pub white-two : n ≡ 2 → whiteSpace (two a b .code) ≡ true → (2 ≡ whiteLen (drop at s)) × (at + 2 ≤ length s)
+  white-two z w =
+      let d : two a b ≡ decode (drop at s) = char-two s at n h lead-is (two a b) b (λ y. absurd (omega arith)) z eb (ap (λ (x : ℕ). two x b) ea) in
+      (sym (white-is (drop at s) (two a b) d ∙ white-len (well2 a b) (code2 a b) 2 w), white-in s at 2 (two a b) h d (some-len (well2 a b) (code2 a b) 2 w))
+
+  pub white-three : (c : ℕ) → c ≡ getD s (at + 2) 0 → n ≡ 3 → whiteSpace (three a b c .code) ≡ true → (3 ≡ whiteLen (drop at s)) × (at + 3 ≤ length s)
+  white-three c ec z w =
+      let d : three a b c ≡ decode (drop at s) = char-three s at n h lead-is (three a b c) b c (λ y. absurd (omega arith)) (λ y. absurd (omega arith)) z eb ec
+      (ap (λ (x : ℕ). three x b c) ea) in
+      (sym (white-is (drop at s) (three a b c) d ∙ white-len (well3 a b c) (code3 a b c) 3 w), white-in s at 3 (three a b c) h d (some-len (well3 a b c) (code3 a b c) 3 w))

@@ -1,5 +1,5 @@
 -- Definitions: Classes, Blanks, Words, Numbers, Literals, Scans, Lex, Read. The bounds of a scan: Within. Rows put one by one: Puts.
--- Laws: ClassLaws, BlankLaws, WordLaws, NumberLaws, LiteralLaws, ScanLaws, ShapeLaws, LexLaws, ReadLaws.
+-- Laws: ClassLaws, BlankLaws, WordLaws, NumberLaws, LiteralLaws, ScanLaws, ShapeLaws, TokenLaws, PlaceLaws, LexLaws, ReadLaws.
 pub mod Classes
 pub mod Blanks
 pub mod Words
@@ -17,5 +17,7 @@ pub mod NumberLaws
 pub mod LiteralLaws
 pub mod ScanLaws
 pub mod ShapeLaws
+pub mod TokenLaws
+pub mod PlaceLaws
 pub mod LexLaws
 pub mod ReadLaws

@@ -18,7 +18,7 @@ use Rattle.refal_text.specs.declared.Char.{Char}
 use Rattle.refal_lexer.specs.Classes.{digit, blank, classOf}
 use Rattle.refal_lexer.specs.declared.Scan.{Scan}
 use Rattle.refal_lexer.specs.declared.Scan.the-variants.{Blank, Token, Bad}
-use Rattle.refal_lexer.specs.Blanks.{lineAfter, wideScan, whiteLen}
+use Rattle.refal_lexer.specs.Blanks.{slashScan, lineAfter, wideScan, whiteLen}
 use Rattle.refal_lexer.specs.BlankLaws.{nonzero-in, next-is}
 use Rattle.refal_lexer.specs.ClassLaws.{blank-class}
 use Rattle.refal_lexer.specs.Words.{otherScan}
@@ -76,6 +76,10 @@ module _ (k at : ℕ) (line : Bool) (b : ℕ) (s : List ℕ) where
   pub class-rare : (r : Scan) → leb 7 k && leb k 16 ≡ false → (k ≡ 2 → ⊥) → (k ≡ 3 → ⊥) → (k ≡ 21 → ⊥) → (k ≡ 22 → ⊥) → (k ≡ 23 → ⊥) → r ≡ rareClass k at line b s
       → r ≡ scanClass k at line b s
   class-rare r t n₂ n₃ n₁ n₄ n₅ e = e ∙ sym (rw (t, ne-eqb _ _ n₂, ne-eqb _ _ n₃, ne-eqb _ _ n₁, ne-eqb _ _ n₄, ne-eqb _ _ n₅) refl)
+
+-- a slash
+pub scan-slash : (s : List ℕ) (at : ℕ) (line : Bool) → at < length s → getD s at 0 ≡ 47 → slashScan at (drop (at + 1) s) ≡ scan at line (drop at s)
+scan-slash s at line h e = scan-class s at line 5 5 h (sym (ap classOf e)) refl
 
 -- ---- white space is skipped
 module _ (s : List ℕ) (at : ℕ) (line : Bool) (h : at < length s) where

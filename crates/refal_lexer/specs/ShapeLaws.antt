@@ -34,7 +34,6 @@ pub data RowOk : ℕ → ℕ → ℕ → ℕ → Type 0 where
   row-number : {start len : ℕ} → RowOk 5 0 start len
   row-char : {x : ℕ} → Scalar x → RowOk 6 x 0 0
   row-single : {k : ℕ} → leb 7 k && leb k 16 ≡ true → RowOk k 0 0 0
-  row-eof : RowOk 17 0 0 0
 
 -- an answer that is no literal, and whose token is lawful
 abbrev pub Sound : Scan → Type 0
@@ -111,7 +110,7 @@ pub found : (at : ℕ) (line : Bool) (b : ℕ) (s : List ℕ) → Found b at s (
 found at line b s = found-class at line b s (classOf b) (class-view b)
 
 -- a literal comes from a quote
-lit-of : (b at : ℕ) (s : List ℕ) (r : Scan) (end : ℕ) → Found b at s r → r ≡ Literal end → litFrom b 0 (at + 1) 0 s ≡ Literal end
+pub lit-of : (b at : ℕ) (s : List ℕ) (r : Scan) (end : ℕ) → Found b at s r → r ≡ Literal end → litFrom b 0 (at + 1) 0 s ≡ Literal end
 lit-of b at s r end (found-sound h) e = absurd (subst Sound e h)
 lit-of b at s r end (found-literal q) e = e
 
@@ -124,7 +123,7 @@ pub literal-few : (s : List ℕ) (at : ℕ) (line : Bool) (end : ℕ) → at < l
 literal-few s at line end h e = chars-few (getD s at 0) at end 0 (at + 1) 0 end (drop (at + 1) s) (literal-from at line (getD s at 0) (drop (at + 1) s) end (sym (scan-drop s at line h) ∙ e))
 
 -- a literal's quote
-quote-of : (b at : ℕ) (s : List ℕ) (r : Scan) (end : ℕ) → Found b at s r → r ≡ Literal end → eqb b 39 || eqb b 34 ≡ true
+pub quote-of : (b at : ℕ) (s : List ℕ) (r : Scan) (end : ℕ) → Found b at s r → r ≡ Literal end → eqb b 39 || eqb b 34 ≡ true
 quote-of b at s r end (found-sound h) e = absurd (subst Sound e h)
 quote-of b at s r end (found-literal q) e = q
 

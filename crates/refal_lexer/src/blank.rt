@@ -3,8 +3,9 @@ ghost use mathlib.Core.Path.{_≡_};
 ghost use mathlib.Core.Bool.{false};
 ghost use Prim.Native.Nat.{_+_, _≤_, _<_};
 ghost use lib.ListN.{length, drop};
-ghost use Rattle.refal_text.specs.Utf8.{decode};
-ghost use Rattle.refal_lexer.specs.Blanks.{whiteLen, lineAfter, starScan, slashScan, closeFrom, wideScan};
+ghost use Rattle.refal_text.specs.Utf8.{decode, two, three};
+ghost use Rattle.refal_text.specs.White.{whiteSpace};
+ghost use Rattle.refal_lexer.specs.Blanks.{lineAfter, starScan, slashScan, closeFrom, wideScan};
 ghost use Rattle.refal_lexer.specs.Lex.{lex};
 ghost use Rattle.refal_lexer.specs.Within.{Within};
 use crate::Scan;
@@ -23,25 +24,29 @@ pub fn line_after(b: u8, at: usize, line: bool) -> bool
     (b == 10) | (line & (at != 0))
 }
 
-// How many bytes the white-space character at `at` has: 0 where none is there.
-fn white_len(src: &[u8], at: usize) -> usize
-    requires { ⌜ at < length (now src) ⌝ }
-    ensures { λ r. ⌜ (r ≡ whiteLen (drop at (now (src .entry)))) × (at + r ≤ length (now (src .entry))) ⌝ }
+// Whether a and b are a white-space character of two bytes.
+fn two_white(a: u8, b: u8) -> bool
+    ensures { λ r. ⌜ r ≡ whiteSpace (two a b .code) ⌝ }
 {
-    let b = src[at];
-    if b < 128 {
-        let blank = crate::class::is_blank(b);
-        if blank {
-            return 1;
-        }
-        return 0;
+    let well = refal_text::is_two(a, b);
+    if well {
+        let x = ((a as u32) - 192) * 64 + ((b as u32) - 128);
+        return refal_text::is_white(x);
     }
-    let c = refal_text::char_at(src, at);
-    let white = refal_text::is_white(c.code);
-    if white {
-        return c.len;
+    false
+}
+
+// Whether a, b and c are a white-space character of three bytes.
+fn three_white(a: u8, b: u8, c: u8) -> bool
+    requires { ⌜ 224 ≤ a ⌝ }
+    ensures { λ r. ⌜ r ≡ whiteSpace (three a b c .code) ⌝ }
+{
+    let well = refal_text::is_three(a, b, c);
+    if well {
+        let x = ((a as u32) - 224) * 4096 + ((b as u32) - 128) * 64 + ((c as u32) - 128);
+        return refal_text::is_white(x);
     }
-    0
+    false
 }
 
 // Past the white space of one byte each at `at`. What is still to come is the same there as here.
@@ -64,7 +69,7 @@ pub fn skip_ascii(src: &[u8], at: usize, line: bool) -> Place
 }
 
 // The same past white space of any length: runs of one byte each, and longer characters between them.
-pub fn skip_white(src: &[u8], at: usize, line: bool) -> Place
+fn skip_white(src: &[u8], at: usize, line: bool) -> Place
     requires { ⌜ at ≤ length (now src) ⌝ }
     ensures { λ r. ⌜ (lex 0 (r .at) (r .line) (drop (r .at) (now (src .entry))) ≡ lex 0 at line (drop at (now (src .entry)))) × (at ≤ r .at) × (r .at ≤ length (now (src .entry))) ⌝ }
 {
@@ -72,15 +77,34 @@ pub fn skip_white(src: &[u8], at: usize, line: bool) -> Place
     let mut i = p.at;
     let mut l = p.line;
     while i < src.len() {
-        let k = white_len(src, i);
-        if k == 0 {
-            return Place { at: i, line: l };
+        let a = src[i];
+        let n = refal_text::lead(a);
+        match n {
+            2 => {
+                let b = refal_text::byte(src, i + 1);
+                if !two_white(a, b) {
+                    return Place { at: i, line: l };
+                }
+                let m = line_after(a, i, l);
+                let next = i + 2;
+                let q = skip_ascii(src, next, m);
+                i = q.at;
+                l = q.line;
+            }
+            3 => {
+                let b = refal_text::byte(src, i + 1);
+                let c = refal_text::byte(src, i + 2);
+                if !three_white(a, b, c) {
+                    return Place { at: i, line: l };
+                }
+                let m = line_after(a, i, l);
+                let next = i + 3;
+                let q = skip_ascii(src, next, m);
+                i = q.at;
+                l = q.line;
+            }
+            _ => return Place { at: i, line: l },
         }
-        let m = line_after(src[i], i, l);
-        let next = i + k;
-        let q = skip_ascii(src, next, m);
-        i = q.at;
-        l = q.line;
     }
     Place { at: i, line: l }
 }
@@ -156,4 +180,27 @@ pub fn wide_at(src: &[u8], at: usize, line: bool, b: u8) -> Scan
         return Scan::Blank { end, line: l };
     }
     Scan::Bad { number: 10, end }
+}
+
+// Past white space and the block comments between it. An unclosed comment is left to the scan that refuses it.
+pub fn skip_blank(src: &[u8], at: usize, line: bool) -> Place
+    requires { ⌜ at ≤ length (now src) ⌝ }
+    ensures { λ r. ⌜ (lex 0 (r .at) (r .line) (drop (r .at) (now (src .entry))) ≡ lex 0 at line (drop at (now (src .entry)))) × (at ≤ r .at) × (r .at ≤ length (now (src .entry))) ⌝ }
+{
+    let p = skip_white(src, at, line);
+    let mut i = p.at;
+    let mut l = p.line;
+    while i < src.len() {
+        if src[i] != 47 {
+            return Place { at: i, line: l };
+        }
+        let s = slash_at(src, i);
+        let Scan::Blank { end, line: m } = s else {
+            return Place { at: i, line: l };
+        };
+        let q = skip_white(src, end, m);
+        i = q.at;
+        l = q.line;
+    }
+    Place { at: i, line: l }
 }

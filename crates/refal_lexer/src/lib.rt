@@ -69,7 +69,7 @@ fn lex_by(src: &[u8], rows: &mut [u32], table: &[u8]) -> Answer
         let s = dispatch::scan_at(src, at, line, table);
         match s {
             Scan::Blank { end, line: l } => {
-                let p = blank::skip_white(src, end, l);
+                let p = blank::skip_blank(src, end, l);
                 at = p.at;
                 line = p.line;
             }

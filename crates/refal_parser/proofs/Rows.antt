@@ -129,3 +129,17 @@ pub size-items : (p : Program) (x : Item) → sizeP (addP p x) ≡ sizeP p + siz
 unfolding sizeP
 size-items p (declaration a ns b) = refl
 size-items p (function a x s l v b) = refl
+
+-- ---- rows put one after another: a condition with a block, a condition with terms, an ending block
+module _ (n : ℕ) (f : Terms) (B : List ℕ) {a b from to m k : ℕ} {B₁ B₂ B₃ : List ℕ} (s : from ≡ a) (e : to ≡ b) (r₁ : B₁ ≡ wTerms f (n + 1) B) (c₁ : m ≡ n + 1 + 1 + sizeT f) where
+  pub block-condition : {B₄ : List ℕ} (v : Sentences) → B₂ ≡ wS v (m + 1) B₁ → k ≡ m + 1 + sizeS v → B₃ ≡ putNode B₂ m (spanRow nodeConditionBlock from to k) →
+      B₄ ≡ putNode B₃ n (spanRow nodeCondition from to k) → B₄ ≡ wCond (withBlock a f v b) n B
+  block-condition {B₄} v r₂ c₂ r₃ r₄ = cc
+
+  pub terms-condition : (g : Terms) → B₂ ≡ wTerms g m B₁ → k ≡ m + 1 + sizeT g → B₃ ≡ putNode B₂ n (spanRow nodeCondition from to k) →
+      B₃ ≡ wCond (withTerms a f g b) n B
+  terms-condition g r₂ c₂ r₃ = cc
+
+  pub block-ending : (v : Sentences) → B₂ ≡ wS v m B₁ → k ≡ m + sizeS v → B₃ ≡ putNode B₂ n (spanRow nodeEndingBlock from to k) →
+      B₃ ≡ wEnd (block a f v b) n B
+  block-ending v r₂ c₂ r₃ = cc

@@ -37,6 +37,7 @@ fn condition(tokens: &[u32], rows: &mut [u32], at: usize, n: usize, left: usize)
     ensures { λ r. ⌜ CondPost (now (tokens .entry)) (now (rows .entry)) (now (rows .exit)) at n left r ⌝ }
 {
     let start = at + 6;
+    let from = span_from(tokens, start);
     let first = n + 1;
     let r = clause(tokens, rows, start, first, left, token::COLON);
     let Got::At(j, m) = r else {
@@ -48,36 +49,17 @@ fn condition(tokens: &[u32], rows: &mut [u32], at: usize, n: usize, left: usize)
         let Got::At(i, m2) = r2 else {
             return r2;
         };
-        put_span(
-            rows,
-            m,
-            node::CONDITION_BLOCK,
-            span_from(tokens, start),
-            end_before(tokens, i),
-            m2,
-        );
-        put_span(
-            rows,
-            n,
-            node::CONDITION,
-            span_from(tokens, start),
-            end_before(tokens, i),
-            m2,
-        );
+        let to = end_before(tokens, i);
+        put_span(rows, m, node::CONDITION_BLOCK, from, to, m2);
+        put_span(rows, n, node::CONDITION, from, to, m2);
         return joins(tokens, i, m2);
     }
     let r3 = pattern(tokens, rows, j, m, left);
     let Got::At(i, m2) = r3 else {
         return r3;
     };
-    put_span(
-        rows,
-        n,
-        node::CONDITION,
-        span_from(tokens, start),
-        end_before(tokens, i),
-        m2,
-    );
+    let to = end_before(tokens, i);
+    put_span(rows, n, node::CONDITION, from, to, m2);
     Got::At(i, m2)
 }
 
@@ -90,6 +72,7 @@ fn ending(tokens: &[u32], rows: &mut [u32], at: usize, n: usize, left: usize) ->
         return clause(tokens, rows, at, n, left, token::SEMICOLON);
     }
     let start = at + 6;
+    let from = span_from(tokens, start);
     let first = n + 1;
     let r = clause(tokens, rows, start, first, left, token::COLON);
     let Got::At(j, m) = r else {
@@ -105,14 +88,8 @@ fn ending(tokens: &[u32], rows: &mut [u32], at: usize, n: usize, left: usize) ->
     if kind(tokens, i) != token::SEMICOLON {
         return present(tokens, i, 35, token::SEMICOLON);
     }
-    put_span(
-        rows,
-        n,
-        node::ENDING_BLOCK,
-        span_from(tokens, start),
-        end_before(tokens, i),
-        m2,
-    );
+    let to = end_before(tokens, i);
+    put_span(rows, n, node::ENDING_BLOCK, from, to, m2);
     let next = i + 6;
     Got::At(next, m2)
 }
@@ -142,14 +119,9 @@ fn sentence(tokens: &[u32], rows: &mut [u32], at: usize, n: usize, left: usize) 
     let Got::At(next, m3) = r3 else {
         return r3;
     };
-    put_span(
-        rows,
-        n,
-        node::SENTENCE,
-        span_from(tokens, at),
-        end_before(tokens, next),
-        m3,
-    );
+    let from = span_from(tokens, at);
+    let to = end_before(tokens, next);
+    put_span(rows, n, node::SENTENCE, from, to, m3);
     Got::At(next, m3)
 }
 

@@ -4,6 +4,7 @@ ghost use Prim.Native.Nat.{ℕ, _+_, _≤_};
 ghost use lib.ListN.{length};
 ghost use Rattle.refal_ast.specs.Check.{goodEof, goodFields, goodToken, pickBool, scalar, usesDetail, usesText, wellFormed};
 ghost use Rattle.refal_parser.specs.Ready.{tok};
+use refal_ast::kinds::token;
 
 fn scalar(x: u32) -> bool
     ensures { λ r. ⌜ r ≡ scalar x ⌝ }
@@ -14,13 +15,13 @@ fn scalar(x: u32) -> bool
 fn uses_text(kind: u32) -> bool
     ensures { λ r. ⌜ r ≡ usesText kind ⌝ }
 {
-    (kind == 3) | (kind == 4) | (kind == 5)
+    (kind == token::IDENTIFIER) | (kind == token::VARIABLE) | (kind == token::NUMBER)
 }
 
 fn uses_detail(kind: u32) -> bool
     ensures { λ r. ⌜ r ≡ usesDetail kind ⌝ }
 {
-    (kind == 4) | (kind == 6)
+    (kind == token::VARIABLE) | (kind == token::CHAR)
 }
 
 fn pick(t: bool, a: bool, b: bool) -> bool
@@ -43,7 +44,7 @@ fn good_token(tokens: &[u32], at: usize) -> bool
 {
     let kind = tokens[at];
     let good = good_fields(kind, tokens[at + 1], tokens[at + 2], tokens[at + 3]);
-    (1 <= kind) & (kind <= 16) & good
+    (token::ENTRY <= kind) & (kind <= token::SEMICOLON) & good
 }
 
 fn good_eof(tokens: &[u32], at: usize) -> bool
@@ -52,7 +53,7 @@ fn good_eof(tokens: &[u32], at: usize) -> bool
 {
     let kind = tokens[at];
     let good = good_fields(kind, tokens[at + 1], tokens[at + 2], tokens[at + 3]);
-    (kind == 17) & good
+    (kind == token::EOF) & good
 }
 
 // Whole rows, at most 16,777,217 of them; kinds 1 to 17, Eof exactly once and last; fields as their kinds use them.

@@ -29,17 +29,9 @@ fn name(tokens: &[u32], rows: &mut [u32], at: usize, n: usize) -> Got
     }
     let next = at + 6;
     let row = n + 1;
-    put_node(
-        rows,
-        n,
-        node::NAME,
-        0,
-        text_start(tokens, at),
-        text_len(tokens, at),
-        0,
-        0,
-        row,
-    );
+    let start = text_start(tokens, at);
+    let len = text_len(tokens, at);
+    put_node(rows, n, node::NAME, 0, start, len, 0, 0, row);
     Got::At(next, row)
 }
 
@@ -69,14 +61,9 @@ fn declaration(tokens: &[u32], rows: &mut [u32], at: usize, n: usize) -> Got
         return present(tokens, i, 35, token::SEMICOLON);
     }
     let next = i + 6;
-    put_span(
-        rows,
-        n,
-        node::DECLARATION,
-        span_from(tokens, at),
-        end_before(tokens, next),
-        k,
-    );
+    let from = span_from(tokens, at);
+    let to = end_before(tokens, next);
+    put_span(rows, n, node::DECLARATION, from, to, k);
     Got::At(next, k)
 }
 
@@ -94,17 +81,11 @@ fn function(tokens: &[u32], rows: &mut [u32], at: usize, name: usize, n: usize, 
     let Got::At(j, m) = r else {
         return r;
     };
-    put_node(
-        rows,
-        n,
-        node::FUNCTION,
-        entry,
-        text_start(tokens, name),
-        text_len(tokens, name),
-        span_from(tokens, at),
-        end_before(tokens, j),
-        m,
-    );
+    let start = text_start(tokens, name);
+    let len = text_len(tokens, name);
+    let from = span_from(tokens, at);
+    let to = end_before(tokens, j);
+    put_node(rows, n, node::FUNCTION, entry, start, len, from, to, m);
     Got::At(j, m)
 }
 

@@ -12,6 +12,7 @@ mod nodes;
 mod terms;
 mod tokens;
 
+use answers::Got;
 use refal_ast::Answer;
 use refal_ast::Refusal;
 
@@ -19,12 +20,12 @@ fn refused(number: u32, expected: u32, found: u32, start: u32, end: u32, need: u
     ensures { λ r. ⌜ r ≡ Refused (refusal number expected found start end need) ⌝ }
 {
     Answer::Refused(Refusal {
-        number: number,
-        expected: expected,
-        found: found,
+        number,
+        expected,
+        found,
         start: start as usize,
         end: end as usize,
-        need: need,
+        need,
     })
 }
 
@@ -38,11 +39,11 @@ pub fn parse(tokens: &[u32], rows: &mut [u32]) -> Answer
         return refused(30, 0, 0, 0, 0, 0);
     }
     match items::program(tokens, rows) {
-        answers::Got::No(number, expected, found, start, end) => {
+        Got::No(number, expected, found, start, end) => {
             refal_rows::clear(rows);
             refused(number, expected, found, start, end, 0)
         }
-        answers::Got::At(_, m) => {
+        Got::At(_, m) => {
             let words = 7 * m;
             if words <= rows.len() {
                 return Answer::Done(m);

@@ -9,6 +9,7 @@ use crate::answers::Got;
 use crate::answers::present;
 use crate::answers::taken;
 use crate::nodes::put_node;
+use crate::nodes::put_span;
 use crate::nodes::put_symbol;
 use crate::nodes::put_terms;
 use crate::nodes::put_variable;
@@ -31,18 +32,18 @@ fn variable_of(letter: u32, start: u32, len: u32) -> Term
     match letter {
         115 => Term::Variable {
             kind: VariableKind::Symbol,
-            start: start,
-            len: len,
+            start,
+            len,
         },
         116 => Term::Variable {
             kind: VariableKind::Term,
-            start: start,
-            len: len,
+            start,
+            len,
         },
         101 => Term::Variable {
             kind: VariableKind::Expression,
-            start: start,
-            len: len,
+            start,
+            len,
         },
         _ => Term::UnknownVariable,
     }
@@ -53,18 +54,12 @@ fn term_of(kind: u32, detail: u32, start: u32, len: u32) -> Term
     ensures { λ r. ⌜ r ≡ termOf kind detail start len ⌝ }
 {
     match kind {
-        3 => Term::Symbol(Symbol::Identifier {
-            start: start,
-            len: len,
-        }),
-        5 => Term::Symbol(Symbol::Number {
-            start: start,
-            len: len,
-        }),
-        6 => Term::Symbol(Symbol::Char(detail)),
-        4 => variable_of(detail, start, len),
-        9 => Term::Bracket,
-        11 => Term::Call,
+        token::IDENTIFIER => Term::Symbol(Symbol::Identifier { start, len }),
+        token::NUMBER => Term::Symbol(Symbol::Number { start, len }),
+        token::CHAR => Term::Symbol(Symbol::Char(detail)),
+        token::VARIABLE => variable_of(detail, start, len),
+        token::LPAREN => Term::Bracket,
+        token::LANGLE => Term::Call,
         _ => Term::NoTerm,
     }
 }
@@ -107,20 +102,16 @@ fn terms(tokens: &[u32], rows: &mut [u32], at: usize, n: usize, left: usize) -> 
         let t = term_at(tokens, i);
         match t {
             Term::Symbol(s) => {
-                put_symbol(rows, m, s, span_from(tokens, i), span_to(tokens, i));
+                let from = span_from(tokens, i);
+                let to = span_to(tokens, i);
+                put_symbol(rows, m, s, from, to);
                 i += 6;
                 m += 1;
             }
             Term::Variable { kind, start, len } => {
-                put_variable(
-                    rows,
-                    m,
-                    kind,
-                    start,
-                    len,
-                    span_from(tokens, i),
-                    span_to(tokens, i),
-                );
+                let from = span_from(tokens, i);
+                let to = span_to(tokens, i);
+                put_variable(rows, m, kind, start, len, from, to);
                 i += 6;
                 m += 1;
             }
@@ -177,17 +168,9 @@ fn bracket(tokens: &[u32], rows: &mut [u32], at: usize, n: usize, left: usize) -
     let Got::At(j, m) = r else {
         return r;
     };
-    put_node(
-        rows,
-        n,
-        node::BRACKET,
-        0,
-        0,
-        0,
-        span_from(tokens, at),
-        end_before(tokens, j),
-        m,
-    );
+    let from = span_from(tokens, at);
+    let to = end_before(tokens, j);
+    put_span(rows, n, node::BRACKET, from, to, m);
     Got::At(j, m)
 }
 
@@ -209,17 +192,11 @@ fn call(tokens: &[u32], rows: &mut [u32], at: usize, n: usize, left: usize) -> G
     let Got::At(j, m) = r else {
         return r;
     };
-    put_node(
-        rows,
-        n,
-        node::CALL,
-        0,
-        text_start(tokens, name),
-        text_len(tokens, name),
-        span_from(tokens, at),
-        end_before(tokens, j),
-        m,
-    );
+    let start = text_start(tokens, name);
+    let len = text_len(tokens, name);
+    let from = span_from(tokens, at);
+    let to = end_before(tokens, j);
+    put_node(rows, n, node::CALL, 0, start, len, from, to, m);
     Got::At(j, m)
 }
 

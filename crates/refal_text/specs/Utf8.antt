@@ -53,15 +53,24 @@ code3 a b c = (a - 224) * 4096 + (b - 128) * 64 + (c - 128)
 abbrev pub code4 : ℕ → ℕ → ℕ → ℕ → ℕ
 code4 a b c d = (a - 240) * 262144 + (b - 128) * 4096 + (c - 128) * 64 + (d - 128)
 
--- the table's rows of two bytes (lead byte C2 to DF), three (E0 to EF) and four (F0 to F4)
+-- the table's rows of two bytes (lead byte C2 to DF), three (E0 to EF) and four (F0 to F4), where the lead byte says how many
+abbrev pub well2 : ℕ → ℕ → Bool
+well2 a b = leb 194 a && cont b
+
+abbrev pub well3 : ℕ → ℕ → ℕ → Bool
+well3 a b c = second a b && cont c
+
+abbrev pub well4 : ℕ → ℕ → ℕ → ℕ → Bool
+well4 a b c d = (leb a 244 && second a b) && (cont c && cont d)
+
 abbrev pub two : ℕ → ℕ → Char
-two a b = pick (leb 194 a && cont b) (char (code2 a b) 2) ill
+two a b = pick (well2 a b) (char (code2 a b) 2) ill
 
 abbrev pub three : ℕ → ℕ → ℕ → Char
-three a b c = pick (second a b && cont c) (char (code3 a b c) 3) ill
+three a b c = pick (well3 a b c) (char (code3 a b c) 3) ill
 
 abbrev pub four : ℕ → ℕ → ℕ → ℕ → Char
-four a b c d = pick ((leb a 244 && second a b) && (cont c && cont d)) (char (code4 a b c d) 4) ill
+four a b c d = pick (well4 a b c d) (char (code4 a b c d) 4) ill
 
 abbrev pub byLead : ℕ → ℕ → ℕ → ℕ → ℕ → Char
 byLead n a b c d =

@@ -3,7 +3,7 @@ use Prim.Native.Nat.{ℕ, zero, suc, _+_, _-_, _<_, _≤_}
 use native.Mathlib.Omega.{arith}
 use native.Mathlib.Decide.{decLe}
 use native.Mathlib.Nat.{zero-add, add-zero, suc-add}
-use borrow.Author.Tests.{ltb-false, eqb-true, eq-eqb, ne-eqb}
+use borrow.Author.Tests.{ltb-false, eqb-true, eq-eqb, ne-eqb, le-ltb}
 use mathlib.Core.Bool.{Bool, true, false, _&&_, true≢false}
 use mathlib.Core.List.{List, [], _∷_}
 use mathlib.Core.Path.{_≡_, refl, ap, ap₂, sym, subst, _∙_}
@@ -12,9 +12,9 @@ use lib.Count.{leadingZeros}
 use lib.ListN.{length, drop, getD, List·getD-eq-default, drop-of-length-le, length-drop}
 use lib.Seq.{getD-drop, drop-cons, drop-drop}
 use Rattle.refal_rows.specs.Tests.{each-below, and-right, range-lo, range-hi}
-use Rattle.refal_text.specs.Pick.{split}
+use Rattle.refal_text.specs.Pick.{pick, split}
 use Rattle.refal_text.specs.Span.{span}
-use Rattle.refal_text.specs.Utf8.{char, ill, ascii, cont, leads, second, two, three, four, byLead, charOf, decode, goOn, wellTo}
+use Rattle.refal_text.specs.Utf8.{char, ill, ascii, cont, leads, second, code2, code3, code4, well2, well3, well4, two, three, four, byLead, charOf, decode, goOn, wellTo}
 use Rattle.refal_text.specs.declared.Char.{Char}
 
 -- the character at a place
@@ -202,3 +202,60 @@ module _ (s : List ℕ) (at n : ℕ) (h : at < length s) (e : n ≡ leads (getD 
 -- the character that the code found lies within
 pub step-in : (s : List ℕ) (at : ℕ) (r : Char) → at < length s → r ≡ decode (drop at s) → at + r .len ≤ length s
 step-in s at r h e = subst (λ (x : Char). at + x .len ≤ length s) (sym e) (decode-in s at h)
+
+-- a byte from 128 on begins with some ones
+leads-some : (a : ℕ) → 128 ≤ a → 0 < leads a
+leads-some a h =
+    rw (le-ltb a 128 h) (
+    split P (ltb a 192) _ _ (λ _. omega arith) (λ _.
+    split P (ltb a 224) _ _ (λ _. omega arith) (λ _.
+    split P (ltb a 240) _ _ (λ _. omega arith) (λ _.
+    split P (ltb a 248) _ _ (λ _. omega arith) (λ _.
+    split P (ltb a 252) _ _ (λ _. omega arith) (λ _.
+    split P (ltb a 254) _ _ (λ _. omega arith) (λ _.
+    split P (ltb a 255) _ _ (λ _. omega arith) (λ _.
+    omega arith))))))))
+  where
+    P : ℕ → Type 0
+    P n = 0 < n
+
+-- ---- the ways through `first_ill`: how long the sequence is whose lead byte begins with n ones
+pick-len : (t : Bool) (x n : ℕ) → pick t (char x n) ill .len ≡ pick t n 0
+pick-len true x n = refl
+pick-len false x n = refl
+
+module _ (s : List ℕ) (at n : ℕ) (h : at < length s) (e : n ≡ leads (getD s at 0)) (t : Bool) where
+  pub len-two : n ≡ 2 → well2 (getD s at 0) (getD s (at + 1) 0) ≡ t → decode (drop at s) .len ≡ pick t 2 0
+  len-two z f =
+      ap (λ (c : Char). c .len) (sym (char-two s at n h e (two (getD s at 0) (getD s (at + 1) 0)) (getD s (at + 1) 0) (λ y. absurd (omega arith)) z refl refl))
+      ∙ ap (λ (u : Bool). pick u (char (code2 (getD s at 0) (getD s (at + 1) 0)) 2) ill .len) f
+      ∙ pick-len t (code2 (getD s at 0) (getD s (at + 1) 0)) 2
+
+  pub len-three : n ≡ 3 → well3 (getD s at 0) (getD s (at + 1) 0) (getD s (at + 2) 0) ≡ t → decode (drop at s) .len ≡ pick t 3 0
+  len-three z f =
+      ap (λ (c : Char). c .len)
+      (sym (char-three s at n h e (three (getD s at 0) (getD s (at + 1) 0) (getD s (at + 2) 0)) (getD s (at + 1) 0) (getD s (at + 2) 0) (λ y. absurd (omega arith))
+      (λ y. absurd (omega arith)) z refl refl refl))
+      ∙ ap (λ (u : Bool). pick u (char (code3 (getD s at 0) (getD s (at + 1) 0) (getD s (at + 2) 0)) 3) ill .len) f
+      ∙ pick-len t (code3 (getD s at 0) (getD s (at + 1) 0) (getD s (at + 2) 0)) 3
+
+  pub len-four : n ≡ 4 → well4 (getD s at 0) (getD s (at + 1) 0) (getD s (at + 2) 0) (getD s (at + 3) 0) ≡ t → decode (drop at s) .len ≡ pick t 4 0
+  len-four z f =
+      ap (λ (c : Char). c .len)
+      (sym (char-four s at n h e (four (getD s at 0) (getD s (at + 1) 0) (getD s (at + 2) 0) (getD s (at + 3) 0)) (getD s (at + 1) 0) (getD s (at + 2) 0) (getD s (at + 3) 0)
+      (λ y. absurd (omega arith)) (λ y. absurd (omega arith)) (λ y. absurd (omega arith)) z refl refl refl refl))
+      ∙ ap (λ (u : Bool). pick u (char (code4 (getD s at 0) (getD s (at + 1) 0) (getD s (at + 2) 0) (getD s (at + 3) 0)) 4) ill .len) f
+      ∙ pick-len t (code4 (getD s at 0) (getD s (at + 1) 0) (getD s (at + 2) 0) (getD s (at + 3) 0)) 4
+
+pub len-none : (s : List ℕ) (at n : ℕ) → at < length s → n ≡ leads (getD s at 0) → 128 ≤ getD s at 0 → (n ≡ 2 → ⊥) → (n ≡ 3 → ⊥) → (n ≡ 4 → ⊥) → decode (drop at s) .len ≡ 0
+len-none s at n h e l n2 n3 n4 = ap (λ (c : Char). c .len) (sym (char-none s at n h e zero-not n2 n3 n4))
+  where
+    some : (a : ℕ) → 128 ≤ a → leads a ≡ 0 → ⊥
+    some a m z = let k = leads-some a m in omega arith
+
+    zero-not : n ≡ 0 → ⊥
+    zero-not z = some (getD s at 0) l (sym e ∙ z)
+
+-- a sequence of the length that the code found lies within, and is passed
+pub well-pass : (s : List ℕ) (i n : ℕ) → i < length s → decode (drop i s) .len ≡ suc n → i + suc n ≤ length s
+well-pass s i n h e = let d = decode-in s i h in omega arith

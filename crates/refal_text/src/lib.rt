@@ -2,7 +2,7 @@
 ghost use mathlib.Core.Path.{_≡_};
 ghost use Prim.Native.Nat.{_+_, _≤_, _<_};
 ghost use lib.ListN.{length, drop, getD};
-ghost use Rattle.refal_text.specs.Utf8.{leads, second, two, three, four, decode, wellTo, ascii};
+ghost use Rattle.refal_text.specs.Utf8.{leads, second, well2, well3, well4, two, three, four, decode, wellTo, ascii};
 ghost use Rattle.refal_text.specs.White.{whiteSpace};
 ghost use Rattle.refal_text.specs.Span.{span};
 
@@ -26,7 +26,7 @@ pub fn wide(b: u8) -> u32
 }
 
 // How many one bits a lead byte begins with.
-fn lead(a: u8) -> u32
+pub fn lead(a: u8) -> u32
     ensures { λ r. ⌜ r ≡ leads a ⌝ }
 {
     u8::leading_zeros(!a)
@@ -51,11 +51,34 @@ fn is_second(a: u8, b: u8) -> bool
     (128 <= b) & (b <= 191)
 }
 
+// Whether a and b are a sequence of two bytes.
+pub fn is_two(a: u8, b: u8) -> bool
+    ensures { λ r. ⌜ r ≡ well2 a b ⌝ }
+{
+    (194 <= a) & ((128 <= b) & (b <= 191))
+}
+
+// Whether a, b and c are a sequence of three bytes, where a leads one.
+pub fn is_three(a: u8, b: u8, c: u8) -> bool
+    ensures { λ r. ⌜ r ≡ well3 a b c ⌝ }
+{
+    let s = is_second(a, b);
+    s & ((128 <= c) & (c <= 191))
+}
+
+// Whether a, b, c and d are a sequence of four bytes, where a leads one or none.
+pub fn is_four(a: u8, b: u8, c: u8, d: u8) -> bool
+    ensures { λ r. ⌜ r ≡ well4 a b c d ⌝ }
+{
+    let s = is_second(a, b);
+    ((a <= 244) & s) & (((128 <= c) & (c <= 191)) & ((128 <= d) & (d <= 191)))
+}
+
 fn two_at(a: u8, b: u8) -> Char
     requires { ⌜ 192 ≤ a ⌝ }
     ensures { λ r. ⌜ r ≡ two a b ⌝ }
 {
-    let well = (194 <= a) & ((128 <= b) & (b <= 191));
+    let well = is_two(a, b);
     if well {
         let x = ((a as u32) - 192) * 64 + ((b as u32) - 128);
         return Char { code: x, len: 2 };
@@ -67,8 +90,7 @@ fn three_at(a: u8, b: u8, c: u8) -> Char
     requires { ⌜ 224 ≤ a ⌝ }
     ensures { λ r. ⌜ r ≡ three a b c ⌝ }
 {
-    let s = is_second(a, b);
-    let well = s & ((128 <= c) & (c <= 191));
+    let well = is_three(a, b, c);
     if well {
         let x = ((a as u32) - 224) * 4096 + ((b as u32) - 128) * 64 + ((c as u32) - 128);
         return Char { code: x, len: 3 };
@@ -80,8 +102,7 @@ fn four_at(a: u8, b: u8, c: u8, d: u8) -> Char
     requires { ⌜ 240 ≤ a ⌝ }
     ensures { λ r. ⌜ r ≡ four a b c d ⌝ }
 {
-    let s = is_second(a, b);
-    let well = ((a <= 244) & s) & (((128 <= c) & (c <= 191)) & ((128 <= d) & (d <= 191)));
+    let well = is_four(a, b, c, d);
     if well {
         let x = ((a as u32) - 240) * 262144
             + ((b as u32) - 128) * 4096
@@ -145,19 +166,66 @@ fn ascii_end(src: &[u8], at: usize) -> usize
     i
 }
 
+// Whether the bytes at `at` are a sequence of two, of three, of four.
+fn two_in(src: &[u8], at: usize) -> bool
+    requires { ⌜ at < length (now src) ⌝ }
+    ensures { λ r. ⌜ r ≡ well2 (getD (now (src .entry)) at 0) (getD (now (src .entry)) (at + 1) 0) ⌝ }
+{
+    is_two(src[at], byte(src, at + 1))
+}
+
+fn three_in(src: &[u8], at: usize) -> bool
+    requires { ⌜ at < length (now src) ⌝ }
+    ensures { λ r. ⌜ r ≡ well3 (getD (now (src .entry)) at 0) (getD (now (src .entry)) (at + 1) 0) (getD (now (src .entry)) (at + 2) 0) ⌝ }
+{
+    is_three(src[at], byte(src, at + 1), byte(src, at + 2))
+}
+
+fn four_in(src: &[u8], at: usize) -> bool
+    requires { ⌜ at < length (now src) ⌝ }
+    ensures { λ r. ⌜ r ≡ well4 (getD (now (src .entry)) at 0) (getD (now (src .entry)) (at + 1) 0) (getD (now (src .entry)) (at + 2) 0) (getD (now (src .entry)) (at + 3) 0) ⌝ }
+{
+    is_four(
+        src[at],
+        byte(src, at + 1),
+        byte(src, at + 2),
+        byte(src, at + 3),
+    )
+}
+
 // Where the first ill-formed sequence stands, or the end.
 pub fn first_ill(src: &[u8]) -> usize
     ensures { λ r. ⌜ (r ≡ wellTo 0 (now (src .entry))) × (r ≤ length (now (src .entry))) ⌝ }
 {
     let mut at = 0;
     while at < src.len() {
-        let c = char_at(src, at);
-        let n = c.len;
-        if n == 0 {
-            return at;
+        let a = src[at];
+        if a < 128 {
+            at = ascii_end(src, at);
+        } else {
+            let n = lead(a);
+            match n {
+                2 => {
+                    if !two_in(src, at) {
+                        return at;
+                    }
+                    at += 2;
+                }
+                3 => {
+                    if !three_in(src, at) {
+                        return at;
+                    }
+                    at += 3;
+                }
+                4 => {
+                    if !four_in(src, at) {
+                        return at;
+                    }
+                    at += 4;
+                }
+                _ => return at,
+            }
         }
-        let next = at + n;
-        at = ascii_end(src, next);
     }
     at
 }

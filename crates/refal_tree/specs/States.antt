@@ -60,6 +60,11 @@ pick false x y = y
 abbrev pub on : ℕ → ℕ → ℕ → ℕ → ℕ
 on k n x y = pick (eqb k n) x y
 
+-- the kinds of terms
+abbrev pub termKind : ℕ → Bool
+termKind k =
+    ((((eqb k nodeIdentifier || eqb k nodeNumber) || eqb k nodeChar) || eqb k nodeVariable) || eqb k nodeBracket) || eqb k nodeCall
+
 -- the state after a child of the kind k
 abbrev pub after : ℕ → ℕ → ℕ
 after st k =
@@ -71,8 +76,7 @@ after st k =
     (on st atConditions (on k nodeCondition atConditions (on k nodeTerms closed (on k nodeEndingBlock closed wrong)))
     (on st atCondition (on k nodeTerms atColon wrong)
     (on st atColon (on k nodeTerms closed (on k nodeConditionBlock closed wrong))
-    (on st atTerms
-    (on k nodeIdentifier atTerms (on k nodeNumber atTerms (on k nodeChar atTerms (on k nodeVariable atTerms (on k nodeBracket atTerms (on k nodeCall atTerms wrong))))))
+    (on st atTerms (pick (termKind k) atTerms wrong)
     (on st atArgument (on k nodeTerms atSentences wrong) wrong)))))))))
 
 -- the state before the first child of a node of the kind k

@@ -65,6 +65,19 @@ on-cases {A} k n x y h f g = go (eqb k n) refl h
     go true e h = f (eqb-true k n e)
     go false e h = g h
 
+-- the kinds of terms, one by one
+term-on : (k : ℕ) → not (eqb (on k 9 atTerms (on k 10 atTerms (on k 11 atTerms (on k 12 atTerms (on k 13 atTerms (on k 14 atTerms wrong)))))) wrong) ≡ fits atTerms k
+term-on k = go (eqb k 9) (eqb k 10) (eqb k 11) (eqb k 12) (eqb k 13) (eqb k 14)
+  where
+    go : (a b c d e f : Bool) → not (eqb (pick a 9 (pick b 9 (pick c 9 (pick d 9 (pick e 9 (pick f 9 0)))))) 0) ≡ not (eqb (pick (((((a || b) || c) || d) || e) || f) 9 0) 0)
+    go true b c d e f = refl
+    go false true c d e f = refl
+    go false false true d e f = refl
+    go false false false true e f = refl
+    go false false false false true f = refl
+    go false false false false false true = refl
+    go false false false false false false = refl
+
 letter-is : (d : ℕ) → letter d ≡ true → (v : VariableKind) × (d ≡ letterOf v)
 letter-is d h = go (eqb d 115) (eqb d 116) (eqb d 101) refl refl refl h
   where
@@ -220,7 +233,7 @@ module _ {left : ℕ} {r : Row} where
       let c12 : ℕ = on k 12 atTerms c13 in
       let c11 : ℕ = on k 11 atTerms c12 in
       let c10 : ℕ = on k 10 atTerms c11 in
-      on-cases k 9 atTerms c10 (p .fit)
+      on-cases k 9 atTerms c10 (term-on k ∙ p .fit)
       (λ e. subst TermRow (sym (texted-is r 9 e (at r (p .good) 9 e))) (isLeaf (symbol (Identifier (r .start) (r .len))) (r .from) (r .to)))
       (λ h. on-cases k 10 atTerms c11 h
       (λ e. subst TermRow (sym (texted-is r 10 e (at r (p .good) 10 e))) (isLeaf (symbol (Number (r .start) (r .len))) (r .from) (r .to)))

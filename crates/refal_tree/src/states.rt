@@ -2,7 +2,7 @@
 // 3 names, 4 sentences, 5 a pattern, 6 conditions and what ends a sentence, 7 a condition's first terms, 8 what follows
 // them, 9 terms, 10 an ending block's argument, 11 nothing more.
 ghost use mathlib.Core.Path.{_≡_};
-ghost use Rattle.refal_tree.specs.States.{after as nextState, inside as firstState, ends as mayEnd, fits as mayStand, counts as isLevel, room as hasRoom};
+ghost use Rattle.refal_tree.specs.States.{on, termKind, after as nextState, inside as firstState, ends as mayEnd, fits as mayStand, counts as isLevel, room as hasRoom};
 
 pub const WRONG: u32 = 0;
 
@@ -10,227 +10,134 @@ pub const ITEMS: u32 = 1;
 
 pub const CLOSED: u32 = 11;
 
-// The states after a child: 16 kinds for each of the 12 states.
-const AFTER: [u32; 192] = [
-    0,
-    0,
-    0,
-    0,
-    0,
-    0,
-    0,
-    0,
-    0,
-    0,
-    0,
-    0,
-    0,
-    0,
-    0,
-    0,
-    0,
-    1,
-    0,
-    1,
-    0,
-    0,
-    0,
-    0,
-    0,
-    0,
-    0,
-    0,
-    0,
-    0,
-    0,
-    0,
-    0,
-    0,
-    3,
-    0,
-    0,
-    0,
-    0,
-    0,
-    0,
-    0,
-    0,
-    0,
-    0,
-    0,
-    0,
-    0,
-    0,
-    0,
-    3,
-    0,
-    0,
-    0,
-    0,
-    0,
-    0,
-    0,
-    0,
-    0,
-    0,
-    0,
-    0,
-    0,
-    0,
-    0,
-    0,
-    0,
-    4,
-    0,
-    0,
-    0,
-    0,
-    0,
-    0,
-    0,
-    0,
-    0,
-    0,
-    0,
-    0,
-    0,
-    0,
-    0,
-    0,
-    0,
-    6,
-    0,
-    0,
-    0,
-    0,
-    0,
-    0,
-    0,
-    0,
-    0,
-    0,
-    0,
-    0,
-    0,
-    0,
-    6,
-    11,
-    11,
-    0,
-    0,
-    0,
-    0,
-    0,
-    0,
-    0,
-    0,
-    0,
-    0,
-    0,
-    0,
-    0,
-    0,
-    8,
-    0,
-    0,
-    0,
-    0,
-    0,
-    0,
-    0,
-    0,
-    0,
-    0,
-    0,
-    0,
-    0,
-    0,
-    0,
-    11,
-    0,
-    11,
-    0,
-    0,
-    0,
-    0,
-    0,
-    0,
-    0,
-    0,
-    0,
-    0,
-    0,
-    0,
-    0,
-    0,
-    0,
-    0,
-    9,
-    9,
-    9,
-    9,
-    9,
-    9,
-    0,
-    0,
-    0,
-    0,
-    0,
-    0,
-    0,
-    4,
-    0,
-    0,
-    0,
-    0,
-    0,
-    0,
-    0,
-    0,
-    0,
-    0,
-    0,
-    0,
-    0,
-    0,
-    0,
-    0,
-    0,
-    0,
-    0,
-    0,
-    0,
-    0,
-    0,
-    0,
-    0,
-];
+// x where k is n, else no state.
+fn only(k: u32, n: u32, x: u32) -> u32
+    ensures { λ r. ⌜ r ≡ on k n x 0 ⌝ }
+{
+    if k == n {
+        return x;
+    }
+    WRONG
+}
 
-// The states before a first child, for 16 kinds.
-const INSIDE: [u32; 16] = [11, 2, 11, 4, 5, 7, 9, 10, 4, 11, 11, 11, 11, 9, 9, 11];
+fn is_term(k: u32) -> bool
+    ensures { λ r. ⌜ r ≡ termKind k ⌝ }
+{
+    (((((k == 9) | (k == 10)) | (k == 11)) | (k == 12)) | (k == 13)) | (k == 14)
+}
+
+// After a term.
+fn after_term(k: u32) -> u32
+    ensures { λ r. ⌜ r ≡ nextState 9 k ⌝ }
+{
+    if is_term(k) {
+        return 9;
+    }
+    WRONG
+}
+
+// After an item.
+fn after_item(k: u32) -> u32
+    ensures { λ r. ⌜ r ≡ nextState 1 k ⌝ }
+{
+    if k == 1 {
+        return 1;
+    }
+    only(k, 3, 1)
+}
+
+// After a condition, or what ends a sentence.
+fn after_condition(k: u32) -> u32
+    ensures { λ r. ⌜ r ≡ nextState 6 k ⌝ }
+{
+    if k == 5 {
+        return 6;
+    }
+    if k == 6 {
+        return CLOSED;
+    }
+    only(k, 7, CLOSED)
+}
+
+// After what follows a condition's first terms.
+fn after_colon(k: u32) -> u32
+    ensures { λ r. ⌜ r ≡ nextState 8 k ⌝ }
+{
+    if k == 6 {
+        return CLOSED;
+    }
+    only(k, 8, CLOSED)
+}
 
 // The state after a child of the kind k.
 pub fn after(st: u32, k: u32) -> u32
     ensures { λ r. ⌜ r ≡ nextState st k ⌝ }
 {
-    if st >= 12 {
-        return WRONG;
+    if st == 9 {
+        return after_term(k);
     }
-    if k >= 16 {
-        return WRONG;
+    if st == 6 {
+        return after_condition(k);
     }
-    let at = 16 * st + k;
-    AFTER[at as usize]
+    if st == 4 {
+        return only(k, 4, 4);
+    }
+    if st == 5 {
+        return only(k, 6, 6);
+    }
+    if st == 7 {
+        return only(k, 6, 8);
+    }
+    if st == 8 {
+        return after_colon(k);
+    }
+    if st == 1 {
+        return after_item(k);
+    }
+    if st == 10 {
+        return only(k, 6, 4);
+    }
+    if st == 2 {
+        return only(k, 2, 3);
+    }
+    if st == 3 {
+        return only(k, 2, 3);
+    }
+    WRONG
 }
 
 // The state before the first child of a node of the kind k.
 pub fn inside(k: u32) -> u32
     ensures { λ r. ⌜ r ≡ firstState k ⌝ }
 {
-    if k >= 16 {
-        return CLOSED;
+    if k == 1 {
+        return 2;
     }
-    INSIDE[k as usize]
+    if k == 3 {
+        return 4;
+    }
+    if k == 4 {
+        return 5;
+    }
+    if k == 5 {
+        return 7;
+    }
+    if k == 6 {
+        return 9;
+    }
+    if k == 7 {
+        return 10;
+    }
+    if k == 8 {
+        return 4;
+    }
+    if k == 13 {
+        return 9;
+    }
+    if k == 14 {
+        return 9;
+    }
+    CLOSED
 }
 
 // Whether a node's children may end here.

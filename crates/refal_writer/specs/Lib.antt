@@ -1,5 +1,6 @@
 -- Definitions: Spellings (the test for refusal 41), Write (what `write` answers and leaves).
 -- Laws of writers of bytes: Puts. Of tokens: Token, TextPuts. Of the walk over rows: Walk. Of words and rows: WordLaws, SpellingLaws. Of `write`: WriteLaws.
+pub mod Kinds
 pub mod Spellings
 pub mod Write
 pub mod Puts

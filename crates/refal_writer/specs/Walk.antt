@@ -13,7 +13,7 @@ use Rattle.refal_ast.specs.Flatten.{Flat}
 use Rattle.refal_tree.specs.Forest.{Row}
 use Rattle.refal_tree.specs.States.{wrong, pick, inside, after, below, fits, room}
 use Rattle.refal_tree.specs.Rules.{letter, fieldsOk, rowOk}
-use Rattle.refal_tree.specs.Tables.{after-high-kind}
+use Rattle.refal_writer.specs.Kinds.{after-high-kind}
 use Rattle.refal_tree.specs.Ranges.{rowAt, kindAt, nextAt, okAt}
 use Rattle.refal_tree.specs.FlattenRows.{opening, closing}
 use Rattle.refal_tree.specs.Walk.{flatAt, Step, step, flat-step, flat-end}

@@ -46,12 +46,28 @@ fn put_byte(byte: u8) {
     io::print_hex(STDOUT_FILENO, byte as u64, 2);
 }
 
+fn put_word(word: u32) {
+    io::print_hex(STDOUT_FILENO, word as u64, 1);
+    io::write_all(STDOUT_FILENO, &[b' ']);
+}
+
 // All bytes, two digits each, and a newline.
 fn put_bytes(bytes: &[u8]) {
     let n = bytes.len();
     let mut i = 0;
     while i < n {
         put_byte(bytes[i]);
+        i += 1;
+    }
+    io::write_all(STDOUT_FILENO, &[b'\n']);
+}
+
+// All words, each and a space, and a newline.
+fn put_words(words: &[u32]) {
+    let n = words.len();
+    let mut i = 0;
+    while i < n {
+        put_word(words[i]);
         i += 1;
     }
     io::write_all(STDOUT_FILENO, &[b'\n']);
@@ -83,7 +99,52 @@ fn equal(input: &[u8], at: usize) {
     }
 }
 
-// The call that the letter stands for, with as much of the space as is to be lent.
+fn read(input: &[u8], rows: &mut [u32]) {
+    let mut answer = [0u64; 7];
+    refal5::refal5_read(input, rows, &mut answer);
+    put_answer(&answer);
+    put_words(rows);
+}
+
+// Parses the first n words of the tokens' rows.
+fn parse_first(tokens: &[u32], n: usize, rows: &mut [u32]) {
+    if n > tokens.len() {
+        return;
+    }
+    let mut answer = [0u64; 7];
+    refal5::refal5_parse(&tokens[..n], rows, &mut answer);
+    put_answer(&answer);
+    put_words(rows);
+}
+
+// Reads with room for every token, then parses.
+fn parse(input: &[u8], rows: &mut [u32]) {
+    let mut tokens = [0u32; 354];
+    let mut answer = [0u64; 7];
+    refal5::refal5_read(input, &mut tokens, &mut answer);
+    let count = answer[1];
+    if count > 59 {
+        return;
+    }
+    let n = (count as usize) * 6;
+    parse_first(&tokens, n, rows);
+}
+
+// The call on rows that the letter stands for, with as much of the space as is to be lent.
+fn call_rows(letter: u8, input: &[u8], space: &mut [u32], lent: usize) {
+    if lent > space.len() {
+        return;
+    }
+    if letter == b'r' {
+        read(input, &mut space[..lent]);
+        return;
+    }
+    if letter == b'p' {
+        parse(input, &mut space[..lent]);
+    }
+}
+
+// The call on names that the letter stands for, with as much of the space as is to be lent.
 fn call(letter: u8, input: &[u8], space: &mut [u8], lent: usize) {
     if lent > space.len() {
         return;
@@ -115,6 +176,8 @@ fn record() -> bool {
     let end = length + 5;
     let mut space = [165u8; 99];
     call(line[0], &line[5..end], &mut space, lent);
+    let mut rows = [2779096485u32; 99];
+    call_rows(line[0], &line[5..end], &mut rows, lent);
     true
 }
 

@@ -70,7 +70,8 @@ fn put_around(cases: &mut Vec<Case>, tokens: Vec<u32>) {
     }
 }
 
-fn texts() -> Vec<&'static str> {
+/// Sources for every rule of parsing.
+pub fn texts() -> Vec<&'static str> {
     vec![
         "",
         ";",

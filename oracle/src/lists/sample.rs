@@ -1,7 +1,8 @@
 //! A sample of the lists as the program crates/vectors takes and writes it.
 
-use super::LISTS;
+use super::{LISTS, parsing};
 use crate::cases::{Case, Outcome, Reference, run};
+use crate::reference::{parse, read};
 
 /// Bytes of a record.
 const RECORD: usize = 64;
@@ -14,28 +15,55 @@ const MOST_LENT: usize = 99;
 pub fn sample() -> (Vec<u8>, String) {
     let mut input = Vec::new();
     let mut output = String::new();
-    for list in &LISTS {
-        let lines = (list.cases)()
-            .iter()
-            .filter_map(|case| Some((record(case)?, expected(case)?)))
-            .collect::<Vec<_>>();
+    let mut put = |lines: Vec<(Vec<u8>, String)>| {
         let step = (lines.len() / 100).max(1);
         for (record, expected) in lines.iter().step_by(step) {
             input.extend(record);
             output.push_str(expected);
         }
+    };
+    for list in &LISTS {
+        let cases = (list.cases)();
+        put(cases
+            .iter()
+            .filter_map(|case| Some((record(case)?, expected(case))))
+            .collect());
     }
+    put(parsed());
     (input, output)
 }
 
-/// The case as a record, if it is of a function that the program calls and is short enough.
+/// Sources that are read and then parsed, since a record has no room for tokens' rows.
+fn parsed() -> Vec<(Vec<u8>, String)> {
+    let mut lines = Vec::new();
+    for src in parsing::texts() {
+        let Ok(tokens) = read::tokens(src.as_bytes()) else {
+            continue;
+        };
+        let tokens = tokens.concat();
+        let exact = parse::tree(&tokens).map_or(7, |rows| 7 * rows.len());
+        for lent in [exact, exact + 1, exact.saturating_sub(1)] {
+            let tokens = tokens.clone();
+            if let Some(record) = line(b'p', src.as_bytes(), lent) {
+                lines.push((record, expected(&Case::Parse { tokens, lent })));
+            }
+        }
+    }
+    lines
+}
+
+/// The case as a record, if its input is bytes and it is short enough.
 fn record(case: &Case) -> Option<Vec<u8>> {
-    let (letter, bytes, lent) = match case {
-        Case::Name { name, lent } => (b'n', name.clone(), *lent),
-        Case::Index { name, lent } => (b'i', name.clone(), *lent),
-        Case::Equal { a, b } => (b'e', [&a[..], b].concat(), a.len()),
-        _ => return None,
-    };
+    match case {
+        Case::Name { name, lent } => line(b'n', name, *lent),
+        Case::Index { name, lent } => line(b'i', name, *lent),
+        Case::Equal { a, b } => line(b'e', &[&a[..], b].concat(), a.len()),
+        Case::Read { src, lent } => line(b'r', src, *lent),
+        Case::Parse { .. } | Case::Write { .. } => None,
+    }
+}
+
+fn line(letter: u8, bytes: &[u8], lent: usize) -> Option<Vec<u8>> {
     if bytes.len() + AROUND > RECORD || lent > MOST_LENT {
         return None;
     }
@@ -48,12 +76,12 @@ fn record(case: &Case) -> Option<Vec<u8>> {
 }
 
 /// What the program writes for the case.
-fn expected(case: &Case) -> Option<String> {
+fn expected(case: &Case) -> String {
     let text = |answer: &[u64; 7], out: String| {
         let words: String = answer.iter().map(|word| format!("{word} ")).collect();
         format!("{words}{out}\n")
     };
-    Some(match run(case, &Reference) {
+    match run(case, &Reference) {
         Outcome::Truth(truth) => format!("{}\n", u8::from(truth)),
         Outcome::Bytes(answer, out) => text(
             &answer,
@@ -63,5 +91,5 @@ fn expected(case: &Case) -> Option<String> {
             &answer,
             out.iter().map(|word| format!("{word:x} ")).collect(),
         ),
-    })
+    }
 }

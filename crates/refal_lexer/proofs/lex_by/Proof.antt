@@ -15,7 +15,7 @@ use Rattle.refal_lexer.proofs.lex_by.Tie as tie
 use Rattle.refal_lexer.proofs.lex_by.Reads as reads
 use Rattle.refal_lexer.proofs.lex_by.Lts as lts
 use Rattle.refal_lexer.proofs.blank.skip_ascii.Reads as skip-ascii-reads
-use Rattle.refal_lexer.proofs.blank.skip_white.Reads as skip-white-reads
+use Rattle.refal_lexer.proofs.blank.skip_blank.Reads as skip-blank-reads
 use Rattle.refal_lexer.proofs.dispatch.scan_at.Reads as scan-at-reads
 use Rattle.refal_lexer.proofs.literal.put_chars.Reads as put-chars-reads
 use Rattle.refal_lexer.proofs.refused.Reads as refused-reads
@@ -40,8 +40,8 @@ enum-known-s : tie.Need-enum-known-s Inv-loop μ-loop
 enum-known-s c = search needs
 
 -- src/lib.rt:72:21
-skip-white-requires : tie.Need-skip-white-requires Inv-loop μ-loop
-skip-white-requires c κs = let w = in-is _ _ _ _ (c .before .s .given .1) (c .before .before .before .scan-at .ensures .1) in w .1
+skip-blank-requires : tie.Need-skip-blank-requires Inv-loop μ-loop
+skip-blank-requires c κs = let w = in-is _ _ _ _ (c .before .s .given .1) (c .before .before .before .scan-at .ensures .1) in w .1
 
 -- src/lib.rt:68:5
 loop-less : tie.Need-loop-less Inv-loop μ-loop
@@ -50,7 +50,7 @@ loop-less c = let w = in-is _ _ _ _ (c .before .before .s .given .1) (c .before 
 -- src/lib.rt:68:5
 loop-again : tie.Need-loop-again Inv-loop μ-loop
 loop-again c = let w = in-is _ _ _ _ (c .before .before .s .given .1) (c .before .before .before .before .scan-at .ensures .1) in
-    (c .skip-white .ensures .2, omega arith, c .before .before .before .before .before .before .loop .inv .2, leads-on _ _ _ _ _ _ (lex-blank _ _ _ (c .before .before .before .before .before .loop-test .taken) _ _ (sym (c .before .before .before .before .scan-at .ensures .0) ∙ c .before .before .s .given .1) (w .0) (w .1) ∙ sym (c .skip-white .ensures .0)) (c .before .before .before .before .before .before .loop .inv .3))
+    (c .skip-blank .ensures .2, omega arith, c .before .before .before .before .before .before .loop .inv .2, leads-on _ _ _ _ _ _ (lex-blank _ _ _ (c .before .before .before .before .before .loop-test .taken) _ _ (sym (c .before .before .before .before .scan-at .ensures .0) ∙ c .before .before .s .given .1) (w .0) (w .1) ∙ sym (c .skip-blank .ensures .0)) (c .before .before .before .before .before .before .loop .inv .3))
 
 -- src/lib.rt:77:17
 enum-known-s-2 : tie.Need-enum-known-s-2 Inv-loop μ-loop
@@ -177,7 +177,7 @@ lex-by-spec =
     loop-holds
     scan-at-requires
     enum-known-s
-    skip-white-requires
+    skip-blank-requires
     loop-less
     loop-again
     enum-known-s-2

@@ -1,6 +1,5 @@
 -- `refal_text::three_at` meets its contract: a sequence of three bytes.
-use mathlib.Core.Path.{_≡_}
-use mathlib.Core.Bool.{true, _&&_}
+use mathlib.Core.Path.{sym, _∙_}
 use Rattle.refal_text.specs.Utf8.{cont, second}
 use Rattle.refal_text.specs.Utf8Laws.{second-is}
 use Rattle.refal_rows.specs.Tests.{and-left, and-right, range-lo}
@@ -9,53 +8,53 @@ use Rattle.refal_text.proofs.three_at.Statement.{statement}
 use Rattle.refal_text.proofs.three_at.Tie as tie
 use Rattle.refal_text.proofs.three_at.Reads as reads
 use Rattle.refal_text.proofs.three_at.Lts as lts
-use Rattle.refal_text.proofs.is_second.Reads as is-second-reads
+use Rattle.refal_text.proofs.is_three.Reads as is-three-reads
 
--- src/lib.rt:70:9
-is-second-requires : tie.Need-is-second-requires
-is-second-requires c κs = search needs
+-- src/lib.rt:93:9
+is-three-requires : tie.Need-is-three-requires
+is-three-requires c κs = search needs
 
--- src/lib.rt:73:18
+-- src/lib.rt:95:18
 sub-x : tie.Need-sub-x
 sub-x c = search needs
 
--- src/lib.rt:73:17
+-- src/lib.rt:95:17
 mul-x : tie.Need-mul-x
 mul-x c = search needs
 
--- src/lib.rt:73:46
+-- src/lib.rt:95:46
 sub-x-2 : tie.Need-sub-x-2
-sub-x-2 c = let a = c .before .before .args in let t : second (a .a) (a .b) && cont (a .c) ≡ true = rw (← c .before .is-second .ensures) (c .if1 .taken) in second-is (a .a) (a .b) (and-left (second (a .a) (a .b)) (cont (a .c)) t) .lo
+sub-x-2 c = let a = c .before .before .args in second-is (a .a) (a .b) (and-left (second (a .a) (a .b)) (cont (a .c)) (sym (c .before .is-three .ensures) ∙ c .if1 .taken)) .lo
 
--- src/lib.rt:73:45
+-- src/lib.rt:95:45
 mul-x-2 : tie.Need-mul-x-2
 mul-x-2 c = search needs
 
--- src/lib.rt:73:17
+-- src/lib.rt:95:17
 add-x : tie.Need-add-x
 add-x c = search needs
 
--- src/lib.rt:73:72
+-- src/lib.rt:95:72
 sub-x-3 : tie.Need-sub-x-3
-sub-x-3 c = let a = c .before .before .args in let t : second (a .a) (a .b) && cont (a .c) ≡ true = rw (← c .before .is-second .ensures) (c .if1 .taken) in range-lo 128 (a .c) 191 (and-right (second (a .a) (a .b)) (cont (a .c)) t)
+sub-x-3 c = let a = c .before .before .args in range-lo 128 (a .c) 191 (and-right (second (a .a) (a .b)) (cont (a .c)) (sym (c .before .is-three .ensures) ∙ c .if1 .taken))
 
--- src/lib.rt:73:17
+-- src/lib.rt:95:17
 add-x-2 : tie.Need-add-x-2
 add-x-2 c = search needs
 
--- src/lib.rt:74:9
+-- src/lib.rt:96:9
 returns : tie.Need-returns
-returns c = simp (← c .before .is-second .ensures, c .if1 .taken)
+returns c = simp (← c .before .is-three .ensures, c .if1 .taken)
 
--- src/lib.rt:66:1
+-- src/lib.rt:89:1
 returns-2 : tie.Need-returns-2
-returns-2 c = simp (← c .before .is-second .ensures, c .if1 .left)
+returns-2 c = simp (← c .before .is-three .ensures, c .if1 .left)
 
 pub three-at-spec : {M : Type 1} → statement M
 three-at-spec =
     tie.close
     (tie.spec
-    is-second-requires
+    is-three-requires
     sub-x
     mul-x
     sub-x-2

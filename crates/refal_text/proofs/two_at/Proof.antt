@@ -1,5 +1,6 @@
 -- `refal_text::two_at` meets its contract: a sequence of two bytes.
 use lib.Dec.{leb}
+use mathlib.Core.Path.{sym, _∙_}
 use Rattle.refal_text.specs.Utf8.{cont}
 use Rattle.refal_rows.specs.Tests.{and-right, range-lo}
 use borrow.Author.Needs.{needs}
@@ -7,30 +8,35 @@ use Rattle.refal_text.proofs.two_at.Statement.{statement}
 use Rattle.refal_text.proofs.two_at.Tie as tie
 use Rattle.refal_text.proofs.two_at.Reads as reads
 use Rattle.refal_text.proofs.two_at.Lts as lts
+use Rattle.refal_text.proofs.is_two.Reads as is-two-reads
 
--- src/lib.rt:60:18
+-- src/lib.rt:81:9
+is-two-requires : tie.Need-is-two-requires
+is-two-requires c κs = search needs
+
+-- src/lib.rt:83:18
 sub-x : tie.Need-sub-x
 sub-x c = search needs
 
--- src/lib.rt:60:17
+-- src/lib.rt:83:17
 mul-x : tie.Need-mul-x
 mul-x c = search needs
 
--- src/lib.rt:60:44
+-- src/lib.rt:83:44
 sub-x-2 : tie.Need-sub-x-2
-sub-x-2 c = let a = c .before .args in range-lo 128 (a .b) 191 (and-right (leb 194 (a .a)) (cont (a .b)) (c .if1 .taken))
+sub-x-2 c = let a = c .before .before .args in range-lo 128 (a .b) 191 (and-right (leb 194 (a .a)) (cont (a .b)) (sym (c .before .is-two .ensures) ∙ c .if1 .taken))
 
--- src/lib.rt:60:17
+-- src/lib.rt:83:17
 add-x : tie.Need-add-x
 add-x c = search needs
 
--- src/lib.rt:61:9
+-- src/lib.rt:84:9
 returns : tie.Need-returns
-returns c = simp (c .if1 .taken)
+returns c = simp (← c .before .is-two .ensures, c .if1 .taken)
 
--- src/lib.rt:54:1
+-- src/lib.rt:77:1
 returns-2 : tie.Need-returns-2
-returns-2 c = simp (c .if1 .left)
+returns-2 c = simp (← c .before .is-two .ensures, c .if1 .left)
 
 pub two-at-spec : {M : Type 1} → statement M
-two-at-spec = tie.close (tie.spec sub-x mul-x sub-x-2 add-x returns returns-2)
+two-at-spec = tie.close (tie.spec is-two-requires sub-x mul-x sub-x-2 add-x returns returns-2)

@@ -6,7 +6,7 @@ use native.Mathlib.Omega.{arith}
 use borrow.Author.Needs.{needs}
 use borrow.Author.Tests.{not-true, not-false}
 use Rattle.refal_tree.specs.Ranges.{okAt, ok-bad, ok-end, stop-row, stop-kids, go-on, kids-are}
-use Rattle.refal_tree.specs.Tables.{below-le}
+use Rattle.refal_tree.specs.Levels.{below-le}
 use Prim.Native.Nat.{ℕ, _<_}
 use borrow.Fn.Kinds.{In}
 use borrow.Fn.PlainCycle.{Measures, is, falls, and}

@@ -1,5 +1,5 @@
 -- `refal_tree::lower` meets its contract.
-use Rattle.refal_tree.specs.Tables.{lower-is}
+use Rattle.refal_tree.specs.Levels.{lower-is}
 use borrow.Author.Needs.{needs}
 use Rattle.refal_tree.proofs.lower.Statement.{statement}
 use Rattle.refal_tree.proofs.lower.Tie as tie

@@ -9,7 +9,7 @@ use Rattle.refal_parser.specs.Ready.{Ready, tok, endBefore}
 use Rattle.refal_parser.specs.Writers.{wC, wS, withTerms, withBlock, addC, plain, block as endBlock, addS}
 use Rattle.refal_parser.specs.PostBlock.{CondsInv, BlockInv}
 use Rattle.refal_parser.proofs.TokenLaws.{ready-next, end-before}
-use Rattle.refal_parser.proofs.Rows.{more-conditions, size-conditions, more-sentences, size-sentences}
+use Rattle.refal_parser.proofs.Rows.{block-condition, terms-condition, block-ending, more-conditions, size-conditions, more-sentences, size-sentences}
 use Rattle.refal_parser.proofs.Steps.{is-at, is-no, other, leveled, moved, open-none, open-some, cond-start, cond-equals, match-block, match-terms}
 use Rattle.refal_parser.proofs.Steps.{end-terms, end-start, end-block, end-unopened, end-closed, end-unclosed, block-close, block-eof, block-more}
 use borrow.Author.Needs.{needs}
@@ -350,14 +350,14 @@ block-returns-4 t c = let w = c .before .before .before .before .before .before 
 
 -- src/block.rt:35:17
 condition-add-start : (t : ℕ) → condition-lts.Need-add-start (
+  span-from-reads.Asked,
+  span-from-reads.Learnt,
   clause-reads.Asked,
   clause-reads.Learnt,
   kind-reads.Asked,
   kind-reads.Learnt,
   block-below t,
   block.Post,
-  span-from-reads.Asked,
-  span-from-reads.Learnt,
   end-before-reads.Asked,
   end-before-reads.Learnt,
   put-span-reads.Asked,
@@ -372,14 +372,14 @@ condition-add-start t c = let pre₀ = c .before .before .pre .1 in
 
 -- src/block.rt:36:17
 condition-add-first : (t : ℕ) → condition-lts.Need-add-first (
+  span-from-reads.Asked,
+  span-from-reads.Learnt,
   clause-reads.Asked,
   clause-reads.Learnt,
   kind-reads.Asked,
   kind-reads.Learnt,
   block-below t,
   block.Post,
-  span-from-reads.Asked,
-  span-from-reads.Learnt,
   end-before-reads.Asked,
   end-before-reads.Learnt,
   put-span-reads.Asked,
@@ -389,19 +389,19 @@ condition-add-first : (t : ℕ) → condition-lts.Need-add-first (
   pattern-reads.Asked,
   pattern-reads.Learnt,
 ) (condition-at t) condition.Post
-condition-add-first t c = let pre₀ = c .before .before .pre .1 in
+condition-add-first t c = let pre₀ = c .before .before .before .pre .1 in
     let R = pre₀ .0 in let h = pre₀ .1 in omega arith
 
 -- src/block.rt:37:9
 condition-clause-requires : (t : ℕ) → condition-lts.Need-clause-requires (
+  span-from-reads.Asked,
+  span-from-reads.Learnt,
   clause-reads.Asked,
   clause-reads.Learnt,
   kind-reads.Asked,
   kind-reads.Learnt,
   block-below t,
   block.Post,
-  span-from-reads.Asked,
-  span-from-reads.Learnt,
   end-before-reads.Asked,
   end-before-reads.Learnt,
   put-span-reads.Asked,
@@ -411,19 +411,19 @@ condition-clause-requires : (t : ℕ) → condition-lts.Need-clause-requires (
   pattern-reads.Asked,
   pattern-reads.Learnt,
 ) (condition-at t) condition.Post
-condition-clause-requires t c κs = let pre₀ = c .before .before .before .pre .1 in
+condition-clause-requires t c κs = let pre₀ = c .before .before .before .before .pre .1 in
     let h = pre₀ .1 in ((ready-next _ _ (pre₀ .0) (other _ _ _ (pre₀ .2) refl)), omega arith, omega arith)
 
 -- src/block.rt:38:17
 condition-enum-known-r : (t : ℕ) → condition-lts.Need-enum-known-r (
+  span-from-reads.Asked,
+  span-from-reads.Learnt,
   clause-reads.Asked,
   clause-reads.Learnt,
   kind-reads.Asked,
   kind-reads.Learnt,
   block-below t,
   block.Post,
-  span-from-reads.Asked,
-  span-from-reads.Learnt,
   end-before-reads.Asked,
   end-before-reads.Learnt,
   put-span-reads.Asked,
@@ -437,14 +437,14 @@ condition-enum-known-r t c = search needs
 
 -- src/block.rt:39:9
 condition-enum-told : (t : ℕ) → condition-lts.Need-enum-told (
+  span-from-reads.Asked,
+  span-from-reads.Learnt,
   clause-reads.Asked,
   clause-reads.Learnt,
   kind-reads.Asked,
   kind-reads.Learnt,
   block-below t,
   block.Post,
-  span-from-reads.Asked,
-  span-from-reads.Learnt,
   end-before-reads.Asked,
   end-before-reads.Learnt,
   put-span-reads.Asked,
@@ -458,14 +458,14 @@ condition-enum-told t c = search needs
 
 -- src/block.rt:39:9
 condition-same-length : (t : ℕ) → condition-lts.Need-same-length (
+  span-from-reads.Asked,
+  span-from-reads.Learnt,
   clause-reads.Asked,
   clause-reads.Learnt,
   kind-reads.Asked,
   kind-reads.Learnt,
   block-below t,
   block.Post,
-  span-from-reads.Asked,
-  span-from-reads.Learnt,
   end-before-reads.Asked,
   end-before-reads.Learnt,
   put-span-reads.Asked,
@@ -479,14 +479,14 @@ condition-same-length t c = search needs
 
 -- src/block.rt:39:9
 condition-returns : (t : ℕ) → condition-lts.Need-returns (
+  span-from-reads.Asked,
+  span-from-reads.Learnt,
   clause-reads.Asked,
   clause-reads.Learnt,
   kind-reads.Asked,
   kind-reads.Learnt,
   block-below t,
   block.Post,
-  span-from-reads.Asked,
-  span-from-reads.Learnt,
   end-before-reads.Asked,
   end-before-reads.Learnt,
   put-span-reads.Asked,
@@ -496,23 +496,23 @@ condition-returns : (t : ℕ) → condition-lts.Need-returns (
   pattern-reads.Asked,
   pattern-reads.Learnt,
 ) (condition-at t) condition.Post
-condition-returns t c = let w = c .before .before .before .before .before .before .before .before .args .tokens .now in
-    let at₀ = c .before .before .before .before .before .before .before .before .args .at in
-    let left₀ = c .before .before .before .before .before .before .before .before .args .left in
-    let pre₀ = c .before .before .before .before .before .before .before .before .pre .1 in
+condition-returns t c = let w = c .before .before .before .before .before .before .before .before .before .args .tokens .now in
+    let at₀ = c .before .before .before .before .before .before .before .before .before .args .at in
+    let left₀ = c .before .before .before .before .before .before .before .before .before .args .left in
+    let pre₀ = c .before .before .before .before .before .before .before .before .before .pre .1 in
     is-no (c .enum-told .given .1) (λ p s st f cs. cond-start _ _ (pre₀ .0) _ p s st f cs (ready-next _ _ (pre₀ .0) (other _ _ _ (pre₀ .2) refl)) (pre₀ .2)
     ∙ c .before .before .before .before .clause .ensures .no _ _ _ _ _ (c .enum-told .given .1) (argument p s st f cs (getD w (at₀ + 6 + 4) 0)) (λ (g : Terms) (e : ℕ). matched left₀ p s st f cs (getD w (at₀ + 6 + 4) 0) g e) (λ h t y z. refl))
 
 -- src/block.rt:41:8
 condition-kind-requires : (t : ℕ) → condition-lts.Need-kind-requires (
+  span-from-reads.Asked,
+  span-from-reads.Learnt,
   clause-reads.Asked,
   clause-reads.Learnt,
   kind-reads.Asked,
   kind-reads.Learnt,
   block-below t,
   block.Post,
-  span-from-reads.Asked,
-  span-from-reads.Learnt,
   end-before-reads.Asked,
   end-before-reads.Learnt,
   put-span-reads.Asked,
@@ -526,14 +526,14 @@ condition-kind-requires t c κs = let K = c .before .before .before .before .bef
 
 -- src/block.rt:42:19
 condition-add-row : (t : ℕ) → condition-lts.Need-add-row (
+  span-from-reads.Asked,
+  span-from-reads.Learnt,
   clause-reads.Asked,
   clause-reads.Learnt,
   kind-reads.Asked,
   kind-reads.Learnt,
   block-below t,
   block.Post,
-  span-from-reads.Asked,
-  span-from-reads.Learnt,
   end-before-reads.Asked,
   end-before-reads.Learnt,
   put-span-reads.Asked,
@@ -548,14 +548,14 @@ condition-add-row t c = let K = c .before .before .before .before .before .befor
 
 -- src/block.rt:43:13
 condition-block-requires : (t : ℕ) → condition-lts.Need-block-requires (
+  span-from-reads.Asked,
+  span-from-reads.Learnt,
   clause-reads.Asked,
   clause-reads.Learnt,
   kind-reads.Asked,
   kind-reads.Learnt,
   block-below t,
   block.Post,
-  span-from-reads.Asked,
-  span-from-reads.Learnt,
   end-before-reads.Asked,
   end-before-reads.Learnt,
   put-span-reads.Asked,
@@ -565,9 +565,9 @@ condition-block-requires : (t : ℕ) → condition-lts.Need-block-requires (
   pattern-reads.Asked,
   pattern-reads.Learnt,
 ) (condition-at t) condition.Post
-condition-block-requires t c κs = let w = c .before .before .before .before .before .before .before .before .before .before .before .before .args .tokens .now in
+condition-block-requires t c κs = let w = c .before .before .before .before .before .before .before .before .before .before .before .before .before .args .tokens .now in
     let j₁ = c .before .before .before .before .r .given .0 .0 in
-    let pre₀ = c .before .before .before .before .before .before .before .before .before .before .before .before .pre .1 in
+    let pre₀ = c .before .before .before .before .before .before .before .before .before .before .before .before .before .pre .1 in
     let K = c .before .before .before .before .before .before .before .before .clause .ensures .at _ _ (c .before .before .before .before .r .given .1) in
     let R = K .closed .ready in
     let o = K .closed .on in
@@ -576,14 +576,14 @@ condition-block-requires t c κs = let w = c .before .before .before .before .be
 
 -- src/block.rt:44:21
 condition-enum-known-r2 : (t : ℕ) → condition-lts.Need-enum-known-r2 (
+  span-from-reads.Asked,
+  span-from-reads.Learnt,
   clause-reads.Asked,
   clause-reads.Learnt,
   kind-reads.Asked,
   kind-reads.Learnt,
   block-below t,
   block.Post,
-  span-from-reads.Asked,
-  span-from-reads.Learnt,
   end-before-reads.Asked,
   end-before-reads.Learnt,
   put-span-reads.Asked,
@@ -597,14 +597,14 @@ condition-enum-known-r2 t c = search needs
 
 -- src/block.rt:45:13
 condition-enum-told-2 : (t : ℕ) → condition-lts.Need-enum-told-2 (
+  span-from-reads.Asked,
+  span-from-reads.Learnt,
   clause-reads.Asked,
   clause-reads.Learnt,
   kind-reads.Asked,
   kind-reads.Learnt,
   block-below t,
   block.Post,
-  span-from-reads.Asked,
-  span-from-reads.Learnt,
   end-before-reads.Asked,
   end-before-reads.Learnt,
   put-span-reads.Asked,
@@ -618,14 +618,14 @@ condition-enum-told-2 t c = search needs
 
 -- src/block.rt:45:13
 condition-same-length-2 : (t : ℕ) → condition-lts.Need-same-length-2 (
+  span-from-reads.Asked,
+  span-from-reads.Learnt,
   clause-reads.Asked,
   clause-reads.Learnt,
   kind-reads.Asked,
   kind-reads.Learnt,
   block-below t,
   block.Post,
-  span-from-reads.Asked,
-  span-from-reads.Learnt,
   end-before-reads.Asked,
   end-before-reads.Learnt,
   put-span-reads.Asked,
@@ -639,14 +639,14 @@ condition-same-length-2 t c = search needs
 
 -- src/block.rt:45:13
 condition-returns-2 : (t : ℕ) → condition-lts.Need-returns-2 (
+  span-from-reads.Asked,
+  span-from-reads.Learnt,
   clause-reads.Asked,
   clause-reads.Learnt,
   kind-reads.Asked,
   kind-reads.Learnt,
   block-below t,
   block.Post,
-  span-from-reads.Asked,
-  span-from-reads.Learnt,
   end-before-reads.Asked,
   end-before-reads.Learnt,
   put-span-reads.Asked,
@@ -656,11 +656,11 @@ condition-returns-2 : (t : ℕ) → condition-lts.Need-returns-2 (
   pattern-reads.Asked,
   pattern-reads.Learnt,
 ) (condition-at t) condition.Post
-condition-returns-2 t c = let w = c .before .before .before .before .before .before .before .before .before .before .before .before .before .before .before .before .before .args .tokens .now in
+condition-returns-2 t c = let w = c .before .before .before .before .before .before .before .before .before .before .before .before .before .before .before .before .before .before .args .tokens .now in
     let j₁ = c .before .before .before .before .before .before .before .before .before .r .given .0 .0 in
-    let at₀ = c .before .before .before .before .before .before .before .before .before .before .before .before .before .before .before .before .before .args .at in
-    let left₀ = c .before .before .before .before .before .before .before .before .before .before .before .before .before .before .before .before .before .args .left in
-    let pre₀ = c .before .before .before .before .before .before .before .before .before .before .before .before .before .before .before .before .before .pre .1 in
+    let at₀ = c .before .before .before .before .before .before .before .before .before .before .before .before .before .before .before .before .before .before .args .at in
+    let left₀ = c .before .before .before .before .before .before .before .before .before .before .before .before .before .before .before .before .before .before .args .left in
+    let pre₀ = c .before .before .before .before .before .before .before .before .before .before .before .before .before .before .before .before .before .before .pre .1 in
     let K = c .before .before .before .before .before .before .before .before .before .before .before .before .before .clause .ensures .at _ _ (c .before .before .before .before .before .before .before .before .before .r .given .1) in
     let k₇ : getD w j₁ 0 ≡ 7 = sym (c .before .before .before .before .before .before .before .kind .ensures) ∙ c .before .before .before .before .before .before .if1 .taken in
     is-no (c .enum-told2 .given .1) (λ p s st f cs. cond-start _ _ (pre₀ .0) _ p s st f cs (ready-next _ _ (pre₀ .0) (other _ _ _ (pre₀ .2) refl)) (pre₀ .2)
@@ -670,14 +670,14 @@ condition-returns-2 t c = let w = c .before .before .before .before .before .bef
 
 -- src/block.rt:47:50
 condition-span-from-requires : (t : ℕ) → condition-lts.Need-span-from-requires (
+  span-from-reads.Asked,
+  span-from-reads.Learnt,
   clause-reads.Asked,
   clause-reads.Learnt,
   kind-reads.Asked,
   kind-reads.Learnt,
   block-below t,
   block.Post,
-  span-from-reads.Asked,
-  span-from-reads.Learnt,
   end-before-reads.Asked,
   end-before-reads.Learnt,
   put-span-reads.Asked,
@@ -687,19 +687,19 @@ condition-span-from-requires : (t : ℕ) → condition-lts.Need-span-from-requir
   pattern-reads.Asked,
   pattern-reads.Learnt,
 ) (condition-at t) condition.Post
-condition-span-from-requires t c κs = let pre₀ = c .before .before .before .before .before .before .before .before .before .before .before .before .before .before .before .before .before .before .before .pre .1 in
+condition-span-from-requires t c κs = let pre₀ = c .before .before .pre .1 in
     (ready-next _ _ (pre₀ .0) (other _ _ _ (pre₀ .2) refl))
 
 -- src/block.rt:47:76
 condition-end-before-requires : (t : ℕ) → condition-lts.Need-end-before-requires (
+  span-from-reads.Asked,
+  span-from-reads.Learnt,
   clause-reads.Asked,
   clause-reads.Learnt,
   kind-reads.Asked,
   kind-reads.Learnt,
   block-below t,
   block.Post,
-  span-from-reads.Asked,
-  span-from-reads.Learnt,
   end-before-reads.Asked,
   end-before-reads.Learnt,
   put-span-reads.Asked,
@@ -709,19 +709,19 @@ condition-end-before-requires : (t : ℕ) → condition-lts.Need-end-before-requ
   pattern-reads.Asked,
   pattern-reads.Learnt,
 ) (condition-at t) condition.Post
-condition-end-before-requires t c κs = let B = c .before .before .before .before .before .before .before .block .ensures .at _ _ (c .before .before .before .r2 .given .1) in
+condition-end-before-requires t c κs = let B = c .before .before .before .before .before .block .ensures .at _ _ (c .before .r2 .given .1) in
     let Z = B .ready in let q = B .on in let v = B .few in (B .ready, omega arith)
 
 -- src/block.rt:47:9
 condition-put-span-requires : (t : ℕ) → condition-lts.Need-put-span-requires (
+  span-from-reads.Asked,
+  span-from-reads.Learnt,
   clause-reads.Asked,
   clause-reads.Learnt,
   kind-reads.Asked,
   kind-reads.Learnt,
   block-below t,
   block.Post,
-  span-from-reads.Asked,
-  span-from-reads.Learnt,
   end-before-reads.Asked,
   end-before-reads.Learnt,
   put-span-reads.Asked,
@@ -731,43 +731,21 @@ condition-put-span-requires : (t : ℕ) → condition-lts.Need-put-span-requires
   pattern-reads.Asked,
   pattern-reads.Learnt,
 ) (condition-at t) condition.Post
-condition-put-span-requires t c κs = let K = c .before .before .before .before .before .before .before .before .before .before .before .before .before .before .before .before .before .clause .ensures .at _ _ (c .before .before .before .before .before .before .before .before .before .before .before .before .before .r .given .1) in
-    let B = c .before .before .before .before .before .before .before .before .block .ensures .at _ _ (c .before .before .before .before .r2 .given .1) in
+condition-put-span-requires t c κs = let K = c .before .before .before .before .before .before .before .before .before .before .before .before .before .before .before .before .clause .ensures .at _ _ (c .before .before .before .before .before .before .before .before .before .before .before .before .r .given .1) in
+    let B = c .before .before .before .before .before .before .before .block .ensures .at _ _ (c .before .before .before .r2 .given .1) in
     let R = K .closed .ready in
     let o = K .closed .on in let v₁ = K .few in let Z = B .ready in let q = B .on in let v = B .few in (omega arith, omega arith)
 
--- src/block.rt:48:44
-condition-span-from-requires-2 : (t : ℕ) → condition-lts.Need-span-from-requires-2 (
-  clause-reads.Asked,
-  clause-reads.Learnt,
-  kind-reads.Asked,
-  kind-reads.Learnt,
-  block-below t,
-  block.Post,
-  span-from-reads.Asked,
-  span-from-reads.Learnt,
-  end-before-reads.Asked,
-  end-before-reads.Learnt,
-  put-span-reads.Asked,
-  put-span-reads.Learnt,
-  joins-reads.Asked,
-  joins-reads.Learnt,
-  pattern-reads.Asked,
-  pattern-reads.Learnt,
-) (condition-at t) condition.Post
-condition-span-from-requires-2 t c κs = let pre₀ = c .before .before .before .before .before .before .before .before .before .before .before .before .before .before .before .before .before .before .before .before .before .before .before .before .before .pre .1 in
-    (ready-next _ _ (pre₀ .0) (other _ _ _ (pre₀ .2) refl))
-
 -- src/block.rt:48:70
 condition-end-before-requires-2 : (t : ℕ) → condition-lts.Need-end-before-requires-2 (
+  span-from-reads.Asked,
+  span-from-reads.Learnt,
   clause-reads.Asked,
   clause-reads.Learnt,
   kind-reads.Asked,
   kind-reads.Learnt,
   block-below t,
   block.Post,
-  span-from-reads.Asked,
-  span-from-reads.Learnt,
   end-before-reads.Asked,
   end-before-reads.Learnt,
   put-span-reads.Asked,
@@ -777,19 +755,19 @@ condition-end-before-requires-2 : (t : ℕ) → condition-lts.Need-end-before-re
   pattern-reads.Asked,
   pattern-reads.Learnt,
 ) (condition-at t) condition.Post
-condition-end-before-requires-2 t c κs = let B = c .before .before .before .before .before .before .before .before .before .before .before .before .before .block .ensures .at _ _ (c .before .before .before .before .before .before .before .before .before .r2 .given .1) in
-    let Z = B .ready in let q = B .on in let v = B .few in (B .ready, omega arith)
+condition-end-before-requires-2 t c κs = let K = c .before .before .before .before .before .before .before .before .before .before .before .before .before .before .clause .ensures .at _ _ (c .before .before .before .before .before .before .before .before .before .before .r .given .1) in
+    let Q = c .before .before .before .before .before .pattern .ensures .at _ _ (c .before .r3 .given .1) in let o = K .closed .on in let q = Q .on in (Q .ready, omega arith)
 
 -- src/block.rt:48:9
 condition-put-span-requires-2 : (t : ℕ) → condition-lts.Need-put-span-requires-2 (
+  span-from-reads.Asked,
+  span-from-reads.Learnt,
   clause-reads.Asked,
   clause-reads.Learnt,
   kind-reads.Asked,
   kind-reads.Learnt,
   block-below t,
   block.Post,
-  span-from-reads.Asked,
-  span-from-reads.Learnt,
   end-before-reads.Asked,
   end-before-reads.Learnt,
   put-span-reads.Asked,
@@ -799,20 +777,20 @@ condition-put-span-requires-2 : (t : ℕ) → condition-lts.Need-put-span-requir
   pattern-reads.Asked,
   pattern-reads.Learnt,
 ) (condition-at t) condition.Post
-condition-put-span-requires-2 t c κs = let pre₀ = c .before .before .before .before .before .before .before .before .before .before .before .before .before .before .before .before .before .before .before .before .before .before .before .before .before .before .before .pre .1 in
-    let B = c .before .before .before .before .before .before .before .before .before .before .before .before .before .before .block .ensures .at _ _ (c .before .before .before .before .before .before .before .before .before .before .r2 .given .1) in
+condition-put-span-requires-2 t c κs = let pre₀ = c .before .before .before .before .before .before .before .before .before .before .before .before .before .before .before .before .before .before .before .before .before .before .before .before .before .pre .1 in
+    let B = c .before .before .before .before .before .before .before .before .before .before .before .block .ensures .at _ _ (c .before .before .before .before .before .before .before .r2 .given .1) in
     let Z = B .ready in let q = B .on in let v = B .few in let h = pre₀ .1 in let g = pre₀ .0 in (omega arith, omega arith)
 
 -- src/block.rt:49:9
 condition-joins-requires : (t : ℕ) → condition-lts.Need-joins-requires (
+  span-from-reads.Asked,
+  span-from-reads.Learnt,
   clause-reads.Asked,
   clause-reads.Learnt,
   kind-reads.Asked,
   kind-reads.Learnt,
   block-below t,
   block.Post,
-  span-from-reads.Asked,
-  span-from-reads.Learnt,
   end-before-reads.Asked,
   end-before-reads.Learnt,
   put-span-reads.Asked,
@@ -822,18 +800,18 @@ condition-joins-requires : (t : ℕ) → condition-lts.Need-joins-requires (
   pattern-reads.Asked,
   pattern-reads.Learnt,
 ) (condition-at t) condition.Post
-condition-joins-requires t c κs = let B = c .before .before .before .before .before .before .before .before .before .before .before .before .before .before .before .before .before .block .ensures .at _ _ (c .before .before .before .before .before .before .before .before .before .before .before .before .before .r2 .given .1) in B .ready
+condition-joins-requires t c κs = let B = c .before .before .before .before .before .before .before .before .before .before .before .before .before .before .block .ensures .at _ _ (c .before .before .before .before .before .before .before .before .before .before .r2 .given .1) in B .ready
 
 -- src/block.rt:49:9
 condition-same-length-3 : (t : ℕ) → condition-lts.Need-same-length-3 (
+  span-from-reads.Asked,
+  span-from-reads.Learnt,
   clause-reads.Asked,
   clause-reads.Learnt,
   kind-reads.Asked,
   kind-reads.Learnt,
   block-below t,
   block.Post,
-  span-from-reads.Asked,
-  span-from-reads.Learnt,
   end-before-reads.Asked,
   end-before-reads.Learnt,
   put-span-reads.Asked,
@@ -844,20 +822,20 @@ condition-same-length-3 : (t : ℕ) → condition-lts.Need-same-length-3 (
   pattern-reads.Learnt,
 ) (condition-at t) condition.Post
 condition-same-length-3 t c = c .before .before .before .put-span2 .kept .0
-    ∙ c .before .before .before .before .before .before .before .before .before .put-span .kept .0
-    ∙ c .before .before .before .before .before .before .before .before .before .before .before .before .before .before .before .before .before .before .block .kept .1 .0
-    ∙ c .before .before .before .before .before .before .before .before .before .before .before .before .before .before .before .before .before .before .before .before .before .before .before .before .before .before .before .clause .kept .1 .0
+    ∙ c .before .before .before .before .before .before .before .put-span .kept .0
+    ∙ c .before .before .before .before .before .before .before .before .before .before .before .before .before .before .before .block .kept .1 .0
+    ∙ c .before .before .before .before .before .before .before .before .before .before .before .before .before .before .before .before .before .before .before .before .before .before .before .before .clause .kept .1 .0
 
 -- src/block.rt:49:9
 condition-returns-3 : (t : ℕ) → condition-lts.Need-returns-3 (
+  span-from-reads.Asked,
+  span-from-reads.Learnt,
   clause-reads.Asked,
   clause-reads.Learnt,
   kind-reads.Asked,
   kind-reads.Learnt,
   block-below t,
   block.Post,
-  span-from-reads.Asked,
-  span-from-reads.Learnt,
   end-before-reads.Asked,
   end-before-reads.Learnt,
   put-span-reads.Asked,
@@ -867,15 +845,17 @@ condition-returns-3 : (t : ℕ) → condition-lts.Need-returns-3 (
   pattern-reads.Asked,
   pattern-reads.Learnt,
 ) (condition-at t) condition.Post
-condition-returns-3 t c = let w = c .before .before .before .before .before .before .before .before .before .before .before .before .before .before .before .before .before .before .before .before .before .before .before .before .before .before .before .before .before .before .before .args .tokens .now in
-    let j₁ = c .before .before .before .before .before .before .before .before .before .before .before .before .before .before .before .before .before .before .before .before .before .before .before .r .given .0 .0 in
-    let j₂ = c .before .before .before .before .before .before .before .before .before .before .before .before .before .before .r2 .given .0 .0 in
-    let at₀ = c .before .before .before .before .before .before .before .before .before .before .before .before .before .before .before .before .before .before .before .before .before .before .before .before .before .before .before .before .before .before .before .args .at in
-    let left₀ = c .before .before .before .before .before .before .before .before .before .before .before .before .before .before .before .before .before .before .before .before .before .before .before .before .before .before .before .before .before .before .before .args .left in
-    let pre₀ = c .before .before .before .before .before .before .before .before .before .before .before .before .before .before .before .before .before .before .before .before .before .before .before .before .before .before .before .before .before .before .before .pre .1 in
-    let K = c .before .before .before .before .before .before .before .before .before .before .before .before .before .before .before .before .before .before .before .before .before .before .before .before .before .before .before .clause .ensures .at _ _ (c .before .before .before .before .before .before .before .before .before .before .before .before .before .before .before .before .before .before .before .before .before .before .before .r .given .1) in
-    let B = c .before .before .before .before .before .before .before .before .before .before .before .before .before .before .before .before .before .before .block .ensures .at _ _ (c .before .before .before .before .before .before .before .before .before .before .before .before .before .before .r2 .given .1) in
-    let k₇ : getD w j₁ 0 ≡ 7 = sym (c .before .before .before .before .before .before .before .before .before .before .before .before .before .before .before .before .before .before .before .before .before .kind .ensures) ∙ c .before .before .before .before .before .before .before .before .before .before .before .before .before .before .before .before .before .before .before .before .if1 .taken in
+condition-returns-3 t c = let w = c .before .before .before .before .before .before .before .before .before .before .before .before .before .before .before .before .before .before .before .before .before .before .before .before .before .before .before .before .before .args .tokens .now in
+    let b₀ = c .before .before .before .before .before .before .before .before .before .before .before .before .before .before .before .before .before .before .before .before .before .before .before .before .before .before .before .before .before .args .rows .now in
+    let j₁ = c .before .before .before .before .before .before .before .before .before .before .before .before .before .before .before .before .before .before .before .before .r .given .0 .0 in
+    let j₂ = c .before .before .before .before .before .before .before .before .before .before .before .r2 .given .0 .0 in
+    let at₀ = c .before .before .before .before .before .before .before .before .before .before .before .before .before .before .before .before .before .before .before .before .before .before .before .before .before .before .before .before .before .args .at in
+    let left₀ = c .before .before .before .before .before .before .before .before .before .before .before .before .before .before .before .before .before .before .before .before .before .before .before .before .before .before .before .before .before .args .left in
+    let n₀ = c .before .before .before .before .before .before .before .before .before .before .before .before .before .before .before .before .before .before .before .before .before .before .before .before .before .before .before .before .before .args .n in
+    let pre₀ = c .before .before .before .before .before .before .before .before .before .before .before .before .before .before .before .before .before .before .before .before .before .before .before .before .before .before .before .before .before .pre .1 in
+    let K = c .before .before .before .before .before .before .before .before .before .before .before .before .before .before .before .before .before .before .before .before .before .before .before .before .clause .ensures .at _ _ (c .before .before .before .before .before .before .before .before .before .before .before .before .before .before .before .before .before .before .before .before .r .given .1) in
+    let B = c .before .before .before .before .before .before .before .before .before .before .before .before .before .before .before .block .ensures .at _ _ (c .before .before .before .before .before .before .before .before .before .before .before .r2 .given .1) in
+    let k₇ : getD w j₁ 0 ≡ 7 = sym (c .before .before .before .before .before .before .before .before .before .before .before .before .before .before .before .before .before .before .kind .ensures) ∙ c .before .before .before .before .before .before .before .before .before .before .before .before .before .before .before .before .before .if1 .taken in
     record {
       at = λ j m e.
           let N = c .joins .ensures .at j m e in
@@ -884,7 +864,8 @@ condition-returns-3 t c = let w = c .before .before .before .before .before .bef
             ready = N .ready;
             on = let o = K .closed .on in let q = B .on in let y = N .stays in omega arith;
             few = let v = B .few in let y = N .stays in let z = N .rows in omega arith;
-            rows = let h₁ = K .rows in let h₂ = B .rows in let h₃ = K .count in let h₄ = B .count in let h₅ = B .last in cc;
+            rows = block-condition n₀ (K .g) b₀ (c .before .before .before .before .before .before .before .before .before .before .before .before .before .before .before .before .before .before .before .before .before .before .before .before .before .before .span-from .ensures) (c .before .before .before .before .before .before .before .before .before .end-before .ensures
+                ∙ sym (B .last)) (K .rows) (K .count) (B .v) (B .rows) (B .count) (c .before .before .before .before .before .before .before .put-span .ensures) (c .before .before .before .put-span2 .ensures);
             count = let h₃ = K .count in let h₄ = B .count in let z = N .rows in omega arith;
             joint = N .joint;
             means = λ p s st f cs. cond-start _ _ (pre₀ .0) _ p s st f cs (ready-next _ _ (pre₀ .0) (other _ _ _ (pre₀ .2) refl)) (pre₀ .2)
@@ -904,14 +885,14 @@ condition-returns-3 t c = let w = c .before .before .before .before .before .bef
 
 -- src/block.rt:51:9
 condition-pattern-requires : (t : ℕ) → condition-lts.Need-pattern-requires (
+  span-from-reads.Asked,
+  span-from-reads.Learnt,
   clause-reads.Asked,
   clause-reads.Learnt,
   kind-reads.Asked,
   kind-reads.Learnt,
   block-below t,
   block.Post,
-  span-from-reads.Asked,
-  span-from-reads.Learnt,
   end-before-reads.Asked,
   end-before-reads.Learnt,
   put-span-reads.Asked,
@@ -926,14 +907,14 @@ condition-pattern-requires t c κs = let K = c .before .before .before .before .
 
 -- src/block.rt:52:17
 condition-enum-known-r3 : (t : ℕ) → condition-lts.Need-enum-known-r3 (
+  span-from-reads.Asked,
+  span-from-reads.Learnt,
   clause-reads.Asked,
   clause-reads.Learnt,
   kind-reads.Asked,
   kind-reads.Learnt,
   block-below t,
   block.Post,
-  span-from-reads.Asked,
-  span-from-reads.Learnt,
   end-before-reads.Asked,
   end-before-reads.Learnt,
   put-span-reads.Asked,
@@ -947,14 +928,14 @@ condition-enum-known-r3 t c = search needs
 
 -- src/block.rt:53:9
 condition-enum-told-3 : (t : ℕ) → condition-lts.Need-enum-told-3 (
+  span-from-reads.Asked,
+  span-from-reads.Learnt,
   clause-reads.Asked,
   clause-reads.Learnt,
   kind-reads.Asked,
   kind-reads.Learnt,
   block-below t,
   block.Post,
-  span-from-reads.Asked,
-  span-from-reads.Learnt,
   end-before-reads.Asked,
   end-before-reads.Learnt,
   put-span-reads.Asked,
@@ -968,14 +949,14 @@ condition-enum-told-3 t c = search needs
 
 -- src/block.rt:53:9
 condition-same-length-4 : (t : ℕ) → condition-lts.Need-same-length-4 (
+  span-from-reads.Asked,
+  span-from-reads.Learnt,
   clause-reads.Asked,
   clause-reads.Learnt,
   kind-reads.Asked,
   kind-reads.Learnt,
   block-below t,
   block.Post,
-  span-from-reads.Asked,
-  span-from-reads.Learnt,
   end-before-reads.Asked,
   end-before-reads.Learnt,
   put-span-reads.Asked,
@@ -989,14 +970,14 @@ condition-same-length-4 t c = search needs
 
 -- src/block.rt:53:9
 condition-returns-4 : (t : ℕ) → condition-lts.Need-returns-4 (
+  span-from-reads.Asked,
+  span-from-reads.Learnt,
   clause-reads.Asked,
   clause-reads.Learnt,
   kind-reads.Asked,
   kind-reads.Learnt,
   block-below t,
   block.Post,
-  span-from-reads.Asked,
-  span-from-reads.Learnt,
   end-before-reads.Asked,
   end-before-reads.Learnt,
   put-span-reads.Asked,
@@ -1006,10 +987,10 @@ condition-returns-4 : (t : ℕ) → condition-lts.Need-returns-4 (
   pattern-reads.Asked,
   pattern-reads.Learnt,
 ) (condition-at t) condition.Post
-condition-returns-4 t c = let w = c .before .before .before .before .before .before .before .before .before .before .before .before .before .before .before .before .before .args .tokens .now in
-    let at₀ = c .before .before .before .before .before .before .before .before .before .before .before .before .before .before .before .before .before .args .at in
-    let left₀ = c .before .before .before .before .before .before .before .before .before .before .before .before .before .before .before .before .before .args .left in
-    let pre₀ = c .before .before .before .before .before .before .before .before .before .before .before .before .before .before .before .before .before .pre .1 in
+condition-returns-4 t c = let w = c .before .before .before .before .before .before .before .before .before .before .before .before .before .before .before .before .before .before .args .tokens .now in
+    let at₀ = c .before .before .before .before .before .before .before .before .before .before .before .before .before .before .before .before .before .before .args .at in
+    let left₀ = c .before .before .before .before .before .before .before .before .before .before .before .before .before .before .before .before .before .before .args .left in
+    let pre₀ = c .before .before .before .before .before .before .before .before .before .before .before .before .before .before .before .before .before .before .pre .1 in
     let K = c .before .before .before .before .before .before .before .before .before .before .before .before .before .clause .ensures .at _ _ (c .before .before .before .before .before .before .before .before .before .r .given .1) in
     is-no (c .enum-told3 .given .1) (λ p s st f cs. cond-start _ _ (pre₀ .0) _ p s st f cs (ready-next _ _ (pre₀ .0) (other _ _ _ (pre₀ .2) refl)) (pre₀ .2)
     ∙ K .closed .means (argument p s st f cs (getD w (at₀ + 6 + 4) 0)) (λ (g : Terms) (e : ℕ). matched left₀ p s st f cs (getD w (at₀ + 6 + 4) 0) g e) (λ h t y z. refl)
@@ -1017,60 +998,16 @@ condition-returns-4 t c = let w = c .before .before .before .before .before .bef
     ∙ e))
     ∙ c .before .before .before .before .pattern .ensures .no _ _ _ _ _ (c .enum-told3 .given .1) (matching p s st f cs (getD w (at₀ + 6 + 4) 0) (K .g) (K .closed .e)) p s st (λ (h : Terms). f) (λ (h : Terms). cTerms cs (getD w (at₀ + 6 + 4) 0) (K .g) h (lastEnd h (K .closed .e))) (λ h t y z. refl))
 
--- src/block.rt:55:40
-condition-span-from-requires-3 : (t : ℕ) → condition-lts.Need-span-from-requires-3 (
-  clause-reads.Asked,
-  clause-reads.Learnt,
-  kind-reads.Asked,
-  kind-reads.Learnt,
-  block-below t,
-  block.Post,
-  span-from-reads.Asked,
-  span-from-reads.Learnt,
-  end-before-reads.Asked,
-  end-before-reads.Learnt,
-  put-span-reads.Asked,
-  put-span-reads.Learnt,
-  joins-reads.Asked,
-  joins-reads.Learnt,
-  pattern-reads.Asked,
-  pattern-reads.Learnt,
-) (condition-at t) condition.Post
-condition-span-from-requires-3 t c κs = let pre₀ = c .before .before .before .before .before .before .before .before .before .before .before .before .before .before .before .before .before .before .before .pre .1 in
-    (ready-next _ _ (pre₀ .0) (other _ _ _ (pre₀ .2) refl))
-
--- src/block.rt:55:66
-condition-end-before-requires-3 : (t : ℕ) → condition-lts.Need-end-before-requires-3 (
-  clause-reads.Asked,
-  clause-reads.Learnt,
-  kind-reads.Asked,
-  kind-reads.Learnt,
-  block-below t,
-  block.Post,
-  span-from-reads.Asked,
-  span-from-reads.Learnt,
-  end-before-reads.Asked,
-  end-before-reads.Learnt,
-  put-span-reads.Asked,
-  put-span-reads.Learnt,
-  joins-reads.Asked,
-  joins-reads.Learnt,
-  pattern-reads.Asked,
-  pattern-reads.Learnt,
-) (condition-at t) condition.Post
-condition-end-before-requires-3 t c κs = let K = c .before .before .before .before .before .before .before .before .before .before .before .before .before .before .before .before .clause .ensures .at _ _ (c .before .before .before .before .before .before .before .before .before .before .before .before .r .given .1) in
-    let Q = c .before .before .before .before .before .before .before .pattern .ensures .at _ _ (c .before .before .before .r3 .given .1) in let o = K .closed .on in let q = Q .on in (Q .ready, omega arith)
-
 -- src/block.rt:55:5
 condition-put-span-requires-3 : (t : ℕ) → condition-lts.Need-put-span-requires-3 (
+  span-from-reads.Asked,
+  span-from-reads.Learnt,
   clause-reads.Asked,
   clause-reads.Learnt,
   kind-reads.Asked,
   kind-reads.Learnt,
   block-below t,
   block.Post,
-  span-from-reads.Asked,
-  span-from-reads.Learnt,
   end-before-reads.Asked,
   end-before-reads.Learnt,
   put-span-reads.Asked,
@@ -1081,19 +1018,19 @@ condition-put-span-requires-3 : (t : ℕ) → condition-lts.Need-put-span-requir
   pattern-reads.Learnt,
 ) (condition-at t) condition.Post
 condition-put-span-requires-3 t c κs = let pre₀ = c .before .before .before .before .before .before .before .before .before .before .before .before .before .before .before .before .before .before .before .before .before .pre .1 in
-    let Q = c .before .before .before .before .before .before .before .before .pattern .ensures .at _ _ (c .before .before .before .before .r3 .given .1) in
+    let Q = c .before .before .before .before .before .before .before .pattern .ensures .at _ _ (c .before .before .before .r3 .given .1) in
     let Z = Q .ready in let v = Q .few in let h = pre₀ .1 in let g = pre₀ .0 in (omega arith, omega arith)
 
 -- src/block.rt:31:1
 condition-same-length-5 : (t : ℕ) → condition-lts.Need-same-length-5 (
+  span-from-reads.Asked,
+  span-from-reads.Learnt,
   clause-reads.Asked,
   clause-reads.Learnt,
   kind-reads.Asked,
   kind-reads.Learnt,
   block-below t,
   block.Post,
-  span-from-reads.Asked,
-  span-from-reads.Learnt,
   end-before-reads.Asked,
   end-before-reads.Learnt,
   put-span-reads.Asked,
@@ -1107,14 +1044,14 @@ condition-same-length-5 t c = search needs
 
 -- src/block.rt:31:1
 condition-returns-5 : (t : ℕ) → condition-lts.Need-returns-5 (
+  span-from-reads.Asked,
+  span-from-reads.Learnt,
   clause-reads.Asked,
   clause-reads.Learnt,
   kind-reads.Asked,
   kind-reads.Learnt,
   block-below t,
   block.Post,
-  span-from-reads.Asked,
-  span-from-reads.Learnt,
   end-before-reads.Asked,
   end-before-reads.Learnt,
   put-span-reads.Asked,
@@ -1125,23 +1062,26 @@ condition-returns-5 : (t : ℕ) → condition-lts.Need-returns-5 (
   pattern-reads.Learnt,
 ) (condition-at t) condition.Post
 condition-returns-5 t c = let w = c .before .before .before .before .before .before .before .before .before .before .before .before .before .before .before .before .before .before .before .before .before .before .before .before .args .tokens .now in
+    let b₀ = c .before .before .before .before .before .before .before .before .before .before .before .before .before .before .before .before .before .before .before .before .before .before .before .before .args .rows .now in
     let at₀ = c .before .before .before .before .before .before .before .before .before .before .before .before .before .before .before .before .before .before .before .before .before .before .before .before .args .at in
     let left₀ = c .before .before .before .before .before .before .before .before .before .before .before .before .before .before .before .before .before .before .before .before .before .before .before .before .args .left in
+    let n₀ = c .before .before .before .before .before .before .before .before .before .before .before .before .before .before .before .before .before .before .before .before .before .before .before .before .args .n in
     let pre₀ = c .before .before .before .before .before .before .before .before .before .before .before .before .before .before .before .before .before .before .before .before .before .before .before .before .pre .1 in
-    let K = c .before .before .before .before .before .before .before .before .before .before .before .before .before .before .before .before .before .before .before .before .clause .ensures .at _ _ (c .before .before .before .before .before .before .before .before .before .before .before .before .before .before .before .before .r .given .1) in
-    let Q = c .before .before .before .before .before .before .before .before .before .before .before .pattern .ensures .at _ _ (c .before .before .before .before .before .before .before .r3 .given .1) in
+    let K = c .before .before .before .before .before .before .before .before .before .before .before .before .before .before .before .before .before .before .before .clause .ensures .at _ _ (c .before .before .before .before .before .before .before .before .before .before .before .before .before .before .before .r .given .1) in
+    let Q = c .before .before .before .before .before .before .before .before .before .before .pattern .ensures .at _ _ (c .before .before .before .before .before .before .r3 .given .1) in
     is-at refl (record {
       x = withTerms (getD w (at₀ + 6 + 4) 0) (K .g) (Q .g) (lastEnd (Q .g) (K .closed .e));
       ready = Q .ready;
       on = let o = K .closed .on in let q = Q .on in omega arith;
       few = Q .few;
-      rows = let h₁ = K .rows in let h₂ = Q .rows in let h₃ = K .count in let h₄ = Q .count in let h₅ = ap (λ (z : ℕ). lastEnd (Q .g) z) (K .closed .last)
-          ∙ Q .last in cc;
+      rows = let l = ap (λ (z : ℕ). lastEnd (Q .g) z) (K .closed .last) ∙ Q .last in
+          terms-condition n₀ (K .g) b₀ (c .before .before .before .before .before .before .before .before .before .before .before .before .before .before .before .before .before .before .before .before .before .span-from .ensures) (c .before .before .before .before .end-before2 .ensures
+          ∙ sym l) (K .rows) (K .count) (Q .g) (Q .rows) (Q .count) (c .before .before .put-span3 .ensures);
       count = let h₃ = K .count in let h₄ = Q .count in omega arith;
       joint = Q .joint;
       means = λ p s st f cs. cond-start _ _ (pre₀ .0) _ p s st f cs (ready-next _ _ (pre₀ .0) (other _ _ _ (pre₀ .2) refl)) (pre₀ .2)
           ∙ K .closed .means (argument p s st f cs (getD w (at₀ + 6 + 4) 0)) (λ (g : Terms) (e : ℕ). matched left₀ p s st f cs (getD w (at₀ + 6 + 4) 0) g e) (λ h t y z. refl)
-          ∙ match-terms _ _ (K .closed .ready) _ p s st f cs (getD w (at₀ + 6 + 4) 0) (K .g) (K .closed .e) (λ e. c .before .before .before .before .before .before .before .before .before .before .before .before .before .if1 .left (c .before .before .before .before .before .before .before .before .before .before .before .before .before .before .kind .ensures
+          ∙ match-terms _ _ (K .closed .ready) _ p s st f cs (getD w (at₀ + 6 + 4) 0) (K .g) (K .closed .e) (λ e. c .before .before .before .before .before .before .before .before .before .before .before .before .if1 .left (c .before .before .before .before .before .before .before .before .before .before .before .before .before .kind .ensures
           ∙ e))
           ∙ Q .means (matching p s st f cs (getD w (at₀ + 6 + 4) 0) (K .g) (K .closed .e)) p s st (λ (h : Terms). f) (λ (h : Terms). cTerms cs (getD w (at₀ + 6 + 4) 0) (K .g) h (lastEnd h (K .closed .e))) (λ h t y z. refl);
     })
@@ -1152,12 +1092,12 @@ ending-kind-requires : (t : ℕ) → ending-lts.Need-kind-requires (
   kind-reads.Learnt,
   clause-reads.Asked,
   clause-reads.Learnt,
+  span-from-reads.Asked,
+  span-from-reads.Learnt,
   present-reads.Asked,
   present-reads.Learnt,
   block-below t,
   block.Post,
-  span-from-reads.Asked,
-  span-from-reads.Learnt,
   end-before-reads.Asked,
   end-before-reads.Learnt,
   put-span-reads.Asked,
@@ -1172,12 +1112,12 @@ ending-clause-requires : (t : ℕ) → ending-lts.Need-clause-requires (
   kind-reads.Learnt,
   clause-reads.Asked,
   clause-reads.Learnt,
+  span-from-reads.Asked,
+  span-from-reads.Learnt,
   present-reads.Asked,
   present-reads.Learnt,
   block-below t,
   block.Post,
-  span-from-reads.Asked,
-  span-from-reads.Learnt,
   end-before-reads.Asked,
   end-before-reads.Learnt,
   put-span-reads.Asked,
@@ -1192,12 +1132,12 @@ ending-same-length : (t : ℕ) → ending-lts.Need-same-length (
   kind-reads.Learnt,
   clause-reads.Asked,
   clause-reads.Learnt,
+  span-from-reads.Asked,
+  span-from-reads.Learnt,
   present-reads.Asked,
   present-reads.Learnt,
   block-below t,
   block.Post,
-  span-from-reads.Asked,
-  span-from-reads.Learnt,
   end-before-reads.Asked,
   end-before-reads.Learnt,
   put-span-reads.Asked,
@@ -1211,12 +1151,12 @@ ending-returns : (t : ℕ) → ending-lts.Need-returns (
   kind-reads.Learnt,
   clause-reads.Asked,
   clause-reads.Learnt,
+  span-from-reads.Asked,
+  span-from-reads.Learnt,
   present-reads.Asked,
   present-reads.Learnt,
   block-below t,
   block.Post,
-  span-from-reads.Asked,
-  span-from-reads.Learnt,
   end-before-reads.Asked,
   end-before-reads.Learnt,
   put-span-reads.Asked,
@@ -1249,12 +1189,12 @@ ending-add-start : (t : ℕ) → ending-lts.Need-add-start (
   kind-reads.Learnt,
   clause-reads.Asked,
   clause-reads.Learnt,
+  span-from-reads.Asked,
+  span-from-reads.Learnt,
   present-reads.Asked,
   present-reads.Learnt,
   block-below t,
   block.Post,
-  span-from-reads.Asked,
-  span-from-reads.Learnt,
   end-before-reads.Asked,
   end-before-reads.Learnt,
   put-span-reads.Asked,
@@ -1269,18 +1209,18 @@ ending-add-first : (t : ℕ) → ending-lts.Need-add-first (
   kind-reads.Learnt,
   clause-reads.Asked,
   clause-reads.Learnt,
+  span-from-reads.Asked,
+  span-from-reads.Learnt,
   present-reads.Asked,
   present-reads.Learnt,
   block-below t,
   block.Post,
-  span-from-reads.Asked,
-  span-from-reads.Learnt,
   end-before-reads.Asked,
   end-before-reads.Learnt,
   put-span-reads.Asked,
   put-span-reads.Learnt,
 ) (ending-at t) ending.Post
-ending-add-first t c = let pre₀ = c .before .before .before .before .pre .1 in
+ending-add-first t c = let pre₀ = c .before .before .before .before .before .pre .1 in
     let R = pre₀ .0 in let h = pre₀ .1 in omega arith
 
 -- src/block.rt:69:9
@@ -1289,21 +1229,21 @@ ending-clause-requires-2 : (t : ℕ) → ending-lts.Need-clause-requires-2 (
   kind-reads.Learnt,
   clause-reads.Asked,
   clause-reads.Learnt,
+  span-from-reads.Asked,
+  span-from-reads.Learnt,
   present-reads.Asked,
   present-reads.Learnt,
   block-below t,
   block.Post,
-  span-from-reads.Asked,
-  span-from-reads.Learnt,
   end-before-reads.Asked,
   end-before-reads.Learnt,
   put-span-reads.Asked,
   put-span-reads.Learnt,
 ) (ending-at t) ending.Post
-ending-clause-requires-2 t c κs = let w = c .before .before .before .before .before .args .tokens .now in
-    let at₀ = c .before .before .before .before .before .args .at in
-    let pre₀ = c .before .before .before .before .before .pre .1 in
-    let k₁₃ : getD w at₀ 0 ≡ 13 = sym (c .before .before .kind .ensures) ∙ c .before .if1 .left in
+ending-clause-requires-2 t c κs = let w = c .before .before .before .before .before .before .args .tokens .now in
+    let at₀ = c .before .before .before .before .before .before .args .at in
+    let pre₀ = c .before .before .before .before .before .before .pre .1 in
+    let k₁₃ : getD w at₀ 0 ≡ 13 = sym (c .before .before .before .kind .ensures) ∙ c .before .before .if1 .left in
     let h = pre₀ .1 in ((ready-next _ _ (pre₀ .0) (other _ _ _ k₁₃ refl)), omega arith, omega arith)
 
 -- src/block.rt:70:17
@@ -1312,12 +1252,12 @@ ending-enum-known-r : (t : ℕ) → ending-lts.Need-enum-known-r (
   kind-reads.Learnt,
   clause-reads.Asked,
   clause-reads.Learnt,
+  span-from-reads.Asked,
+  span-from-reads.Learnt,
   present-reads.Asked,
   present-reads.Learnt,
   block-below t,
   block.Post,
-  span-from-reads.Asked,
-  span-from-reads.Learnt,
   end-before-reads.Asked,
   end-before-reads.Learnt,
   put-span-reads.Asked,
@@ -1331,12 +1271,12 @@ ending-enum-told : (t : ℕ) → ending-lts.Need-enum-told (
   kind-reads.Learnt,
   clause-reads.Asked,
   clause-reads.Learnt,
+  span-from-reads.Asked,
+  span-from-reads.Learnt,
   present-reads.Asked,
   present-reads.Learnt,
   block-below t,
   block.Post,
-  span-from-reads.Asked,
-  span-from-reads.Learnt,
   end-before-reads.Asked,
   end-before-reads.Learnt,
   put-span-reads.Asked,
@@ -1350,12 +1290,12 @@ ending-same-length-2 : (t : ℕ) → ending-lts.Need-same-length-2 (
   kind-reads.Learnt,
   clause-reads.Asked,
   clause-reads.Learnt,
+  span-from-reads.Asked,
+  span-from-reads.Learnt,
   present-reads.Asked,
   present-reads.Learnt,
   block-below t,
   block.Post,
-  span-from-reads.Asked,
-  span-from-reads.Learnt,
   end-before-reads.Asked,
   end-before-reads.Learnt,
   put-span-reads.Asked,
@@ -1369,22 +1309,22 @@ ending-returns-2 : (t : ℕ) → ending-lts.Need-returns-2 (
   kind-reads.Learnt,
   clause-reads.Asked,
   clause-reads.Learnt,
+  span-from-reads.Asked,
+  span-from-reads.Learnt,
   present-reads.Asked,
   present-reads.Learnt,
   block-below t,
   block.Post,
-  span-from-reads.Asked,
-  span-from-reads.Learnt,
   end-before-reads.Asked,
   end-before-reads.Learnt,
   put-span-reads.Asked,
   put-span-reads.Learnt,
 ) (ending-at t) ending.Post
-ending-returns-2 t c = let w = c .before .before .before .before .before .before .before .before .before .before .args .tokens .now in
-    let at₀ = c .before .before .before .before .before .before .before .before .before .before .args .at in
-    let left₀ = c .before .before .before .before .before .before .before .before .before .before .args .left in
-    let pre₀ = c .before .before .before .before .before .before .before .before .before .before .pre .1 in
-    let k₁₃ : getD w at₀ 0 ≡ 13 = sym (c .before .before .before .before .before .before .before .kind .ensures) ∙ c .before .before .before .before .before .before .if1 .left in
+ending-returns-2 t c = let w = c .before .before .before .before .before .before .before .before .before .before .before .args .tokens .now in
+    let at₀ = c .before .before .before .before .before .before .before .before .before .before .before .args .at in
+    let left₀ = c .before .before .before .before .before .before .before .before .before .before .before .args .left in
+    let pre₀ = c .before .before .before .before .before .before .before .before .before .before .before .pre .1 in
+    let k₁₃ : getD w at₀ 0 ≡ 13 = sym (c .before .before .before .before .before .before .before .before .kind .ensures) ∙ c .before .before .before .before .before .before .before .if1 .left in
     is-no (c .enum-told .given .1) (λ p s st f cs. end-start _ _ (pre₀ .0) _ p s st f cs (ready-next _ _ (pre₀ .0) (other _ _ _ k₁₃ refl)) k₁₃
     ∙ c .before .before .before .before .clause2 .ensures .no _ _ _ _ _ (c .enum-told .given .1) (inArgument p s st f cs (getD w (at₀ + 6 + 4) 0)) (λ (g : Terms) (e : ℕ). blocked left₀ p s st f cs (getD w (at₀ + 6 + 4) 0) g) (λ h t y z. refl))
 
@@ -1394,12 +1334,12 @@ ending-kind-requires-2 : (t : ℕ) → ending-lts.Need-kind-requires-2 (
   kind-reads.Learnt,
   clause-reads.Asked,
   clause-reads.Learnt,
+  span-from-reads.Asked,
+  span-from-reads.Learnt,
   present-reads.Asked,
   present-reads.Learnt,
   block-below t,
   block.Post,
-  span-from-reads.Asked,
-  span-from-reads.Learnt,
   end-before-reads.Asked,
   end-before-reads.Learnt,
   put-span-reads.Asked,
@@ -1413,12 +1353,12 @@ ending-present-requires : (t : ℕ) → ending-lts.Need-present-requires (
   kind-reads.Learnt,
   clause-reads.Asked,
   clause-reads.Learnt,
+  span-from-reads.Asked,
+  span-from-reads.Learnt,
   present-reads.Asked,
   present-reads.Learnt,
   block-below t,
   block.Post,
-  span-from-reads.Asked,
-  span-from-reads.Learnt,
   end-before-reads.Asked,
   end-before-reads.Learnt,
   put-span-reads.Asked,
@@ -1432,12 +1372,12 @@ ending-same-length-3 : (t : ℕ) → ending-lts.Need-same-length-3 (
   kind-reads.Learnt,
   clause-reads.Asked,
   clause-reads.Learnt,
+  span-from-reads.Asked,
+  span-from-reads.Learnt,
   present-reads.Asked,
   present-reads.Learnt,
   block-below t,
   block.Post,
-  span-from-reads.Asked,
-  span-from-reads.Learnt,
   end-before-reads.Asked,
   end-before-reads.Learnt,
   put-span-reads.Asked,
@@ -1451,23 +1391,23 @@ ending-returns-3 : (t : ℕ) → ending-lts.Need-returns-3 (
   kind-reads.Learnt,
   clause-reads.Asked,
   clause-reads.Learnt,
+  span-from-reads.Asked,
+  span-from-reads.Learnt,
   present-reads.Asked,
   present-reads.Learnt,
   block-below t,
   block.Post,
-  span-from-reads.Asked,
-  span-from-reads.Learnt,
   end-before-reads.Asked,
   end-before-reads.Learnt,
   put-span-reads.Asked,
   put-span-reads.Learnt,
 ) (ending-at t) ending.Post
-ending-returns-3 t c = let w = c .before .before .before .before .before .before .before .before .before .before .before .before .before .before .args .tokens .now in
-    let at₀ = c .before .before .before .before .before .before .before .before .before .before .before .before .before .before .args .at in
-    let left₀ = c .before .before .before .before .before .before .before .before .before .before .before .before .before .before .args .left in
-    let pre₀ = c .before .before .before .before .before .before .before .before .before .before .before .before .before .before .pre .1 in
+ending-returns-3 t c = let w = c .before .before .before .before .before .before .before .before .before .before .before .before .before .before .before .args .tokens .now in
+    let at₀ = c .before .before .before .before .before .before .before .before .before .before .before .before .before .before .before .args .at in
+    let left₀ = c .before .before .before .before .before .before .before .before .before .before .before .before .before .before .before .args .left in
+    let pre₀ = c .before .before .before .before .before .before .before .before .before .before .before .before .before .before .before .pre .1 in
     let K = c .before .before .before .before .before .before .before .before .clause2 .ensures .at _ _ (c .before .before .before .before .r .given .1) in
-    let k₁₃ : getD w at₀ 0 ≡ 13 = sym (c .before .before .before .before .before .before .before .before .before .before .before .kind .ensures) ∙ c .before .before .before .before .before .before .before .before .before .before .if1 .left in
+    let k₁₃ : getD w at₀ 0 ≡ 13 = sym (c .before .before .before .before .before .before .before .before .before .before .before .before .kind .ensures) ∙ c .before .before .before .before .before .before .before .before .before .before .before .if1 .left in
     is-no (c .present .ensures) (λ p s st f cs. end-start _ _ (pre₀ .0) _ p s st f cs (ready-next _ _ (pre₀ .0) (other _ _ _ k₁₃ refl)) k₁₃
     ∙ K .closed .means (inArgument p s st f cs (getD w (at₀ + 6 + 4) 0)) (λ (g : Terms) (e : ℕ). blocked left₀ p s st f cs (getD w (at₀ + 6 + 4) 0) g) (λ h t y z. refl)
     ∙ end-unopened _ _ (K .closed .ready) _ p s st f cs (getD w (at₀ + 6 + 4) 0) (K .g) (λ e. c .before .if2 .taken (c .before .before .kind2 .ensures
@@ -1479,20 +1419,20 @@ ending-block-requires : (t : ℕ) → ending-lts.Need-block-requires (
   kind-reads.Learnt,
   clause-reads.Asked,
   clause-reads.Learnt,
+  span-from-reads.Asked,
+  span-from-reads.Learnt,
   present-reads.Asked,
   present-reads.Learnt,
   block-below t,
   block.Post,
-  span-from-reads.Asked,
-  span-from-reads.Learnt,
   end-before-reads.Asked,
   end-before-reads.Learnt,
   put-span-reads.Asked,
   put-span-reads.Learnt,
 ) (ending-at t) ending.Post
-ending-block-requires t c κs = let w = c .before .before .before .before .before .before .before .before .before .before .before .before .before .before .args .tokens .now in
+ending-block-requires t c κs = let w = c .before .before .before .before .before .before .before .before .before .before .before .before .before .before .before .args .tokens .now in
     let j₁ = c .before .before .before .before .r .given .0 .0 in
-    let pre₀ = c .before .before .before .before .before .before .before .before .before .before .before .before .before .before .pre .1 in
+    let pre₀ = c .before .before .before .before .before .before .before .before .before .before .before .before .before .before .before .pre .1 in
     let K = c .before .before .before .before .before .before .before .before .clause2 .ensures .at _ _ (c .before .before .before .before .r .given .1) in
     let R = K .closed .ready in
     let o = K .closed .on in
@@ -1505,12 +1445,12 @@ ending-enum-known-r2 : (t : ℕ) → ending-lts.Need-enum-known-r2 (
   kind-reads.Learnt,
   clause-reads.Asked,
   clause-reads.Learnt,
+  span-from-reads.Asked,
+  span-from-reads.Learnt,
   present-reads.Asked,
   present-reads.Learnt,
   block-below t,
   block.Post,
-  span-from-reads.Asked,
-  span-from-reads.Learnt,
   end-before-reads.Asked,
   end-before-reads.Learnt,
   put-span-reads.Asked,
@@ -1524,12 +1464,12 @@ ending-enum-told-2 : (t : ℕ) → ending-lts.Need-enum-told-2 (
   kind-reads.Learnt,
   clause-reads.Asked,
   clause-reads.Learnt,
+  span-from-reads.Asked,
+  span-from-reads.Learnt,
   present-reads.Asked,
   present-reads.Learnt,
   block-below t,
   block.Post,
-  span-from-reads.Asked,
-  span-from-reads.Learnt,
   end-before-reads.Asked,
   end-before-reads.Learnt,
   put-span-reads.Asked,
@@ -1543,12 +1483,12 @@ ending-same-length-4 : (t : ℕ) → ending-lts.Need-same-length-4 (
   kind-reads.Learnt,
   clause-reads.Asked,
   clause-reads.Learnt,
+  span-from-reads.Asked,
+  span-from-reads.Learnt,
   present-reads.Asked,
   present-reads.Learnt,
   block-below t,
   block.Post,
-  span-from-reads.Asked,
-  span-from-reads.Learnt,
   end-before-reads.Asked,
   end-before-reads.Learnt,
   put-span-reads.Asked,
@@ -1562,24 +1502,24 @@ ending-returns-4 : (t : ℕ) → ending-lts.Need-returns-4 (
   kind-reads.Learnt,
   clause-reads.Asked,
   clause-reads.Learnt,
+  span-from-reads.Asked,
+  span-from-reads.Learnt,
   present-reads.Asked,
   present-reads.Learnt,
   block-below t,
   block.Post,
-  span-from-reads.Asked,
-  span-from-reads.Learnt,
   end-before-reads.Asked,
   end-before-reads.Learnt,
   put-span-reads.Asked,
   put-span-reads.Learnt,
 ) (ending-at t) ending.Post
-ending-returns-4 t c = let w = c .before .before .before .before .before .before .before .before .before .before .before .before .before .before .before .before .before .before .before .args .tokens .now in
+ending-returns-4 t c = let w = c .before .before .before .before .before .before .before .before .before .before .before .before .before .before .before .before .before .before .before .before .args .tokens .now in
     let j₁ = c .before .before .before .before .before .before .before .before .before .r .given .0 .0 in
-    let at₀ = c .before .before .before .before .before .before .before .before .before .before .before .before .before .before .before .before .before .before .before .args .at in
-    let left₀ = c .before .before .before .before .before .before .before .before .before .before .before .before .before .before .before .before .before .before .before .args .left in
-    let pre₀ = c .before .before .before .before .before .before .before .before .before .before .before .before .before .before .before .before .before .before .before .pre .1 in
+    let at₀ = c .before .before .before .before .before .before .before .before .before .before .before .before .before .before .before .before .before .before .before .before .args .at in
+    let left₀ = c .before .before .before .before .before .before .before .before .before .before .before .before .before .before .before .before .before .before .before .before .args .left in
+    let pre₀ = c .before .before .before .before .before .before .before .before .before .before .before .before .before .before .before .before .before .before .before .before .pre .1 in
     let K = c .before .before .before .before .before .before .before .before .before .before .before .before .before .clause2 .ensures .at _ _ (c .before .before .before .before .before .before .before .before .before .r .given .1) in
-    let k₁₃ : getD w at₀ 0 ≡ 13 = sym (c .before .before .before .before .before .before .before .before .before .before .before .before .before .before .before .before .kind .ensures) ∙ c .before .before .before .before .before .before .before .before .before .before .before .before .before .before .before .if1 .left in
+    let k₁₃ : getD w at₀ 0 ≡ 13 = sym (c .before .before .before .before .before .before .before .before .before .before .before .before .before .before .before .before .before .kind .ensures) ∙ c .before .before .before .before .before .before .before .before .before .before .before .before .before .before .before .before .if1 .left in
     let k₇ : getD w j₁ 0 ≡ 7 = sym (c .before .before .before .before .before .before .before .kind2 .ensures) ∙ c .before .before .before .before .before .before .if2 .left in
     is-no (c .enum-told2 .given .1) (λ p s st f cs. end-start _ _ (pre₀ .0) _ p s st f cs (ready-next _ _ (pre₀ .0) (other _ _ _ k₁₃ refl)) k₁₃
     ∙ K .closed .means (inArgument p s st f cs (getD w (at₀ + 6 + 4) 0)) (λ (g : Terms) (e : ℕ). blocked left₀ p s st f cs (getD w (at₀ + 6 + 4) 0) g) (λ h t y z. refl)
@@ -1592,12 +1532,12 @@ ending-kind-requires-3 : (t : ℕ) → ending-lts.Need-kind-requires-3 (
   kind-reads.Learnt,
   clause-reads.Asked,
   clause-reads.Learnt,
+  span-from-reads.Asked,
+  span-from-reads.Learnt,
   present-reads.Asked,
   present-reads.Learnt,
   block-below t,
   block.Post,
-  span-from-reads.Asked,
-  span-from-reads.Learnt,
   end-before-reads.Asked,
   end-before-reads.Learnt,
   put-span-reads.Asked,
@@ -1611,12 +1551,12 @@ ending-present-requires-2 : (t : ℕ) → ending-lts.Need-present-requires-2 (
   kind-reads.Learnt,
   clause-reads.Asked,
   clause-reads.Learnt,
+  span-from-reads.Asked,
+  span-from-reads.Learnt,
   present-reads.Asked,
   present-reads.Learnt,
   block-below t,
   block.Post,
-  span-from-reads.Asked,
-  span-from-reads.Learnt,
   end-before-reads.Asked,
   end-before-reads.Learnt,
   put-span-reads.Asked,
@@ -1630,12 +1570,12 @@ ending-same-length-5 : (t : ℕ) → ending-lts.Need-same-length-5 (
   kind-reads.Learnt,
   clause-reads.Asked,
   clause-reads.Learnt,
+  span-from-reads.Asked,
+  span-from-reads.Learnt,
   present-reads.Asked,
   present-reads.Learnt,
   block-below t,
   block.Post,
-  span-from-reads.Asked,
-  span-from-reads.Learnt,
   end-before-reads.Asked,
   end-before-reads.Learnt,
   put-span-reads.Asked,
@@ -1649,26 +1589,26 @@ ending-returns-5 : (t : ℕ) → ending-lts.Need-returns-5 (
   kind-reads.Learnt,
   clause-reads.Asked,
   clause-reads.Learnt,
+  span-from-reads.Asked,
+  span-from-reads.Learnt,
   present-reads.Asked,
   present-reads.Learnt,
   block-below t,
   block.Post,
-  span-from-reads.Asked,
-  span-from-reads.Learnt,
   end-before-reads.Asked,
   end-before-reads.Learnt,
   put-span-reads.Asked,
   put-span-reads.Learnt,
 ) (ending-at t) ending.Post
-ending-returns-5 t c = let w = c .before .before .before .before .before .before .before .before .before .before .before .before .before .before .before .before .before .before .before .before .before .before .before .args .tokens .now in
+ending-returns-5 t c = let w = c .before .before .before .before .before .before .before .before .before .before .before .before .before .before .before .before .before .before .before .before .before .before .before .before .args .tokens .now in
     let j₁ = c .before .before .before .before .before .before .before .before .before .before .before .before .before .r .given .0 .0 in
     let j₂ = c .before .before .before .before .r2 .given .0 .0 in
-    let at₀ = c .before .before .before .before .before .before .before .before .before .before .before .before .before .before .before .before .before .before .before .before .before .before .before .args .at in
-    let left₀ = c .before .before .before .before .before .before .before .before .before .before .before .before .before .before .before .before .before .before .before .before .before .before .before .args .left in
-    let pre₀ = c .before .before .before .before .before .before .before .before .before .before .before .before .before .before .before .before .before .before .before .before .before .before .before .pre .1 in
+    let at₀ = c .before .before .before .before .before .before .before .before .before .before .before .before .before .before .before .before .before .before .before .before .before .before .before .before .args .at in
+    let left₀ = c .before .before .before .before .before .before .before .before .before .before .before .before .before .before .before .before .before .before .before .before .before .before .before .before .args .left in
+    let pre₀ = c .before .before .before .before .before .before .before .before .before .before .before .before .before .before .before .before .before .before .before .before .before .before .before .before .pre .1 in
     let K = c .before .before .before .before .before .before .before .before .before .before .before .before .before .before .before .before .before .clause2 .ensures .at _ _ (c .before .before .before .before .before .before .before .before .before .before .before .before .before .r .given .1) in
     let B = c .before .before .before .before .before .before .before .before .block .ensures .at _ _ (c .before .before .before .before .r2 .given .1) in
-    let k₁₃ : getD w at₀ 0 ≡ 13 = sym (c .before .before .before .before .before .before .before .before .before .before .before .before .before .before .before .before .before .before .before .before .kind .ensures) ∙ c .before .before .before .before .before .before .before .before .before .before .before .before .before .before .before .before .before .before .before .if1 .left in
+    let k₁₃ : getD w at₀ 0 ≡ 13 = sym (c .before .before .before .before .before .before .before .before .before .before .before .before .before .before .before .before .before .before .before .before .before .kind .ensures) ∙ c .before .before .before .before .before .before .before .before .before .before .before .before .before .before .before .before .before .before .before .before .if1 .left in
     let k₇ : getD w j₁ 0 ≡ 7 = sym (c .before .before .before .before .before .before .before .before .before .before .before .kind2 .ensures) ∙ c .before .before .before .before .before .before .before .before .before .before .if2 .left in
     is-no (c .present2 .ensures) (λ p s st f cs. end-start _ _ (pre₀ .0) _ p s st f cs (ready-next _ _ (pre₀ .0) (other _ _ _ k₁₃ refl)) k₁₃
     ∙ K .closed .means (inArgument p s st f cs (getD w (at₀ + 6 + 4) 0)) (λ (g : Terms) (e : ℕ). blocked left₀ p s st f cs (getD w (at₀ + 6 + 4) 0) g) (λ h t y z. refl)
@@ -1684,21 +1624,21 @@ ending-span-from-requires : (t : ℕ) → ending-lts.Need-span-from-requires (
   kind-reads.Learnt,
   clause-reads.Asked,
   clause-reads.Learnt,
+  span-from-reads.Asked,
+  span-from-reads.Learnt,
   present-reads.Asked,
   present-reads.Learnt,
   block-below t,
   block.Post,
-  span-from-reads.Asked,
-  span-from-reads.Learnt,
   end-before-reads.Asked,
   end-before-reads.Learnt,
   put-span-reads.Asked,
   put-span-reads.Learnt,
 ) (ending-at t) ending.Post
-ending-span-from-requires t c κs = let w = c .before .before .before .before .before .before .before .before .before .before .before .before .before .before .before .before .before .before .before .before .before .before .before .args .tokens .now in
-    let at₀ = c .before .before .before .before .before .before .before .before .before .before .before .before .before .before .before .before .before .before .before .before .before .before .before .args .at in
-    let pre₀ = c .before .before .before .before .before .before .before .before .before .before .before .before .before .before .before .before .before .before .before .before .before .before .before .pre .1 in
-    let k₁₃ : getD w at₀ 0 ≡ 13 = sym (c .before .before .before .before .before .before .before .before .before .before .before .before .before .before .before .before .before .before .before .before .kind .ensures) ∙ c .before .before .before .before .before .before .before .before .before .before .before .before .before .before .before .before .before .before .before .if1 .left in (ready-next _ _ (pre₀ .0) (other _ _ _ k₁₃ refl))
+ending-span-from-requires t c κs = let w = c .before .before .before .before .args .tokens .now in
+    let at₀ = c .before .before .before .before .args .at in
+    let pre₀ = c .before .before .before .before .pre .1 in
+    let k₁₃ : getD w at₀ 0 ≡ 13 = sym (c .before .kind .ensures) ∙ c .if1 .left in (ready-next _ _ (pre₀ .0) (other _ _ _ k₁₃ refl))
 
 -- src/block.rt:83:69
 ending-end-before-requires : (t : ℕ) → ending-lts.Need-end-before-requires (
@@ -1706,18 +1646,18 @@ ending-end-before-requires : (t : ℕ) → ending-lts.Need-end-before-requires (
   kind-reads.Learnt,
   clause-reads.Asked,
   clause-reads.Learnt,
+  span-from-reads.Asked,
+  span-from-reads.Learnt,
   present-reads.Asked,
   present-reads.Learnt,
   block-below t,
   block.Post,
-  span-from-reads.Asked,
-  span-from-reads.Learnt,
   end-before-reads.Asked,
   end-before-reads.Learnt,
   put-span-reads.Asked,
   put-span-reads.Learnt,
 ) (ending-at t) ending.Post
-ending-end-before-requires t c κs = let B = c .before .before .before .before .before .before .before .before .before .block .ensures .at _ _ (c .before .before .before .before .before .r2 .given .1) in
+ending-end-before-requires t c κs = let B = c .before .before .before .before .before .before .before .block .ensures .at _ _ (c .before .before .before .r2 .given .1) in
     let Z = B .ready in let q = B .on in let v = B .few in (B .ready, omega arith)
 
 -- src/block.rt:83:5
@@ -1726,19 +1666,19 @@ ending-put-span-requires : (t : ℕ) → ending-lts.Need-put-span-requires (
   kind-reads.Learnt,
   clause-reads.Asked,
   clause-reads.Learnt,
+  span-from-reads.Asked,
+  span-from-reads.Learnt,
   present-reads.Asked,
   present-reads.Learnt,
   block-below t,
   block.Post,
-  span-from-reads.Asked,
-  span-from-reads.Learnt,
   end-before-reads.Asked,
   end-before-reads.Learnt,
   put-span-reads.Asked,
   put-span-reads.Learnt,
 ) (ending-at t) ending.Post
 ending-put-span-requires t c κs = let pre₀ = c .before .before .before .before .before .before .before .before .before .before .before .before .before .before .before .before .before .before .before .before .before .before .before .before .before .pre .1 in
-    let B = c .before .before .before .before .before .before .before .before .before .before .block .ensures .at _ _ (c .before .before .before .before .before .before .r2 .given .1) in
+    let B = c .before .before .before .before .before .before .before .before .before .block .ensures .at _ _ (c .before .before .before .before .before .r2 .given .1) in
     let Z = B .ready in let q = B .on in let v = B .few in let h = pre₀ .1 in let g = pre₀ .0 in (omega arith, omega arith)
 
 -- src/block.rt:84:16
@@ -1747,18 +1687,18 @@ ending-add-next : (t : ℕ) → ending-lts.Need-add-next (
   kind-reads.Learnt,
   clause-reads.Asked,
   clause-reads.Learnt,
+  span-from-reads.Asked,
+  span-from-reads.Learnt,
   present-reads.Asked,
   present-reads.Learnt,
   block-below t,
   block.Post,
-  span-from-reads.Asked,
-  span-from-reads.Learnt,
   end-before-reads.Asked,
   end-before-reads.Learnt,
   put-span-reads.Asked,
   put-span-reads.Learnt,
 ) (ending-at t) ending.Post
-ending-add-next t c = let B = c .before .before .before .before .before .before .before .before .before .before .before .before .before .block .ensures .at _ _ (c .before .before .before .before .before .before .before .before .before .r2 .given .1) in let Z = B .ready in let q = B .on in let v = B .few in omega arith
+ending-add-next t c = let B = c .before .before .before .before .before .before .before .before .before .before .before .before .block .ensures .at _ _ (c .before .before .before .before .before .before .before .before .r2 .given .1) in let Z = B .ready in let q = B .on in let v = B .few in omega arith
 
 -- src/block.rt:60:1
 ending-same-length-6 : (t : ℕ) → ending-lts.Need-same-length-6 (
@@ -1766,12 +1706,12 @@ ending-same-length-6 : (t : ℕ) → ending-lts.Need-same-length-6 (
   kind-reads.Learnt,
   clause-reads.Asked,
   clause-reads.Learnt,
+  span-from-reads.Asked,
+  span-from-reads.Learnt,
   present-reads.Asked,
   present-reads.Learnt,
   block-below t,
   block.Post,
-  span-from-reads.Asked,
-  span-from-reads.Learnt,
   end-before-reads.Asked,
   end-before-reads.Learnt,
   put-span-reads.Asked,
@@ -1785,35 +1725,38 @@ ending-returns-6 : (t : ℕ) → ending-lts.Need-returns-6 (
   kind-reads.Learnt,
   clause-reads.Asked,
   clause-reads.Learnt,
+  span-from-reads.Asked,
+  span-from-reads.Learnt,
   present-reads.Asked,
   present-reads.Learnt,
   block-below t,
   block.Post,
-  span-from-reads.Asked,
-  span-from-reads.Learnt,
   end-before-reads.Asked,
   end-before-reads.Learnt,
   put-span-reads.Asked,
   put-span-reads.Learnt,
 ) (ending-at t) ending.Post
 ending-returns-6 t c = let w = c .before .before .before .before .before .before .before .before .before .before .before .before .before .before .before .before .before .before .before .before .before .before .before .before .before .before .before .before .args .tokens .now in
-    let j₁ = c .before .before .before .before .before .before .before .before .before .before .before .before .before .before .before .before .before .before .r .given .0 .0 in
-    let j₂ = c .before .before .before .before .before .before .before .before .before .r2 .given .0 .0 in
+    let b₀ = c .before .before .before .before .before .before .before .before .before .before .before .before .before .before .before .before .before .before .before .before .before .before .before .before .before .before .before .before .args .rows .now in
+    let j₁ = c .before .before .before .before .before .before .before .before .before .before .before .before .before .before .before .before .before .r .given .0 .0 in
+    let j₂ = c .before .before .before .before .before .before .before .before .r2 .given .0 .0 in
     let at₀ = c .before .before .before .before .before .before .before .before .before .before .before .before .before .before .before .before .before .before .before .before .before .before .before .before .before .before .before .before .args .at in
     let left₀ = c .before .before .before .before .before .before .before .before .before .before .before .before .before .before .before .before .before .before .before .before .before .before .before .before .before .before .before .before .args .left in
+    let n₀ = c .before .before .before .before .before .before .before .before .before .before .before .before .before .before .before .before .before .before .before .before .before .before .before .before .before .before .before .before .args .n in
     let pre₀ = c .before .before .before .before .before .before .before .before .before .before .before .before .before .before .before .before .before .before .before .before .before .before .before .before .before .before .before .before .pre .1 in
-    let K = c .before .before .before .before .before .before .before .before .before .before .before .before .before .before .before .before .before .before .before .before .before .before .clause2 .ensures .at _ _ (c .before .before .before .before .before .before .before .before .before .before .before .before .before .before .before .before .before .before .r .given .1) in
-    let B = c .before .before .before .before .before .before .before .before .before .before .before .before .before .block .ensures .at _ _ (c .before .before .before .before .before .before .before .before .before .r2 .given .1) in
+    let K = c .before .before .before .before .before .before .before .before .before .before .before .before .before .before .before .before .before .before .before .before .before .clause2 .ensures .at _ _ (c .before .before .before .before .before .before .before .before .before .before .before .before .before .before .before .before .before .r .given .1) in
+    let B = c .before .before .before .before .before .before .before .before .before .before .before .before .block .ensures .at _ _ (c .before .before .before .before .before .before .before .before .r2 .given .1) in
     let k₁₃ : getD w at₀ 0 ≡ 13 = sym (c .before .before .before .before .before .before .before .before .before .before .before .before .before .before .before .before .before .before .before .before .before .before .before .before .before .kind .ensures) ∙ c .before .before .before .before .before .before .before .before .before .before .before .before .before .before .before .before .before .before .before .before .before .before .before .before .if1 .left in
-    let k₇ : getD w j₁ 0 ≡ 7 = sym (c .before .before .before .before .before .before .before .before .before .before .before .before .before .before .before .before .kind2 .ensures) ∙ c .before .before .before .before .before .before .before .before .before .before .before .before .before .before .before .if2 .left in
-    let k₁₆ : getD w j₂ 0 ≡ 16 = sym (c .before .before .before .before .before .before .before .kind3 .ensures) ∙ c .before .before .before .before .before .before .if3 .left in
+    let k₇ : getD w j₁ 0 ≡ 7 = sym (c .before .before .before .before .before .before .before .before .before .before .before .before .before .before .before .kind2 .ensures) ∙ c .before .before .before .before .before .before .before .before .before .before .before .before .before .before .if2 .left in
+    let k₁₆ : getD w j₂ 0 ≡ 16 = sym (c .before .before .before .before .before .before .kind3 .ensures) ∙ c .before .before .before .before .before .if3 .left in
     is-at refl (record {
       x = endBlock (getD w (at₀ + 6 + 4) 0) (K .g) (B .v) (B .t .to);
       e = getD w (j₂ + 5) 0;
       ready = ready-next _ _ (B .ready) (other _ _ _ k₁₆ refl);
       on = let o = K .closed .on in let q = B .on in omega arith;
       few = let v = B .few in omega arith;
-      rows = let h₁ = K .rows in let h₂ = B .rows in let h₃ = K .count in let h₄ = B .count in let h₅ = B .last in cc;
+      rows = block-ending n₀ (K .g) b₀ (c .before .before .before .before .before .before .before .before .before .before .before .before .before .before .before .before .before .before .before .before .before .before .before .span-from .ensures) (c .before .before .before .before .end-before .ensures
+          ∙ sym (B .last)) (K .rows) (K .count) (B .v) (B .rows) (B .count) (c .before .before .put-span .ensures);
       count = let h₃ = K .count in let h₄ = B .count in omega arith;
       last = end-before w j₂;
       means = λ p s st f cs. end-start _ _ (pre₀ .0) _ p s st f cs (ready-next _ _ (pre₀ .0) (other _ _ _ k₁₃ refl)) k₁₃
@@ -2299,7 +2242,7 @@ sentence-span-from-requires : (t : ℕ) → sentence-lts.Need-span-from-requires
   put-span-reads.Asked,
   put-span-reads.Learnt,
 ) (sentence-at t) sentence.Post sentence-Inv-loop sentence-μ-loop
-sentence-span-from-requires t c κs = let pre₀ = c .before .before .before .before .before .before .before .before .before .before .before .before .before .before .before .before .before .before .before .before .pre .1 in
+sentence-span-from-requires t c κs = let pre₀ = c .before .before .before .before .before .before .before .before .before .before .before .before .before .before .before .before .before .before .before .pre .1 in
     pre₀ .0
 
 -- src/block.rt:113:62
@@ -2319,7 +2262,7 @@ sentence-end-before-requires : (t : ℕ) → sentence-lts.Need-end-before-requir
   put-span-reads.Asked,
   put-span-reads.Learnt,
 ) (sentence-at t) sentence.Post sentence-Inv-loop sentence-μ-loop
-sentence-end-before-requires t c κs = let N = c .before .before .before .before .before .before .before .ending .ensures .at _ _ (c .before .before .before .r3 .given .1) in let q = N .on in (N .ready, omega arith)
+sentence-end-before-requires t c κs = let N = c .before .before .before .before .before .before .ending .ensures .at _ _ (c .before .before .r3 .given .1) in let q = N .on in (N .ready, omega arith)
 
 -- src/block.rt:113:5
 sentence-put-span-requires : (t : ℕ) → sentence-lts.Need-put-span-requires (
@@ -2439,14 +2382,14 @@ pub +block+condition+ending+sentence-spec : {M : Type 1} → statement M
     (block-same-length-3 t)
     (block-returns-4 t))
     (λ t. condition-lts.spec (
+      span-from-reads.Asked,
+      span-from-reads.Learnt,
       clause-reads.Asked,
       clause-reads.Learnt,
       kind-reads.Asked,
       kind-reads.Learnt,
       block-below t,
       block.Post,
-      span-from-reads.Asked,
-      span-from-reads.Learnt,
       end-before-reads.Asked,
       end-before-reads.Learnt,
       put-span-reads.Asked,
@@ -2459,6 +2402,7 @@ pub +block+condition+ending+sentence-spec : {M : Type 1} → statement M
     (condition-at t)
     condition.Post
     (condition-add-start t)
+    (condition-span-from-requires t)
     (condition-add-first t)
     (condition-clause-requires t)
     (condition-enum-known-r t)
@@ -2472,11 +2416,8 @@ pub +block+condition+ending+sentence-spec : {M : Type 1} → statement M
     (condition-enum-told-2 t)
     (condition-same-length-2 t)
     (condition-returns-2 t)
-    (condition-span-from-requires t)
     (condition-end-before-requires t)
     (condition-put-span-requires t)
-    (condition-span-from-requires-2 t)
-    (condition-end-before-requires-2 t)
     (condition-put-span-requires-2 t)
     (condition-joins-requires t)
     (condition-same-length-3 t)
@@ -2486,8 +2427,7 @@ pub +block+condition+ending+sentence-spec : {M : Type 1} → statement M
     (condition-enum-told-3 t)
     (condition-same-length-4 t)
     (condition-returns-4 t)
-    (condition-span-from-requires-3 t)
-    (condition-end-before-requires-3 t)
+    (condition-end-before-requires-2 t)
     (condition-put-span-requires-3 t)
     (condition-same-length-5 t)
     (condition-returns-5 t))
@@ -2496,12 +2436,12 @@ pub +block+condition+ending+sentence-spec : {M : Type 1} → statement M
       kind-reads.Learnt,
       clause-reads.Asked,
       clause-reads.Learnt,
+      span-from-reads.Asked,
+      span-from-reads.Learnt,
       present-reads.Asked,
       present-reads.Learnt,
       block-below t,
       block.Post,
-      span-from-reads.Asked,
-      span-from-reads.Learnt,
       end-before-reads.Asked,
       end-before-reads.Learnt,
       put-span-reads.Asked,
@@ -2514,6 +2454,7 @@ pub +block+condition+ending+sentence-spec : {M : Type 1} → statement M
     (ending-same-length t)
     (ending-returns t)
     (ending-add-start t)
+    (ending-span-from-requires t)
     (ending-add-first t)
     (ending-clause-requires-2 t)
     (ending-enum-known-r t)
@@ -2533,7 +2474,6 @@ pub +block+condition+ending+sentence-spec : {M : Type 1} → statement M
     (ending-present-requires-2 t)
     (ending-same-length-5 t)
     (ending-returns-5 t)
-    (ending-span-from-requires t)
     (ending-end-before-requires t)
     (ending-put-span-requires t)
     (ending-add-next t)

@@ -169,15 +169,15 @@ add-next c = let I = c .before .before .before .before .loop .inv in let R = I .
 
 -- src/items.rt:55:42
 span-from-requires : tie.Need-span-from-requires Inv-loop μ-loop
-span-from-requires c κs = let pre₀ = c .before .before .before .before .before .before .before .before .before .before .before .before .before .before .before .pre in
+span-from-requires c κs = let pre₀ = c .before .before .before .before .before .before .before .before .before .before .before .before .before .before .pre in
     pre₀ .0
 
 -- src/items.rt:55:65
 end-before-requires : tie.Need-end-before-requires Inv-loop μ-loop
-end-before-requires c κs = let w = c .before .before .before .before .before .before .before .before .before .before .before .before .before .before .before .before .args .tokens .now in
-    let i₀ = c .before .before .before .before .before .before .loop .i in
-    let I = c .before .before .before .before .before .before .loop .inv in
-    let k₁₆ : getD w i₀ 0 ≡ 16 = sym (c .before .before .before .kind2 .ensures) ∙ c .before .before .if2 .left in
+end-before-requires c κs = let w = c .before .before .before .before .before .before .before .before .before .before .before .before .before .before .before .args .tokens .now in
+    let i₀ = c .before .before .before .before .before .loop .i in
+    let I = c .before .before .before .before .before .loop .inv in
+    let k₁₆ : getD w i₀ 0 ≡ 16 = sym (c .before .before .kind2 .ensures) ∙ c .before .if2 .left in
     (ready-next _ _ (I .ready) (other _ _ _ k₁₆ refl), omega arith)
 
 -- src/items.rt:55:5

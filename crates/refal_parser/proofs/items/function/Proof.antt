@@ -82,22 +82,21 @@ returns-2 c = let w = c .before .before .before .before .before .before .before 
 
 -- src/items.rt:78:9
 text-start-requires : tie.Need-text-start-requires
-text-start-requires c κs = let pre₀ = c .before .before .before .before .before .before .before .before .before .before .before .before .pre in
+text-start-requires c κs = let pre₀ = c .before .before .before .before .before .before .before .before .before .before .before .pre in
     pre₀ .1
 
 -- src/items.rt:79:9
 text-len-requires : tie.Need-text-len-requires
-text-len-requires c κs = let pre₀ = c .before .before .before .before .before .before .before .before .before .before .before .before .before .pre in
+text-len-requires c κs = let pre₀ = c .before .before .before .before .before .before .before .before .before .before .before .before .pre in
     pre₀ .1
 
 -- src/items.rt:80:9
 span-from-requires : tie.Need-span-from-requires
-span-from-requires c κs = let pre₀ = c .before .before .before .before .before .before .before .before .before .before .before .before .before .before .pre in
-    pre₀ .0
+span-from-requires c κs = search needs
 
 -- src/items.rt:81:9
 end-before-requires : tie.Need-end-before-requires
-end-before-requires c κs = let B = c .before .before .before .before .before .before .before .before .before .block .ensures .at _ _ (c .before .before .before .before .before .r .given .1) in let q = B .on in (B .ready, omega arith)
+end-before-requires c κs = let B = c .before .before .before .before .before .before .before .before .block .ensures .at _ _ (c .before .before .before .before .r .given .1) in let q = B .on in (B .ready, omega arith)
 
 -- src/items.rt:73:5
 put-node-requires : tie.Need-put-node-requires

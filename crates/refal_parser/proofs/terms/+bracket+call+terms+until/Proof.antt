@@ -34,6 +34,7 @@ use Rattle.refal_parser.proofs.terms.+bracket+call+terms+until.Lts-unti
 use Rattle.refal_parser.proofs.answers.present.Reads as present-reads
 use Rattle.refal_parser.proofs.answers.taken.Reads as taken-reads
 use Rattle.refal_parser.proofs.nodes.put_node.Reads as put-node-reads
+use Rattle.refal_parser.proofs.nodes.put_span.Reads as put-span-reads
 use Rattle.refal_parser.proofs.nodes.put_symbol.Reads as put-symbol-reads
 use Rattle.refal_parser.proofs.nodes.put_variable.Reads as put-variable-reads
 use Rattle.refal_parser.proofs.terms.closes.Reads as closes-reads
@@ -93,8 +94,8 @@ bracket-present-requires : (t : ℕ) → bracket-lts.Need-present-requires (
   span-from-reads.Learnt,
   end-before-reads.Asked,
   end-before-reads.Learnt,
-  put-node-reads.Asked,
-  put-node-reads.Learnt,
+  put-span-reads.Asked,
+  put-span-reads.Learnt,
 ) (bracket-at t) bracket.Post
 bracket-present-requires t c κs = search needs
 
@@ -108,8 +109,8 @@ bracket-returns : (t : ℕ) → bracket-lts.Need-returns (
   span-from-reads.Learnt,
   end-before-reads.Asked,
   end-before-reads.Learnt,
-  put-node-reads.Asked,
-  put-node-reads.Learnt,
+  put-span-reads.Asked,
+  put-span-reads.Learnt,
 ) (bracket-at t) bracket.Post
 bracket-returns t c = let pre₀ = c .before .before .before .before .pre .1 in
     is-no (c .present .ensures) (λ x f. bracket-deep _ _ (pre₀ .0) _ x f (pre₀ .2) (c .before .if1 .taken))
@@ -124,8 +125,8 @@ bracket-add-body : (t : ℕ) → bracket-lts.Need-add-body (
   span-from-reads.Learnt,
   end-before-reads.Asked,
   end-before-reads.Learnt,
-  put-node-reads.Asked,
-  put-node-reads.Learnt,
+  put-span-reads.Asked,
+  put-span-reads.Learnt,
 ) (bracket-at t) bracket.Post
 bracket-add-body t c = let pre₀ = c .before .before .before .pre .1 in
     let R = (ready-term _ _ _ (pre₀ .0) (pre₀ .2) refl) in omega arith
@@ -140,8 +141,8 @@ bracket-add-first : (t : ℕ) → bracket-lts.Need-add-first (
   span-from-reads.Learnt,
   end-before-reads.Asked,
   end-before-reads.Learnt,
-  put-node-reads.Asked,
-  put-node-reads.Learnt,
+  put-span-reads.Asked,
+  put-span-reads.Learnt,
 ) (bracket-at t) bracket.Post
 bracket-add-first t c = let pre₀ = c .before .before .before .pre .1 in
     let R = (ready-term _ _ _ (pre₀ .0) (pre₀ .2) refl) in let h = pre₀ .1 in omega arith
@@ -156,8 +157,8 @@ bracket-sub-until : (t : ℕ) → bracket-lts.Need-sub-until (
   span-from-reads.Learnt,
   end-before-reads.Asked,
   end-before-reads.Learnt,
-  put-node-reads.Asked,
-  put-node-reads.Learnt,
+  put-span-reads.Asked,
+  put-span-reads.Learnt,
 ) (bracket-at t) bracket.Post
 bracket-sub-until t c = search needs
 
@@ -171,8 +172,8 @@ bracket-until-requires : (t : ℕ) → bracket-lts.Need-until-requires (
   span-from-reads.Learnt,
   end-before-reads.Asked,
   end-before-reads.Learnt,
-  put-node-reads.Asked,
-  put-node-reads.Learnt,
+  put-span-reads.Asked,
+  put-span-reads.Learnt,
 ) (bracket-at t) bracket.Post
 bracket-until-requires t c κs = let pre₀ = c .before .before .before .before .pre .1 in
     let R = (ready-term _ _ _ (pre₀ .0) (pre₀ .2) refl) in let h = pre₀ .1 in (omega arith, (R, omega arith, omega arith))
@@ -187,8 +188,8 @@ bracket-enum-known-r : (t : ℕ) → bracket-lts.Need-enum-known-r (
   span-from-reads.Learnt,
   end-before-reads.Asked,
   end-before-reads.Learnt,
-  put-node-reads.Asked,
-  put-node-reads.Learnt,
+  put-span-reads.Asked,
+  put-span-reads.Learnt,
 ) (bracket-at t) bracket.Post
 bracket-enum-known-r t c = search needs
 
@@ -202,8 +203,8 @@ bracket-enum-told : (t : ℕ) → bracket-lts.Need-enum-told (
   span-from-reads.Learnt,
   end-before-reads.Asked,
   end-before-reads.Learnt,
-  put-node-reads.Asked,
-  put-node-reads.Learnt,
+  put-span-reads.Asked,
+  put-span-reads.Learnt,
 ) (bracket-at t) bracket.Post
 bracket-enum-told t c = search needs
 
@@ -217,8 +218,8 @@ bracket-same-length : (t : ℕ) → bracket-lts.Need-same-length (
   span-from-reads.Learnt,
   end-before-reads.Asked,
   end-before-reads.Learnt,
-  put-node-reads.Asked,
-  put-node-reads.Learnt,
+  put-span-reads.Asked,
+  put-span-reads.Learnt,
 ) (bracket-at t) bracket.Post
 bracket-same-length t c = search needs
 
@@ -232,8 +233,8 @@ bracket-returns-2 : (t : ℕ) → bracket-lts.Need-returns-2 (
   span-from-reads.Learnt,
   end-before-reads.Asked,
   end-before-reads.Learnt,
-  put-node-reads.Asked,
-  put-node-reads.Learnt,
+  put-span-reads.Asked,
+  put-span-reads.Learnt,
 ) (bracket-at t) bracket.Post
 bracket-returns-2 t c = let w = c .before .before .before .before .before .before .before .before .before .args .tokens .now in
     let at₀ = c .before .before .before .before .before .before .before .before .before .args .at in
@@ -252,10 +253,10 @@ bracket-span-from-requires : (t : ℕ) → bracket-lts.Need-span-from-requires (
   span-from-reads.Learnt,
   end-before-reads.Asked,
   end-before-reads.Learnt,
-  put-node-reads.Asked,
-  put-node-reads.Learnt,
+  put-span-reads.Asked,
+  put-span-reads.Learnt,
 ) (bracket-at t) bracket.Post
-bracket-span-from-requires t c κs = let pre₀ = c .before .before .before .before .before .before .before .before .before .before .before .pre .1 in
+bracket-span-from-requires t c κs = let pre₀ = c .before .before .before .before .before .before .before .before .before .before .pre .1 in
     pre₀ .0
 
 -- src/terms.rt:136:70
@@ -268,13 +269,13 @@ bracket-end-before-requires : (t : ℕ) → bracket-lts.Need-end-before-requires
   span-from-reads.Learnt,
   end-before-reads.Asked,
   end-before-reads.Learnt,
-  put-node-reads.Asked,
-  put-node-reads.Learnt,
+  put-span-reads.Asked,
+  put-span-reads.Learnt,
 ) (bracket-at t) bracket.Post
-bracket-end-before-requires t c κs = let U = c .before .before .before .before .before .before .before .until .ensures .at _ _ (c .before .before .before .r .given .1) in let h = U .closed .on in (U .closed .ready, omega arith)
+bracket-end-before-requires t c κs = let U = c .before .before .before .before .before .before .until .ensures .at _ _ (c .before .before .r .given .1) in let h = U .closed .on in (U .closed .ready, omega arith)
 
 -- src/terms.rt:136:5
-bracket-put-node-requires : (t : ℕ) → bracket-lts.Need-put-node-requires (
+bracket-put-span-requires : (t : ℕ) → bracket-lts.Need-put-span-requires (
   present-reads.Asked,
   present-reads.Learnt,
   until-below t,
@@ -283,10 +284,10 @@ bracket-put-node-requires : (t : ℕ) → bracket-lts.Need-put-node-requires (
   span-from-reads.Learnt,
   end-before-reads.Asked,
   end-before-reads.Learnt,
-  put-node-reads.Asked,
-  put-node-reads.Learnt,
+  put-span-reads.Asked,
+  put-span-reads.Learnt,
 ) (bracket-at t) bracket.Post
-bracket-put-node-requires t c κs = let pre₀ = c .before .before .before .before .before .before .before .before .before .before .before .before .before .pre .1 in
+bracket-put-span-requires t c κs = let pre₀ = c .before .before .before .before .before .before .before .before .before .before .before .before .before .pre .1 in
     let U = c .before .before .before .before .before .before .before .before .until .ensures .at _ _ (c .before .before .before .before .r .given .1) in
     let R = U .closed .ready in let f = U .few in let h = pre₀ .1 in let g = pre₀ .0 in (omega arith, omega arith)
 
@@ -300,8 +301,8 @@ bracket-same-length-2 : (t : ℕ) → bracket-lts.Need-same-length-2 (
   span-from-reads.Learnt,
   end-before-reads.Asked,
   end-before-reads.Learnt,
-  put-node-reads.Asked,
-  put-node-reads.Learnt,
+  put-span-reads.Asked,
+  put-span-reads.Learnt,
 ) (bracket-at t) bracket.Post
 bracket-same-length-2 t c = search needs
 
@@ -315,8 +316,8 @@ bracket-returns-3 : (t : ℕ) → bracket-lts.Need-returns-3 (
   span-from-reads.Learnt,
   end-before-reads.Asked,
   end-before-reads.Learnt,
-  put-node-reads.Asked,
-  put-node-reads.Learnt,
+  put-span-reads.Asked,
+  put-span-reads.Learnt,
 ) (bracket-at t) bracket.Post
 bracket-returns-3 t c = let w = c .before .before .before .before .before .before .before .before .before .before .before .before .before .before .before .before .args .tokens .now in
     let j₁ = c .before .before .before .before .before .before .before .r .given .0 .0 in
@@ -701,7 +702,7 @@ call-text-start-requires : (t : ℕ) → call-lts.Need-text-start-requires (
   put-node-reads.Asked,
   put-node-reads.Learnt,
 ) (call-at t) call.Post
-call-text-start-requires t c κs = let pre₀ = c .before .before .before .before .before .before .before .before .before .before .before .before .before .pre .1 in
+call-text-start-requires t c κs = let pre₀ = c .before .before .before .before .before .before .before .before .before .before .before .before .pre .1 in
     (ready-term _ _ _ (pre₀ .0) (pre₀ .2) refl)
 
 -- src/terms.rt:164:9
@@ -725,7 +726,7 @@ call-text-len-requires : (t : ℕ) → call-lts.Need-text-len-requires (
   put-node-reads.Asked,
   put-node-reads.Learnt,
 ) (call-at t) call.Post
-call-text-len-requires t c κs = let pre₀ = c .before .before .before .before .before .before .before .before .before .before .before .before .before .before .pre .1 in
+call-text-len-requires t c κs = let pre₀ = c .before .before .before .before .before .before .before .before .before .before .before .before .before .pre .1 in
     (ready-term _ _ _ (pre₀ .0) (pre₀ .2) refl)
 
 -- src/terms.rt:165:9
@@ -749,7 +750,7 @@ call-span-from-requires : (t : ℕ) → call-lts.Need-span-from-requires (
   put-node-reads.Asked,
   put-node-reads.Learnt,
 ) (call-at t) call.Post
-call-span-from-requires t c κs = let pre₀ = c .before .before .before .before .before .before .before .before .before .before .before .before .before .before .before .pre .1 in
+call-span-from-requires t c κs = let pre₀ = c .before .before .before .before .before .before .before .before .before .before .before .before .before .before .pre .1 in
     pre₀ .0
 
 -- src/terms.rt:166:9
@@ -773,7 +774,7 @@ call-end-before-requires : (t : ℕ) → call-lts.Need-end-before-requires (
   put-node-reads.Asked,
   put-node-reads.Learnt,
 ) (call-at t) call.Post
-call-end-before-requires t c κs = let U = c .before .before .before .before .before .before .before .before .before .until .ensures .at _ _ (c .before .before .before .before .before .r .given .1) in let h = U .closed .on in (U .closed .ready, omega arith)
+call-end-before-requires t c κs = let U = c .before .before .before .before .before .before .before .before .until .ensures .at _ _ (c .before .before .before .before .r .given .1) in let h = U .closed .on in (U .closed .ready, omega arith)
 
 -- src/terms.rt:158:5
 call-put-node-requires : (t : ℕ) → call-lts.Need-put-node-requires (
@@ -956,7 +957,7 @@ terms-span-from-requires : (t : ℕ) → terms-lts.Need-span-from-requires (
   taken-reads.Asked,
   taken-reads.Learnt,
 ) (terms-at t) terms.Post terms-Inv-loop terms-μ-loop
-terms-span-from-requires t c κs = c .before .before .before .before .before .loop .inv .ready
+terms-span-from-requires t c κs = c .before .before .before .before .loop .inv .ready
 
 -- src/terms.rt:74:62
 terms-span-to-requires : (t : ℕ) → terms-lts.Need-span-to-requires (
@@ -977,7 +978,7 @@ terms-span-to-requires : (t : ℕ) → terms-lts.Need-span-to-requires (
   taken-reads.Asked,
   taken-reads.Learnt,
 ) (terms-at t) terms.Post terms-Inv-loop terms-μ-loop
-terms-span-to-requires t c κs = c .before .before .before .before .before .before .loop .inv .ready
+terms-span-to-requires t c κs = c .before .before .before .before .before .loop .inv .ready
 
 -- src/terms.rt:74:17
 terms-put-symbol-requires : (t : ℕ) → terms-lts.Need-put-symbol-requires (
@@ -1138,7 +1139,7 @@ terms-span-from-requires-2 : (t : ℕ) → terms-lts.Need-span-from-requires-2 (
   taken-reads.Asked,
   taken-reads.Learnt,
 ) (terms-at t) terms.Post terms-Inv-loop terms-μ-loop
-terms-span-from-requires-2 t c κs = c .before .before .before .before .before .loop .inv .ready
+terms-span-from-requires-2 t c κs = c .before .before .before .before .loop .inv .ready
 
 -- src/terms.rt:79:79
 terms-span-to-requires-2 : (t : ℕ) → terms-lts.Need-span-to-requires-2 (
@@ -1159,7 +1160,7 @@ terms-span-to-requires-2 : (t : ℕ) → terms-lts.Need-span-to-requires-2 (
   taken-reads.Asked,
   taken-reads.Learnt,
 ) (terms-at t) terms.Post terms-Inv-loop terms-μ-loop
-terms-span-to-requires-2 t c κs = c .before .before .before .before .before .before .loop .inv .ready
+terms-span-to-requires-2 t c κs = c .before .before .before .before .before .loop .inv .ready
 
 -- src/terms.rt:79:17
 terms-put-variable-requires : (t : ℕ) → terms-lts.Need-put-variable-requires (
@@ -1915,8 +1916,8 @@ pub +bracket+call+terms+until-spec : {M : Type 1} → statement M
   span-from-reads.Learnt,
   end-before-reads.Asked,
   end-before-reads.Learnt,
-  put-node-reads.Asked,
-  put-node-reads.Learnt,
+  put-span-reads.Asked,
+  put-span-reads.Learnt,
 )
     (bracket-at t)
     bracket.Post
@@ -1932,7 +1933,7 @@ pub +bracket+call+terms+until-spec : {M : Type 1} → statement M
     (bracket-returns-2 t)
     (bracket-span-from-requires t)
     (bracket-end-before-requires t)
-    (bracket-put-node-requires t)
+    (bracket-put-span-requires t)
     (bracket-same-length-2 t)
     (bracket-returns-3 t))
     (λ t. call-lts.spec (

@@ -1,52 +1,112 @@
--- `refal_tree::states::after` meets its contract: the table's rule, computed at each entry; past its ends no row may stand.
-use Prim.Native.Nat.{ℕ, _+_, _*_, _/_, _%_}
-use mathlib.Core.List.{List, [], _∷_}
-use mathlib.Core.Path.{_≡_, ap, sym, _∙_}
-use native.Mathlib.Omega.{arith}
-use Rattle.refal_rows.specs.Tests.{table-is}
-use Rattle.refal_tree.specs.States.{after}
-use Rattle.refal_tree.specs.Tables.{after-high-state, after-high-kind, after-index}
+-- `refal_tree::states::after` meets its contract: one case for each state.
+use borrow.Author.Tests.{ne-eqb}
 use borrow.Author.Needs.{needs}
 use Rattle.refal_tree.proofs.states.after.Statement.{statement}
 use Rattle.refal_tree.proofs.states.after.Tie as tie
 use Rattle.refal_tree.proofs.states.after.Reads as reads
 use Rattle.refal_tree.proofs.states.after.Lts as lts
+use Rattle.refal_tree.proofs.states.after_colon.Reads as after-colon-reads
+use Rattle.refal_tree.proofs.states.after_condition.Reads as after-condition-reads
+use Rattle.refal_tree.proofs.states.after_item.Reads as after-item-reads
+use Rattle.refal_tree.proofs.states.after_term.Reads as after-term-reads
+use Rattle.refal_tree.proofs.states.only.Reads as only-reads
 
-table : List ℕ
-table =
-    0 ∷ 0 ∷ 0 ∷ 0 ∷ 0 ∷ 0 ∷ 0 ∷ 0 ∷ 0 ∷ 0 ∷ 0 ∷ 0 ∷ 0 ∷ 0 ∷ 0 ∷ 0 ∷ 0 ∷ 1 ∷ 0 ∷ 1 ∷ 0 ∷ 0 ∷ 0 ∷ 0 ∷ 0 ∷ 0 ∷ 0 ∷ 0 ∷ 0 ∷ 0 ∷ 0 ∷ 0
-    ∷ 0 ∷ 0 ∷ 3 ∷ 0 ∷ 0 ∷ 0 ∷ 0 ∷ 0 ∷ 0 ∷ 0 ∷ 0 ∷ 0 ∷ 0 ∷ 0 ∷ 0 ∷ 0 ∷ 0 ∷ 0 ∷ 3 ∷ 0 ∷ 0 ∷ 0 ∷ 0 ∷ 0 ∷ 0 ∷ 0 ∷ 0 ∷ 0 ∷ 0 ∷ 0 ∷ 0 ∷ 0
-    ∷ 0 ∷ 0 ∷ 0 ∷ 0 ∷ 4 ∷ 0 ∷ 0 ∷ 0 ∷ 0 ∷ 0 ∷ 0 ∷ 0 ∷ 0 ∷ 0 ∷ 0 ∷ 0 ∷ 0 ∷ 0 ∷ 0 ∷ 0 ∷ 0 ∷ 0 ∷ 6 ∷ 0 ∷ 0 ∷ 0 ∷ 0 ∷ 0 ∷ 0 ∷ 0 ∷ 0 ∷ 0
-    ∷ 0 ∷ 0 ∷ 0 ∷ 0 ∷ 0 ∷ 6 ∷ 11 ∷ 11 ∷ 0 ∷ 0 ∷ 0 ∷ 0 ∷ 0 ∷ 0 ∷ 0 ∷ 0 ∷ 0 ∷ 0 ∷ 0 ∷ 0 ∷ 0 ∷ 0 ∷ 8 ∷ 0 ∷ 0 ∷ 0 ∷ 0 ∷ 0 ∷ 0 ∷ 0 ∷ 0 ∷ 0
-    ∷ 0 ∷ 0 ∷ 0 ∷ 0 ∷ 0 ∷ 0 ∷ 11 ∷ 0 ∷ 11 ∷ 0 ∷ 0 ∷ 0 ∷ 0 ∷ 0 ∷ 0 ∷ 0 ∷ 0 ∷ 0 ∷ 0 ∷ 0 ∷ 0 ∷ 0 ∷ 0 ∷ 0 ∷ 0 ∷ 9 ∷ 9 ∷ 9 ∷ 9 ∷ 9 ∷ 9 ∷ 0
-    ∷ 0 ∷ 0 ∷ 0 ∷ 0 ∷ 0 ∷ 0 ∷ 4 ∷ 0 ∷ 0 ∷ 0 ∷ 0 ∷ 0 ∷ 0 ∷ 0 ∷ 0 ∷ 0 ∷ 0 ∷ 0 ∷ 0 ∷ 0 ∷ 0 ∷ 0 ∷ 0 ∷ 0 ∷ 0 ∷ 0 ∷ 0 ∷ 0 ∷ 0 ∷ 0 ∷ 0 ∷ 0 ∷ []
+after-term-requires : tie.Need-after-term-requires
+after-term-requires c κs = search needs
 
 returns : tie.Need-returns
-returns c = let a = c .before .args in let h = c .if1 .taken in sym (after-high-state (a .st) (a .k) (omega arith))
+returns c = rw (c .before .if1 .taken) (c .after-term .ensures)
+
+after-condition-requires : tie.Need-after-condition-requires
+after-condition-requires c κs = search needs
 
 returns-2 : tie.Need-returns-2
-returns-2 c = let a = c .before .before .args in let h = c .if2 .taken in sym (after-high-kind (a .st) (a .k) (omega arith))
+returns-2 c = rw (c .before .if2 .taken) (c .after-condition .ensures)
 
-mul-at : tie.Need-mul-at
-mul-at c = search needs
-
-add-at : tie.Need-add-at
-add-at c = search needs
-
-cast-result : tie.Need-cast-result
-cast-result c = search needs
-
-mul-result : tie.Need-mul-result
-mul-result c = search needs
-
-array-read-result : tie.Need-array-read-result
-array-read-result c = search needs
+only-requires : tie.Need-only-requires
+only-requires c κs = search needs
 
 returns-3 : tie.Need-returns-3
-unfolding table
-returns-3 c = let a = c .before .before .args in table-is (λ (i : ℕ). after (i / 16) (i % 16)) table 192 tt (16 * a .st + a .k) (omega arith) ∙ after-index (a .st) (a .k) (omega arith)
+returns-3 c = rw (c .before .if3 .taken) (c .only .ensures)
+
+only-requires-2 : tie.Need-only-requires-2
+only-requires-2 c κs = search needs
+
+returns-4 : tie.Need-returns-4
+returns-4 c = rw (c .before .if4 .taken) (c .only2 .ensures)
+
+only-requires-3 : tie.Need-only-requires-3
+only-requires-3 c κs = search needs
+
+returns-5 : tie.Need-returns-5
+returns-5 c = rw (c .before .if5 .taken) (c .only3 .ensures)
+
+after-colon-requires : tie.Need-after-colon-requires
+after-colon-requires c κs = search needs
+
+returns-6 : tie.Need-returns-6
+returns-6 c = rw (c .before .if6 .taken) (c .after-colon .ensures)
+
+after-item-requires : tie.Need-after-item-requires
+after-item-requires c κs = search needs
+
+returns-7 : tie.Need-returns-7
+returns-7 c = rw (c .before .if7 .taken) (c .after-item .ensures)
+
+only-requires-4 : tie.Need-only-requires-4
+only-requires-4 c κs = search needs
+
+returns-8 : tie.Need-returns-8
+returns-8 c = rw (c .before .if8 .taken) (c .only4 .ensures)
+
+only-requires-5 : tie.Need-only-requires-5
+only-requires-5 c κs = search needs
+
+returns-9 : tie.Need-returns-9
+returns-9 c = rw (c .before .if9 .taken) (c .only5 .ensures)
+
+only-requires-6 : tie.Need-only-requires-6
+only-requires-6 c κs = search needs
+
+returns-10 : tie.Need-returns-10
+returns-10 c = rw (c .before .if10 .taken) (c .only6 .ensures)
+
+returns-11 : tie.Need-returns-11
+returns-11 c = rw (
+  ne-eqb _ _ (c .before .before .before .before .before .before .before .before .before .if1 .left),
+  ne-eqb _ _ (c .before .before .before .before .before .before .before .before .if2 .left),
+  ne-eqb _ _ (c .before .before .before .before .before .before .before .if3 .left),
+  ne-eqb _ _ (c .before .before .before .before .before .before .if4 .left),
+  ne-eqb _ _ (c .before .before .before .before .before .if5 .left),
+  ne-eqb _ _ (c .before .before .before .before .if6 .left),
+  ne-eqb _ _ (c .before .before .before .if7 .left),
+  ne-eqb _ _ (c .before .before .if8 .left),
+  ne-eqb _ _ (c .before .if9 .left),
+  ne-eqb _ _ (c .if10 .left),
+)
 
 pub after-spec : {M : Type 1} → statement M
 after-spec =
     tie.close
-    (tie.spec returns returns-2 mul-at add-at cast-result mul-result array-read-result returns-3)
+    (tie.spec
+    after-term-requires
+    returns
+    after-condition-requires
+    returns-2
+    only-requires
+    returns-3
+    only-requires-2
+    returns-4
+    only-requires-3
+    returns-5
+    after-colon-requires
+    returns-6
+    after-item-requires
+    returns-7
+    only-requires-4
+    returns-8
+    only-requires-5
+    returns-9
+    only-requires-6
+    returns-10
+    returns-11)

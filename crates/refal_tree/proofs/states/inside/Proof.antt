@@ -1,33 +1,62 @@
--- `refal_tree::states::inside` meets its contract: the table's rule, computed at each entry; a kind past its end has no children.
-use Prim.Native.Nat.{ℕ}
-use mathlib.Core.List.{List, [], _∷_}
-use mathlib.Core.Path.{_≡_, sym, _∙_}
-use native.Mathlib.Omega.{arith}
-use Rattle.refal_rows.specs.Tests.{table-is}
-use Rattle.refal_tree.specs.States.{inside}
-use Rattle.refal_tree.specs.Tables.{inside-high}
+-- `refal_tree::states::inside` meets its contract: one case for each kind that has children.
+use borrow.Author.Tests.{ne-eqb}
 use borrow.Author.Needs.{needs}
 use Rattle.refal_tree.proofs.states.inside.Statement.{statement}
 use Rattle.refal_tree.proofs.states.inside.Tie as tie
 use Rattle.refal_tree.proofs.states.inside.Reads as reads
 use Rattle.refal_tree.proofs.states.inside.Lts as lts
 
-table : List ℕ
-table =
-    11 ∷ 2 ∷ 11 ∷ 4 ∷ 5 ∷ 7 ∷ 9 ∷ 10 ∷ 4 ∷ 11 ∷ 11 ∷ 11 ∷ 11 ∷ 9 ∷ 9 ∷ 11 ∷ []
-
 returns : tie.Need-returns
-returns c = let a = c .before .args in let h = c .if1 .taken in sym (inside-high (a .k) (omega arith))
-
-mul-result : tie.Need-mul-result
-mul-result c = search needs
-
-array-read-result : tie.Need-array-read-result
-array-read-result c = search needs
+returns c = rw (c .if1 .taken)
 
 returns-2 : tie.Need-returns-2
-unfolding table
-returns-2 c = let a = c .before .args in table-is inside table 16 tt (a .k) (omega arith)
+returns-2 c = rw (c .if2 .taken)
+
+returns-3 : tie.Need-returns-3
+returns-3 c = rw (c .if3 .taken)
+
+returns-4 : tie.Need-returns-4
+returns-4 c = rw (c .if4 .taken)
+
+returns-5 : tie.Need-returns-5
+returns-5 c = rw (c .if5 .taken)
+
+returns-6 : tie.Need-returns-6
+returns-6 c = rw (c .if6 .taken)
+
+returns-7 : tie.Need-returns-7
+returns-7 c = rw (c .if7 .taken)
+
+returns-8 : tie.Need-returns-8
+returns-8 c = rw (c .if8 .taken)
+
+returns-9 : tie.Need-returns-9
+returns-9 c = rw (c .if9 .taken)
+
+returns-10 : tie.Need-returns-10
+returns-10 c = rw (
+  ne-eqb _ _ (c .before .before .before .before .before .before .before .before .if1 .left),
+  ne-eqb _ _ (c .before .before .before .before .before .before .before .if2 .left),
+  ne-eqb _ _ (c .before .before .before .before .before .before .if3 .left),
+  ne-eqb _ _ (c .before .before .before .before .before .if4 .left),
+  ne-eqb _ _ (c .before .before .before .before .if5 .left),
+  ne-eqb _ _ (c .before .before .before .if6 .left),
+  ne-eqb _ _ (c .before .before .if7 .left),
+  ne-eqb _ _ (c .before .if8 .left),
+  ne-eqb _ _ (c .if9 .left),
+)
 
 pub inside-spec : {M : Type 1} → statement M
-inside-spec = tie.close (tie.spec returns mul-result array-read-result returns-2)
+inside-spec =
+    tie.close
+    (tie.spec
+    returns
+    returns-2
+    returns-3
+    returns-4
+    returns-5
+    returns-6
+    returns-7
+    returns-8
+    returns-9
+    returns-10)

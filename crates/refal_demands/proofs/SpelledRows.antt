@@ -1,0 +1,166 @@
+-- Where the tokens that a tree flattens to are sound in a source, the rows of the tree pass the test for refusal 41.
+use mathlib.Core.Path.{_≡_, refl, sym, ap, subst, _∙_}
+use Prim.Native.Nat.{ℕ, _+_}
+use mathlib.Core.Bool.{Bool, true, false, _&&_}
+use mathlib.Core.List.{List, [], _∷_, _++_, append-nil, append-assoc}
+use native.Mathlib.Omega.{arith}
+use borrow.Author.Tests.{le-leb, ne-eqb}
+use Rattle.refal_ast.specs.Kinds.{tokExtern, tokIdentifier, tokChar, tokLBrace, tokRBrace, tokLParen, tokRParen, tokLAngle, tokRAngle}
+use Rattle.refal_ast.specs.Kinds.{tokComma, tokColon, tokEquals, tokSemicolon}
+use Rattle.refal_ast.specs.Kinds.{nodeDeclaration, nodeName, nodeFunction, nodeSentence, nodeCondition, nodeTerms, nodeEndingBlock, nodeConditionBlock}
+use Rattle.refal_ast.specs.Kinds.{nodeIdentifier, nodeNumber, nodeChar, nodeVariable, nodeBracket, nodeCall}
+use Rattle.refal_ast.specs.Encode.{node, letterOf, entryWord, leafRow, encT, encTerms, encC, encS, encN, encP}
+use Rattle.refal_ast.specs.Tree.{Leaf, symbol, variable, Terms, t0, tLeaf, tBracket, tCall, Conditions, c0, cTerms, cBlock, Sentences, s0, sTerms, sBlock}
+use Rattle.refal_ast.specs.Tree.{Names, nOne, nMore, Program, p0, pDeclaration, pFunction}
+use Rattle.refal_ast.specs.Flatten.{Flat, mark, nameOf, flatLeaf, flatEntry, flattenP}
+use Rattle.refal_ast.specs.declared.tree.Symbol.the-variants.{Char, Identifier, Number}
+use Rattle.refal_spelling.specs.Spell.{Spelled, textAt}
+use Rattle.refal_spelling.specs.Spells.{spells}
+use Rattle.refal_spelling.specs.SpellsLaws.{identifier-spells, number-spells, good-index}
+use Rattle.refal_spelling.specs.Good.{Good, entry, extern, identifier, variableOf, number, character, mark as oneByte}
+use Rattle.refal_spelling.specs.Sound.{Sound, AllSound, sound-more}
+use Rattle.refal_writer.specs.Spellings.{charOk, inSource, rowSpelled, allSpelled}
+use Rattle.refal_demands.proofs.Flats.{flatT, flatC, flatS, flatN, flatP, flatP-is}
+
+-- a Char that reading gives can be written
+char-good : (t : Spelled) → Good t → t .kind ≡ tokChar → charOk (t .detail) ≡ true
+char-good t entry e = absurd (omega arith)
+char-good t extern e = absurd (omega arith)
+char-good t (identifier b s u a l) e = absurd (omega arith)
+char-good t (variableOf v w u a lo hi) e = absurd (omega arith)
+char-good t (number w n) e = absurd (omega arith)
+char-good t (character x sc n) e = rw (ne-eqb x 10 n, le-leb x 1114111 (sc .top), sc .plain) refl
+char-good t (oneByte k lo hi) e = absurd (omega arith)
+
+module _ (src : List ℕ) where
+  -- the words x are rows that pass, whatever follows
+  record Passes (x : List ℕ) : Type 0 where
+    before : (w : List ℕ) → allSpelled src (x ++ w) ≡ allSpelled src w
+
+  none : Passes []
+  none = record { before = λ w. refl }
+
+  both : {x y : List ℕ} → Passes x → Passes y → Passes (x ++ y)
+  both {x} {y} p q = record { before = λ w. ap (allSpelled src) (append-assoc x y w) ∙ p .before (y ++ w) ∙ q .before w }
+
+  row : (k d s l a b n : ℕ) → rowSpelled src k d s l ≡ true → Passes (node k d s l a b n)
+  unfolding allSpelled
+  row k d s l a b n h = record { before = λ w. ap (λ (z : Bool). z && allSpelled src w) h }
+
+  first : {c : Flat} {r : List Flat} → AllSound src (c ∷ r) → Sound src c
+  first (sound-more h a) = h
+
+  rest : {c : Flat} {r : List Flat} → AllSound src (c ∷ r) → AllSound src r
+  rest (sound-more h a) = a
+
+  -- the text of a name
+  name : (s l : ℕ) → Sound src (nameOf s l) → inSource src s l && spells tokIdentifier (textAt src s l) ≡ true
+  name s l h = rw (le-leb (s + l) _ (h .inside), identifier-spells 0 (textAt src s l) (h .good)) refl
+
+  leaf : (x : Leaf) → Sound src (flatLeaf x) → (a b n : ℕ) → Passes (leafRow x a b n)
+  unfolding rowSpelled
+  leaf (symbol (Char x)) h a b n = row nodeChar x 0 0 a b n (char-good _ (h .good) refl)
+  leaf (symbol (Identifier s l)) h a b n = row nodeIdentifier 0 s l a b n (name s l h)
+  leaf (symbol (Number s l)) h a b n = row nodeNumber 0 s l a b n (rw (le-leb (s + l) _ (h .inside), number-spells 0 (textAt src s l) (h .good)) refl)
+  leaf (variable v s l) h a b n = row nodeVariable (letterOf v) s l a b n (rw (le-leb (s + l) _ (h .inside), good-index (letterOf v) (textAt src s l) (h .good) .1) refl)
+
+  -- a part of a tree whose rows pass, wherever they stand, and the tokens behind it
+  record Part (rows : ℕ → List ℕ) (r : List Flat) : Type 0 where
+    pass : (n : ℕ) → Passes (rows n)
+    behind : AllSound src r
+
+  spelledT : (f : Terms) (r : List Flat) → AllSound src (flatT f r) → Part (encT f) r
+  unfolding flatT encT rowSpelled
+  spelledT t0 r h = record { pass = λ n. none; behind = h }
+  spelledT (tLeaf f x a b) r h =
+      let p = spelledT f (flatLeaf x ∷ r) h in
+      record { pass = λ n. both (p .pass n) (leaf x (first (p .behind)) a b _); behind = rest (p .behind) }
+  spelledT (tBracket f a g b) r h =
+      let p = spelledT f (mark tokLParen ∷ flatT g (mark tokRParen ∷ r)) h in
+      let q = spelledT g (mark tokRParen ∷ r) (rest (p .behind)) in
+      record { pass = λ n. both (p .pass n) (both (row nodeBracket 0 0 0 a b _ refl) (q .pass _)); behind = rest (q .behind) }
+  spelledT (tCall f a s l g b) r h =
+      let p = spelledT f (mark tokLAngle ∷ nameOf s l ∷ flatT g (mark tokRAngle ∷ r)) h in
+      let q = spelledT g (mark tokRAngle ∷ r) (rest (rest (p .behind))) in
+      record { pass = λ n. both (p .pass n) (both (row nodeCall 0 s l a b _ (name s l (first (rest (p .behind))))) (q .pass _)); behind = rest (q .behind) }
+
+  -- a Terms row and its terms
+  terms : (f : Terms) → ((n : ℕ) → Passes (encT f n)) → (n : ℕ) → Passes (encTerms f n)
+  unfolding rowSpelled
+  terms f p n = both (row nodeTerms 0 0 0 0 0 _ refl) (p (n + 1))
+
+  mutual
+    unfolding flatC encC rowSpelled
+
+    spelledC : (cs : Conditions) (r : List Flat) → AllSound src (flatC cs r) → Part (encC cs) r
+    spelledC c0 r h = record { pass = λ n. none; behind = h }
+    spelledC (cTerms cs a f g b) r h =
+        let p = spelledC cs (mark tokComma ∷ flatT f (mark tokColon ∷ flatT g r)) h in
+        let q = spelledT f (mark tokColon ∷ flatT g r) (rest (p .behind)) in
+        let t = spelledT g r (rest (q .behind)) in
+        record { pass = λ n. both (p .pass n) (both (row nodeCondition 0 0 0 a b _ refl) (both (terms f (q .pass) _) (terms g (t .pass) _))); behind = t .behind }
+    spelledC (cBlock cs a f o v e b) r h =
+        let p = spelledC cs (mark tokComma ∷ flatT f (mark tokColon ∷ mark tokLBrace ∷ flatS v (mark tokRBrace ∷ r))) h in
+        let q = spelledT f (mark tokColon ∷ mark tokLBrace ∷ flatS v (mark tokRBrace ∷ r)) (rest (p .behind)) in
+        let t = spelledS v (mark tokRBrace ∷ r) (rest (rest (q .behind))) in
+        record {
+          pass = λ n. both (p .pass n) (both (row nodeCondition 0 0 0 a b _ refl) (both (terms f (q .pass) _) (both (row nodeConditionBlock 0 0 0 o e _ refl) (t .pass _))));
+          behind = rest (t .behind);
+        }
+
+    spelledS : (s : Sentences) (r : List Flat) → AllSound src (flatS s r) → Part (encS s) r
+    spelledS s0 r h = record { pass = λ n. none; behind = h }
+    spelledS (sTerms s a f cs g b) r h =
+        let p = spelledS s (flatT f (flatC cs (mark tokEquals ∷ flatT g (mark tokSemicolon ∷ r)))) h in
+        let q = spelledT f (flatC cs (mark tokEquals ∷ flatT g (mark tokSemicolon ∷ r))) (p .behind) in
+        let t = spelledC cs (mark tokEquals ∷ flatT g (mark tokSemicolon ∷ r)) (q .behind) in
+        let u = spelledT g (mark tokSemicolon ∷ r) (rest (t .behind)) in
+        record {
+          pass = λ n. both (p .pass n) (both (row nodeSentence 0 0 0 a b _ refl) (both (terms f (q .pass) _) (both (t .pass _) (terms g (u .pass) _))));
+          behind = rest (u .behind);
+        }
+    spelledS (sBlock s a f cs o g v e b) r h =
+        let z = mark tokColon ∷ mark tokLBrace ∷ flatS v (mark tokRBrace ∷ mark tokSemicolon ∷ r) in
+        let p = spelledS s (flatT f (flatC cs (mark tokEquals ∷ mark tokComma ∷ flatT g z))) h in
+        let q = spelledT f (flatC cs (mark tokEquals ∷ mark tokComma ∷ flatT g z)) (p .behind) in
+        let t = spelledC cs (mark tokEquals ∷ mark tokComma ∷ flatT g z) (q .behind) in
+        let u = spelledT g z (rest (rest (t .behind))) in
+        let x = spelledS v (mark tokRBrace ∷ mark tokSemicolon ∷ r) (rest (rest (u .behind))) in
+        record {
+          pass = λ n. both (p .pass n) (both (row nodeSentence 0 0 0 a b _ refl) (both (terms f (q .pass) _) (both (t .pass _)
+              (both (row nodeEndingBlock 0 0 0 o e _ refl) (both (terms g (u .pass) _) (x .pass _))))));
+          behind = rest (rest (x .behind));
+        }
+
+  spelledN : (ns : Names) (r : List Flat) → AllSound src (flatN ns r) → Part (encN ns) r
+  unfolding flatN encN rowSpelled
+  spelledN (nOne s l) r h = record { pass = λ n. row nodeName 0 s l 0 0 _ (name s l (first h)); behind = rest h }
+  spelledN (nMore ns s l) r h =
+      let p = spelledN ns (mark tokComma ∷ nameOf s l ∷ r) h in
+      record { pass = λ n. both (p .pass n) (row nodeName 0 s l 0 0 _ (name s l (first (rest (p .behind))))); behind = rest (rest (p .behind)) }
+
+  after-entry : (x : Bool) (r : List Flat) → AllSound src (flatEntry x ++ r) → AllSound src r
+  after-entry true r h = rest h
+  after-entry false r h = h
+
+  spelledP : (p : Program) (r : List Flat) → AllSound src (flatP p r) → Part (encP p) r
+  unfolding flatP encP rowSpelled
+  spelledP p0 r h = record { pass = λ n. none; behind = h }
+  spelledP (pDeclaration p a ns b) r h =
+      let q = spelledP p (mark tokExtern ∷ flatN ns (mark tokSemicolon ∷ r)) h in
+      let t = spelledN ns (mark tokSemicolon ∷ r) (rest (q .behind)) in
+      record { pass = λ n. both (q .pass n) (both (row nodeDeclaration 0 0 0 a b _ refl) (t .pass _)); behind = rest (t .behind) }
+  spelledP (pFunction p a x s l v b) r h =
+      let q = spelledP p (flatEntry x ++ (nameOf s l ∷ mark tokLBrace ∷ flatS v (mark tokRBrace ∷ r))) h in
+      let z = after-entry x (nameOf s l ∷ mark tokLBrace ∷ flatS v (mark tokRBrace ∷ r)) (q .behind) in
+      let t = spelledS v (mark tokRBrace ∷ r) (rest (rest z)) in
+      record { pass = λ n. both (q .pass n) (both (row nodeFunction (entryWord x) s l a b _ (name s l (first z))) (t .pass _)); behind = rest (t .behind) }
+
+  pub rows-spelled : (t : Program) → AllSound src (flattenP t) → allSpelled src (encP t 0) ≡ true
+  unfolding allSpelled
+  rows-spelled t h =
+      let p = spelledP t [] (as-flatP h) in
+      ap (allSpelled src) (sym (append-nil (encP t 0))) ∙ p .pass 0 .before []
+    where
+      as-flatP : AllSound src (flattenP t) → AllSound src (flatP t [])
+      as-flatP a = subst (AllSound src) (sym (flatP-is t [] ∙ append-nil (flattenP t))) a

@@ -1,0 +1,18 @@
+-- `refal_text::is_three` meets its contract: the second byte and the third.
+use borrow.Author.Needs.{needs}
+use Rattle.refal_text.proofs.is_three.Statement.{statement}
+use Rattle.refal_text.proofs.is_three.Tie as tie
+use Rattle.refal_text.proofs.is_three.Reads as reads
+use Rattle.refal_text.proofs.is_three.Lts as lts
+use Rattle.refal_text.proofs.is_second.Reads as is-second-reads
+
+-- src/lib.rt:65:9
+is-second-requires : tie.Need-is-second-requires
+is-second-requires c κs = search needs
+
+-- src/lib.rt:62:1
+returns : tie.Need-returns
+returns c = rw (c .is-second .ensures)
+
+pub is-three-spec : {M : Type 1} → statement M
+is-three-spec = tie.close (tie.spec is-second-requires returns)

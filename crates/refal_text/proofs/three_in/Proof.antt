@@ -1,0 +1,51 @@
+-- `refal_text::three_in` meets its contract: the bytes read.
+use mathlib.Core.Path.{ap₂, _∙_}
+use lib.ListN.{getD}
+use Rattle.refal_text.specs.Utf8.{well3}
+use borrow.Author.Needs.{needs}
+use Rattle.refal_text.proofs.three_in.Statement.{statement}
+use Rattle.refal_text.proofs.three_in.Tie as tie
+use Rattle.refal_text.proofs.three_in.Reads as reads
+use Rattle.refal_text.proofs.three_in.Lts as lts
+use Rattle.refal_text.proofs.byte.Reads as byte-reads
+use Rattle.refal_text.proofs.is_three.Reads as is-three-reads
+
+-- src/lib.rt:181:14
+shared-slice-read-is-three : tie.Need-shared-slice-read-is-three
+shared-slice-read-is-three c = search needs
+
+-- src/lib.rt:181:33
+add-byte : tie.Need-add-byte
+add-byte c = search needs
+
+-- src/lib.rt:181:23
+byte-requires : tie.Need-byte-requires
+byte-requires c κs = search needs
+
+-- src/lib.rt:181:52
+add-byte-2 : tie.Need-add-byte-2
+add-byte-2 c = search needs
+
+-- src/lib.rt:181:42
+byte-requires-2 : tie.Need-byte-requires-2
+byte-requires-2 c κs = search needs
+
+-- src/lib.rt:181:5
+is-three-requires : tie.Need-is-three-requires
+is-three-requires c κs = search needs
+
+-- src/lib.rt:177:1
+returns : tie.Need-returns
+returns c = let a = c .before .before .before .before .before .args in c .is-three .ensures ∙ ap₂ (well3 (getD (a .src .now) (a .at) 0)) (c .before .before .byte .ensures) (c .before .byte2 .ensures)
+
+pub three-in-spec : {M : Type 1} → statement M
+three-in-spec =
+    tie.close
+    (tie.spec
+    shared-slice-read-is-three
+    add-byte
+    byte-requires
+    add-byte-2
+    byte-requires-2
+    is-three-requires
+    returns)

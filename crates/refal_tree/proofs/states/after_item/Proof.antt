@@ -1,0 +1,20 @@
+-- `refal_tree::states::after_item` meets its contract: one case for each kind of item.
+use borrow.Author.Tests.{ne-eqb}
+use borrow.Author.Needs.{needs}
+use Rattle.refal_tree.proofs.states.after_item.Statement.{statement}
+use Rattle.refal_tree.proofs.states.after_item.Tie as tie
+use Rattle.refal_tree.proofs.states.after_item.Reads as reads
+use Rattle.refal_tree.proofs.states.after_item.Lts as lts
+use Rattle.refal_tree.proofs.states.only.Reads as only-reads
+
+returns : tie.Need-returns
+returns c = rw (c .if1 .taken)
+
+only-requires : tie.Need-only-requires
+only-requires c κs = search needs
+
+returns-2 : tie.Need-returns-2
+returns-2 c = rw (ne-eqb _ _ (c .before .if1 .left)) (c .only .ensures)
+
+pub after-item-spec : {M : Type 1} → statement M
+after-item-spec = tie.close (tie.spec returns only-requires returns-2)

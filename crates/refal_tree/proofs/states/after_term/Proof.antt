@@ -1,0 +1,20 @@
+-- `refal_tree::states::after_term` meets its contract: the test of the kind is `is_term`'s.
+use mathlib.Core.Path.{sym, _∙_}
+use borrow.Author.Needs.{needs}
+use Rattle.refal_tree.proofs.states.after_term.Statement.{statement}
+use Rattle.refal_tree.proofs.states.after_term.Tie as tie
+use Rattle.refal_tree.proofs.states.after_term.Reads as reads
+use Rattle.refal_tree.proofs.states.after_term.Lts as lts
+use Rattle.refal_tree.proofs.states.is_term.Reads as is-term-reads
+
+is-term-requires : tie.Need-is-term-requires
+is-term-requires c κs = search needs
+
+returns : tie.Need-returns
+returns c = rw (sym (c .before .is-term .ensures) ∙ c .if1 .taken)
+
+returns-2 : tie.Need-returns-2
+returns-2 c = rw (sym (c .before .is-term .ensures) ∙ c .if1 .left)
+
+pub after-term-spec : {M : Type 1} → statement M
+after-term-spec = tie.close (tie.spec is-term-requires returns returns-2)

@@ -1,0 +1,72 @@
+-- `vectors::put_words` meets its contract: it ends at the last word.
+use Prim.Native.Nat.{_-_}
+use borrow.Author.Needs.{needs}
+use Rattle.vectors.proofs.put_words.Statement.{statement}
+use Rattle.vectors.proofs.put_words.Tie as tie
+use Rattle.vectors.proofs.put_words.Reads as reads
+use Rattle.vectors.proofs.put_words.Lts as lts
+use Rattle.io.proofs.write_all.Reads as write-all-reads
+use Rattle.vectors.proofs.put_word.Reads as put-word-reads
+
+abbrev Inv-loop : tie.InvT-loop
+Inv-loop words n i₀ t4 i = Unit {0}
+
+abbrev μ-loop : tie.MeasureT-loop
+μ-loop words n i₀ t4 i = n - i
+
+-- src/main.rt:69:5
+loop-holds : tie.Need-loop-holds Inv-loop μ-loop
+loop-holds c = tt
+
+-- src/main.rt:70:18
+mul-put-word : tie.Need-mul-put-word Inv-loop μ-loop
+mul-put-word c = search needs
+
+-- src/main.rt:70:18
+shared-slice-read-put-word : tie.Need-shared-slice-read-put-word Inv-loop μ-loop
+shared-slice-read-put-word c = search needs
+
+-- src/main.rt:70:9
+put-word-requires : tie.Need-put-word-requires Inv-loop μ-loop
+put-word-requires c κs = search needs
+
+-- src/main.rt:71:9
+add-i : tie.Need-add-i Inv-loop μ-loop
+add-i c = search needs
+
+-- src/main.rt:69:5
+loop-less : tie.Need-loop-less Inv-loop μ-loop
+loop-less c = search needs
+
+-- src/main.rt:69:5
+loop-again : tie.Need-loop-again Inv-loop μ-loop
+loop-again c = tt
+
+-- src/main.rt:73:34
+slice-aggregate-write-all : tie.Need-slice-aggregate-write-all Inv-loop μ-loop
+slice-aggregate-write-all c = search needs
+
+-- src/main.rt:73:5
+write-all-requires : tie.Need-write-all-requires Inv-loop μ-loop
+write-all-requires c κs = search needs
+
+-- src/main.rt:66:1
+returns : tie.Need-returns Inv-loop μ-loop
+returns c = search needs
+
+pub put-words-spec : {M : Type 1} → statement M
+put-words-spec =
+    tie.close
+    (tie.spec
+    Inv-loop
+    μ-loop
+    loop-holds
+    mul-put-word
+    shared-slice-read-put-word
+    put-word-requires
+    add-i
+    loop-less
+    loop-again
+    slice-aggregate-write-all
+    write-all-requires
+    returns)

@@ -1,0 +1,88 @@
+//! `refal5 check` and what all commands do with a file that cannot be read or is refused.
+
+use std::io;
+
+use refal5::{Accepted, Diagnosis};
+
+use crate::args::Args;
+use crate::json::Object;
+use crate::output::Output;
+use crate::{Status, input, report};
+
+pub fn run(args: &Args, output: &mut Output) -> io::Result<Status> {
+    let mut status = Status::Fine;
+    let mut apart = "";
+    for name in &args.files {
+        let file = input::shown(name);
+        output.progress.begin(&file);
+        let one = match input::read(name) {
+            Ok(source) => match refal5::check(&source) {
+                Ok(accepted) => fine(&file, accepted, output)?,
+                Err(diagnosis) => {
+                    if output.json {
+                        output.print(&report::json(&file, &diagnosis))?;
+                    } else {
+                        let text = report::text(&file, &source, &diagnosis, output.styles());
+                        output.print(&format!("{apart}{text}"))?;
+                        apart = "\n";
+                    }
+                    Status::Refused
+                }
+            },
+            Err(error) => unreadable(&file, &error, output)?,
+        };
+        status = status.max(one);
+    }
+    Ok(status)
+}
+
+fn fine(file: &str, accepted: Accepted, output: &Output) -> io::Result<Status> {
+    let Accepted { tokens, nodes } = accepted;
+    if output.json {
+        let object = Object::new()
+            .string("file", file)
+            .plain("ok", true)
+            .plain("tokens", tokens)
+            .plain("nodes", nodes);
+        output.print(&(object.end() + "\n"))?;
+    } else if output.verbose {
+        output.print(&format!(
+            "{file}: accepted, {tokens} tokens, {nodes} nodes\n"
+        ))?;
+    }
+    Ok(Status::Fine)
+}
+
+/// A file that cannot be read.
+pub fn unreadable(file: &str, error: &io::Error, output: &Output) -> io::Result<Status> {
+    if output.json {
+        let object = Object::new()
+            .string("file", file)
+            .plain("ok", false)
+            .string("error", &error.to_string());
+        output.print(&(object.end() + "\n"))?;
+    } else {
+        output.complain(&format!("refal5: {file}: {error}\n"));
+    }
+    Ok(Status::Failed)
+}
+
+/// A file that another command than check finds refused: it goes to standard error, or as an object among the others.
+pub fn refused(
+    file: &str,
+    source: &[u8],
+    diagnosis: &Diagnosis,
+    output: &Output,
+) -> io::Result<Status> {
+    if output.json {
+        output.print(&report::json(file, diagnosis))?;
+    } else {
+        output.complain(&report::text(
+            file,
+            source,
+            diagnosis,
+            output.error_styles(),
+        ));
+    }
+    Ok(Status::Refused)
+}

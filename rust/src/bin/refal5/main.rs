@@ -1,0 +1,70 @@
+//! The command `refal5`: checks, lists, writes and shows Refal-5 sources.
+
+mod args;
+mod check;
+mod excerpt;
+mod input;
+mod json;
+mod listing;
+mod output;
+mod page;
+mod progress;
+mod report;
+mod walk;
+
+use std::io;
+use std::process::ExitCode;
+
+use args::{Args, Command, Parsed};
+use output::Output;
+
+const HELP: &str = include_str!("help.txt");
+
+/// How a run went, worst last: the exit status.
+#[derive(Debug, Clone, Copy, PartialEq, Eq, PartialOrd, Ord)]
+enum Status {
+    Fine = 0,
+    Refused = 1,
+    Failed = 2,
+}
+
+fn main() -> ExitCode {
+    let status = match args::parse(std::env::args_os().skip(1)) {
+        Ok(Parsed::Help) => say(HELP),
+        Ok(Parsed::Version) => say(concat!("refal5 ", env!("CARGO_PKG_VERSION"), "\n")),
+        Ok(Parsed::Run(args)) => run(&args),
+        Err(message) => {
+            eprintln!("refal5: {message}\nTry `refal5 --help`.");
+            Status::Failed
+        }
+    };
+    ExitCode::from(status as u8)
+}
+
+fn say(text: &str) -> Status {
+    settle(output::print(text).map(|()| Status::Fine))
+}
+
+fn run(args: &Args) -> Status {
+    let mut output = Output::new(args);
+    let result = match args.command {
+        Command::Check => check::run(args, &mut output),
+        Command::Tokens => listing::run(args, &mut output, listing::tokens),
+        Command::Tree => listing::run(args, &mut output, listing::tree),
+        Command::Write => listing::run(args, &mut output, listing::write),
+        Command::Page => page::run(args, &mut output),
+    };
+    settle(result)
+}
+
+/// The status of a run whose output may have failed. A reader that stops early, as `head` does, is no failure.
+fn settle(result: io::Result<Status>) -> Status {
+    match result {
+        Ok(status) => status,
+        Err(error) if error.kind() == io::ErrorKind::BrokenPipe => Status::Fine,
+        Err(error) => {
+            eprintln!("refal5: standard output: {error}");
+            Status::Failed
+        }
+    }
+}

@@ -1,0 +1,35 @@
+//! A front end for Classic Refal-5: reading, parsing and writing, done by the proved library librefal5.a.
+//!
+//! [`lexer`], [`parser`] and [`ast`] have the types of the original Rust front end, so that a program changes its `use`
+//! lines only. [`rows`] views the library's rows in place and allocates nothing. [`check`] explains what is wrong with a
+//! source to the person who wrote it. [`raw`] is the library's six functions over lent slices.
+//!
+//! ```
+//! use refal5::{lexer::Lexer, parser::Parser, ast::Item};
+//!
+//! let tokens = Lexer::new("$EXTRN Prout; $ENTRY Go { = <Prout 'Hi'>; }").tokenize()?;
+//! let program = Parser::new(tokens).parse_program()?;
+//! for item in &program.items {
+//!     match item {
+//!         Item::Function(function) => println!("{} {:?}", function.name, function.span),
+//!         Item::Declaration(declaration) => println!("{:?}", declaration.names),
+//!     }
+//! }
+//! # Ok::<(), Box<dyn std::error::Error>>(())
+//! ```
+
+pub mod ast;
+mod diagnosis;
+pub mod lexer;
+mod names;
+pub mod parser;
+pub mod raw;
+mod refusal;
+pub mod rows;
+
+pub use ast::Span;
+pub use diagnosis::{Accepted, Diagnosis, Place, check};
+pub use names::{
+    PROGRAM_ENTRY_POINT, canonical_identifier, canonical_variable_index, identifiers_equal,
+};
+pub use refusal::Refusal;

@@ -1,0 +1,328 @@
+//! The command's outputs against the files of tests/golden, and its exit statuses.
+//!
+//! With UPDATE_GOLDEN set the files are written anew; read them before they are committed.
+
+use std::env;
+use std::fs;
+use std::io::Write;
+use std::path::{Path, PathBuf};
+use std::process::{Command, Output, Stdio};
+
+fn golden(folder: &str) -> PathBuf {
+    Path::new(env!("CARGO_MANIFEST_DIR"))
+        .join("tests/golden")
+        .join(folder)
+}
+
+/// Runs the command in a folder of golden files.
+fn refal5(folder: &str, args: &[&str], input: &[u8]) -> Output {
+    let mut child = Command::new(env!("CARGO_BIN_EXE_refal5"))
+        .args(args)
+        .current_dir(golden(folder))
+        .stdin(Stdio::piped())
+        .stdout(Stdio::piped())
+        .stderr(Stdio::piped())
+        .spawn()
+        .expect("the command starts");
+    let mut stdin = child.stdin.take().expect("standard input is piped");
+    let input = input.to_vec();
+    let feed = std::thread::spawn(move || {
+        // A command that reads no input closes it.
+        let _ = stdin.write_all(&input);
+    });
+    let output = child.wait_with_output().expect("the command ends");
+    feed.join().expect("the input is fed");
+    output
+}
+
+fn text(bytes: &[u8]) -> &str {
+    std::str::from_utf8(bytes).expect("the command prints UTF-8")
+}
+
+/// Holds what a command prints on standard output against a golden file.
+fn compare(folder: &str, name: &str, actual: &[u8], failures: &mut Vec<String>) {
+    let path = golden(folder).join(name);
+    if env::var_os("UPDATE_GOLDEN").is_some() {
+        fs::write(&path, actual).expect("the golden file is writable");
+        return;
+    }
+    let expected = fs::read(&path).unwrap_or_default();
+    if expected != actual {
+        failures.push(format!(
+            "{folder}/{name}:\n{}",
+            String::from_utf8_lossy(actual)
+        ));
+    }
+}
+
+fn sources(folder: &str) -> Vec<String> {
+    let mut names: Vec<String> = fs::read_dir(golden(folder))
+        .expect("the golden files are there")
+        .map(|entry| entry.expect("the folder can be listed").file_name())
+        .filter_map(|name| name.to_str()?.strip_suffix(".ref").map(str::to_owned))
+        .collect();
+    names.sort();
+    names
+}
+
+#[test]
+fn refused_sources() {
+    let mut failures = Vec::new();
+    for name in sources("refused") {
+        let file = format!("{name}.ref");
+        let check = refal5("refused", &["check", &file], b"");
+        assert_eq!(check.status.code(), Some(1), "{file}");
+        assert_eq!(text(&check.stderr), "", "{file}");
+        let number = name[..2]
+            .parse::<u32>()
+            .expect("a name starts with its number");
+        assert!(
+            text(&check.stdout).contains(&format!(": refusal {number}: ")),
+            "{file}"
+        );
+        compare(
+            "refused",
+            &format!("{name}.check"),
+            &check.stdout,
+            &mut failures,
+        );
+        let json = refal5("refused", &["check", "--json", &file], b"");
+        assert_eq!(json.status.code(), Some(1), "{file}");
+        compare(
+            "refused",
+            &format!("{name}.json"),
+            &json.stdout,
+            &mut failures,
+        );
+        for command in ["tree", "write", "page"] {
+            let output = refal5("refused", &[command, &file], b"");
+            assert_eq!(output.status.code(), Some(1), "{command} {file}");
+            assert_eq!(text(&output.stdout), "", "{command} {file}");
+            assert_eq!(output.stderr, check.stdout, "{command} {file}");
+        }
+        let tokens = refal5("refused", &["tokens", &file], b"");
+        let read = number >= 30;
+        assert_eq!(tokens.status.code(), Some(i32::from(!read)), "{file}");
+    }
+    assert!(failures.is_empty(), "{}", failures.join("\n"));
+}
+
+/// Each refused source with the change made that the advice names.
+#[test]
+fn following_the_advice_helps() {
+    assert_eq!(sources("fixed"), sources("refused"));
+    let files: Vec<String> = sources("fixed")
+        .iter()
+        .map(|name| format!("{name}.ref"))
+        .collect();
+    let args: Vec<&str> = ["check"]
+        .into_iter()
+        .chain(files.iter().map(String::as_str))
+        .collect();
+    let output = refal5("fixed", &args, b"");
+    assert_eq!(text(&output.stdout), "");
+    assert_eq!(output.status.code(), Some(0));
+}
+
+#[test]
+fn accepted_sources() {
+    let mut failures = Vec::new();
+    for name in sources("accepted") {
+        let file = format!("{name}.ref");
+        let check = refal5("accepted", &["check", &file], b"");
+        assert_eq!(check.status.code(), Some(0), "{file}");
+        assert_eq!(
+            (text(&check.stdout), text(&check.stderr)),
+            ("", ""),
+            "{file}"
+        );
+        for command in ["tokens", "tree", "write"] {
+            for (option, extension) in [("--color=auto", ""), ("--json", ".json")] {
+                let output = refal5("accepted", &[command, option, &file], b"");
+                assert_eq!(output.status.code(), Some(0), "{command} {file}");
+                assert_eq!(text(&output.stderr), "", "{command} {file}");
+                let golden = format!("{name}.{command}{extension}");
+                compare("accepted", &golden, &output.stdout, &mut failures);
+            }
+        }
+    }
+    assert!(failures.is_empty(), "{}", failures.join("\n"));
+}
+
+#[test]
+fn a_written_text_is_written_the_same_again() {
+    for name in sources("accepted") {
+        let written = refal5("accepted", &["write", &format!("{name}.ref")], b"");
+        let again = refal5("accepted", &["write", "-"], &written.stdout);
+        assert_eq!(text(&again.stdout), text(&written.stdout), "{name}");
+    }
+}
+
+#[test]
+fn standard_input() {
+    let output = refal5("refused", &["check", "-"], b"F{=A}");
+    assert_eq!(output.status.code(), Some(1));
+    assert!(text(&output.stdout).starts_with("<standard input>:1:5: refusal 34: "));
+    let output = refal5("refused", &["check", "-", "-"], b"");
+    assert_eq!(output.status.code(), Some(2));
+}
+
+#[test]
+fn several_files() {
+    let files = [
+        "check",
+        "-v",
+        "empty.ref",
+        "worked-go.ref",
+        "../refused/32-no-name.ref",
+    ];
+    let output = refal5("accepted", &files, b"");
+    assert_eq!(output.status.code(), Some(1));
+    let lines: Vec<&str> = text(&output.stdout).lines().collect();
+    assert_eq!(lines[0], "empty.ref: accepted, 1 tokens, 0 nodes");
+    assert_eq!(lines[1], "worked-go.ref: accepted, 7 tokens, 4 nodes");
+    assert!(lines[2].starts_with("../refused/32-no-name.ref:1:1: refusal 32: "));
+
+    let files = ["write", "worked-go.ref", "empty.ref", "three-variables.ref"];
+    let output = refal5("accepted", &files, b"");
+    assert_eq!(
+        text(&output.stdout),
+        "* worked-go.ref\n$ENTRY Go { = ; } \n* empty.ref\n* three-variables.ref\n\
+         F { s.1 s.2 s.3 = s.1 s.2 s.3 ; } \n"
+    );
+    let again = refal5("accepted", &["check", "-"], &output.stdout);
+    assert_eq!(again.status.code(), Some(0));
+}
+
+#[test]
+fn a_file_that_is_absent() {
+    let output = refal5(
+        "accepted",
+        &["check", "absent.ref", "../refused/32-no-name.ref"],
+        b"",
+    );
+    assert_eq!(output.status.code(), Some(2));
+    assert!(text(&output.stderr).starts_with("refal5: absent.ref: "));
+    assert!(text(&output.stdout).contains("refusal 32"));
+    let output = refal5("accepted", &["check", "--json", "absent.ref"], b"");
+    assert_eq!(output.status.code(), Some(2));
+    assert!(text(&output.stdout).starts_with("{\"file\":\"absent.ref\",\"ok\":false,\"error\":\""));
+    let output = refal5("accepted", &["tree", "."], b"");
+    assert_eq!(output.status.code(), Some(2));
+}
+
+#[test]
+fn usage() {
+    for args in [
+        &[][..],
+        &["check"],
+        &["chek", "empty.ref"],
+        &["check", "--jsn", "empty.ref"],
+        &["check", "--color=red", "empty.ref"],
+        &["page", "empty.ref", "worked-go.ref"],
+        &["page", "--json", "empty.ref"],
+    ] {
+        let output = refal5("accepted", args, b"");
+        assert_eq!(output.status.code(), Some(2), "{args:?}");
+        assert_eq!(text(&output.stdout), "", "{args:?}");
+        assert!(
+            text(&output.stderr).contains("Try `refal5 --help`."),
+            "{args:?}"
+        );
+    }
+    let help = refal5("accepted", &["--help"], b"");
+    assert_eq!(help.status.code(), Some(0));
+    assert!(text(&help.stdout).contains("Exit status: 0"));
+    let version = refal5("accepted", &["check", "--version"], b"");
+    assert_eq!(version.status.code(), Some(0));
+    assert_eq!(
+        text(&version.stdout),
+        concat!("refal5 ", env!("CARGO_PKG_VERSION"), "\n")
+    );
+}
+
+#[test]
+fn a_file_over_the_limit() {
+    let mut source = vec![b' '; 16_777_216];
+    let output = refal5("accepted", &["check", "-v", "-"], &source);
+    assert_eq!(output.status.code(), Some(0));
+    source.push(b' ');
+    let output = refal5("accepted", &["check", "-"], &source);
+    assert_eq!(output.status.code(), Some(1));
+    assert_eq!(
+        text(&output.stdout),
+        "<standard input>:1:1: refusal 1: the file is longer than 16,777,216 bytes\n  \
+         what to do: Split the file in two and check each part.\n"
+    );
+}
+
+#[test]
+fn colours_only_where_wanted() {
+    let plain = refal5("refused", &["check", "34-worked-table.ref"], b"");
+    assert!(!plain.stdout.contains(&0x1b));
+    let coloured = refal5(
+        "refused",
+        &["check", "--color=always", "34-worked-table.ref"],
+        b"",
+    );
+    assert!(coloured.stdout.contains(&0x1b));
+    let mut bare = String::new();
+    let mut rest = text(&coloured.stdout);
+    while let Some((before, after)) = rest.split_once('\u{1b}') {
+        bare += before;
+        rest = after.split_once('m').expect("a colour ends with m").1;
+    }
+    assert_eq!(bare + rest, text(&plain.stdout));
+}
+
+#[test]
+fn a_reader_that_stops_early_is_no_failure() {
+    let source = "F { = ; }\n".repeat(20_000);
+    let mut child = Command::new(env!("CARGO_BIN_EXE_refal5"))
+        .args(["tokens", "-"])
+        .stdin(Stdio::piped())
+        .stdout(Stdio::piped())
+        .stderr(Stdio::piped())
+        .spawn()
+        .expect("the command starts");
+    drop(child.stdout.take());
+    let mut stdin = child.stdin.take().expect("standard input is piped");
+    stdin.write_all(source.as_bytes()).expect("it is read");
+    drop(stdin);
+    let output = child.wait_with_output().expect("the command ends");
+    assert_eq!(output.status.code(), Some(0));
+    assert_eq!(text(&output.stderr), "");
+}
+
+/// Runs a shell command on a terminal of its own and gives what stands on it, if `script` is there to make one.
+fn on_a_terminal(command: &str) -> Option<String> {
+    let output = Command::new("script")
+        .args(["-qec", command, "/dev/null"])
+        .current_dir(golden("refused"))
+        .env("REFAL5", env!("CARGO_BIN_EXE_refal5"))
+        .env("TERM", "xterm")
+        .env_remove("NO_COLOR")
+        .stdin(Stdio::null())
+        .output()
+        .ok()?;
+    String::from_utf8(output.stdout).ok()
+}
+
+#[test]
+fn on_a_terminal_there_are_colours_and_after_a_second_progress() {
+    let Some(quick) = on_a_terminal("\"$REFAL5\" check 34-worked-table.ref") else {
+        println!("there is no `script` to make a terminal");
+        return;
+    };
+    assert!(
+        quick.contains("\u{1b}[1;31mrefusal 34:\u{1b}[0m"),
+        "{quick}"
+    );
+    assert!(!quick.contains("file 1 of 1"), "{quick}");
+    let slow = "(sleep 1.6; printf 'F{=A}') | \"$REFAL5\" check 34-worked-table.ref -";
+    let slow = on_a_terminal(slow).expect("there was a terminal");
+    let line = "\r\u{1b}[Krefal5: 1 s, file 2 of 2: <standard input>\r\u{1b}[K";
+    assert!(slow.contains(line), "{slow:?}");
+    let plain = on_a_terminal("NO_COLOR=1 \"$REFAL5\" check 34-worked-table.ref");
+    assert!(!plain.expect("there was a terminal").contains('\u{1b}'));
+}
