@@ -1,6 +1,6 @@
 -- What writers of bytes leave in a slice: `Puts`, bytes at its front where they fit; `Pours`, a text put part by part, each part into
 -- the rest of the slice lent from its middle.
-use Prim.Native.Nat.{ℕ, zero, suc, _+_, _-_, _<_, _≤_, min}
+use Prim.Native.Nat.{ℕ, suc, _+_, _-_, _<_, _≤_, min}
 use native.Mathlib.Omega.{arith}
 use native.Mathlib.Numerals.{add-one}
 use native.Mathlib.Decide.{decLe}
@@ -92,13 +92,20 @@ module _ (src o : List ℕ) (start len from n : ℕ) (e : from ≡ min start (le
   text-puts o₁ r g =
       let h : n ≤ length (drop from src) = rw length-drop (omega arith) in
       let p : n < length o = omega arith in
-      record { count = text-count; bytes = λ _. ap (λ (l : List ℕ). set l n 32) g ∙ set-behind (take n (drop from src)) o n 32 (length-take-le n (drop from src) h) p ∙ ap (λ (t : List ℕ). (t ++ 32 ∷ []) ++ drop (n + 1) o) (clip src start len from n e f) }
+      record {
+        count = text-count;
+        bytes = λ _.
+            ap (λ (l : List ℕ). set l n 32) g
+            ∙ set-behind (take n (drop from src)) o n 32 (length-take-le n (drop from src) h) p
+            ∙ ap (λ (t : List ℕ). (t ++ 32 ∷ []) ++ drop (n + 1) o) (clip src start len from n e f);
+      }
 
   pub text-short : length o < n + 1 → Puts (take len (drop start src) ++ 32 ∷ []) (n + 1) o o
   text-short r = record { count = text-count; bytes = λ h. absurd (omega arith) }
 
 -- ---- a copy's turn, from a place of src
-pub copy-from : (l l₀ src : List ℕ) (start i : ℕ) → l ≡ take i (drop start src) ++ drop i l₀ → start + i < length src → i < length l₀ → set l i (getD src (start + i) 0) ≡ take (i + 1) (drop start src) ++ drop (i + 1) l₀
+pub copy-from : (l l₀ src : List ℕ) (start i : ℕ) → l ≡ take i (drop start src) ++ drop i l₀ → start + i < length src → i < length l₀
+    → set l i (getD src (start + i) 0) ≡ take (i + 1) (drop start src) ++ drop (i + 1) l₀
 copy-from l l₀ src start i e h h₀ =
     let n : i < length (drop start src) = rw length-drop (omega arith) in
     rw (← getD-drop start src i 0) (copy-turn l l₀ (drop start src) i e n h₀)
@@ -126,7 +133,8 @@ back-rest o p from =
     let e : drop (length o - from) (drop from o) ≡ [] = drop-of-length-le (drop from o) (le-of-eq (length-drop from o)) in
     ap (λ (l : List ℕ). take from o ++ (p ++ l)) e ∙ ap (λ (l : List ℕ). take from o ++ l) (append-nil p)
 
-module _ (t bs rest o o₀ p : List ℕ) (at from k : ℕ) (h : Pours t (bs ++ rest) at o o₀) (l : length o ≡ length o₀) (e : from ≡ min at (length o)) (q : Puts bs k (take (length o - from) (drop from o)) p) where
+module _ (t bs rest o o₀ p : List ℕ) (at from k : ℕ) (h : Pours t (bs ++ rest) at o o₀) (l : length o ≡ length o₀) (e : from ≡ min at (length o))
+    (q : Puts bs k (take (length o - from) (drop from o)) p) where
   count-on : at + k + length rest ≡ length t
   count-on = omega (arith, q .count, length-append bs rest, h .count)
 

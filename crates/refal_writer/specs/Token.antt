@@ -2,10 +2,10 @@
 use Prim.Native.Nat.{ℕ, _≤_, _<_}
 use mathlib.Core.List.{List, [], _∷_, _++_, append-assoc, append-nil}
 use mathlib.Core.Path.{_≡_, refl, sym, ap, _∙_}
-use lib.Dec.{eqb}
 use borrow.Author.Tests.{ne-eqb}
 use Rattle.refal_ast.specs.Flatten.{Flat}
-use Rattle.refal_spelling.specs.Spell.{Spelled, spelled, view, views, spelling, text, entryWord, externWord, body, quoted, dotted, markByte}
+use Rattle.refal_spelling.specs.Sound.{views-append}
+use Rattle.refal_spelling.specs.Spell.{Spelled, spelled, views, spelling, text, entryWord, externWord, body, quoted, dotted, markByte}
 
 -- a list of flattened tokens, written with the source src
 abbrev pub textOf : List ℕ → List Flat → List ℕ
@@ -34,10 +34,6 @@ unfolding text
 text-append [] us = refl
 text-append (t ∷ ts) us =
     ap (λ (l : List ℕ). (spelling t ++ 32 ∷ []) ++ l) (text-append ts us) ∙ sym (append-assoc (spelling t ++ 32 ∷ []) (text ts) (text us))
-
-views-append : (src : List ℕ) (fs gs : List Flat) → views src (fs ++ gs) ≡ views src fs ++ views src gs
-views-append src [] gs = refl
-views-append src (f ∷ fs) gs = ap (λ (l : List Spelled). view src f ∷ l) (views-append src fs gs)
 
 pub text-of-append : (src : List ℕ) (fs gs : List Flat) → textOf src (fs ++ gs) ≡ textOf src fs ++ textOf src gs
 text-of-append src fs gs = ap text (views-append src fs gs) ∙ text-append (views src fs) (views src gs)

@@ -1,8 +1,8 @@
 -- Writing by a walk over rows: what is known of the rows that it writes, and a turn of the walk at row i.
 use Prim.Native.Nat.{ℕ, zero, suc, _+_, _*_, _-_, _≤_, _<_}
 use mathlib.Core.Bool.{Bool, true, false, not, _&&_, _||_, true≢false}
-use mathlib.Core.List.{List, [], _∷_, _++_}
-use mathlib.Core.Path.{_≡_, refl, sym, ap, subst, _∙_}
+use mathlib.Core.List.{List, [], _++_}
+use mathlib.Core.Path.{_≡_, refl, sym, ap, _∙_}
 use native.Mathlib.Omega.{arith}
 use native.Mathlib.Decide.{decLe}
 use lib.Dec.{eqb}
@@ -104,7 +104,8 @@ module _ (w : List ℕ) (i j st k x : ℕ) (kind : k ≡ kindAt w i) (next : x �
     walk-rest = record { left = W .left; ok = rw (then, kind, next) (here .rest) }
 
     -- the text of a turn, part by part
-    pub turn-text : (src : List ℕ) → textOf src (flatAt w i j st) ≡ textOf src (opening st (rowAt w i)) ++ (textOf src (flatAt w (i + 1) x s) ++ (textOf src (closing st k) ++ textOf src (flatAt w x j u)))
+    pub turn-text : (src : List ℕ) → textOf src (flatAt w i j st)
+        ≡ textOf src (opening st (rowAt w i)) ++ (textOf src (flatAt w (i + 1) x s) ++ (textOf src (closing st k) ++ textOf src (flatAt w x j u)))
     turn-text src =
         let K : ℕ = kindAt w i in
         let z : ℕ = nextAt w i in

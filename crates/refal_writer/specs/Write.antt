@@ -1,6 +1,6 @@
 -- What `write` answers, and what it leaves in the bytes lent, for the node words w, the source src and the bytes `old` (document 01 "Writing").
 use Prim.Native.Nat.{ℕ}
-use mathlib.Core.Bool.{Bool, true, false, not, _&&_}
+use mathlib.Core.Bool.{Bool, not, _&&_}
 use mathlib.Core.List.{List, [], _++_}
 use mathlib.Core.Option.{Option, none, some}
 use lib.Dec.{leb}

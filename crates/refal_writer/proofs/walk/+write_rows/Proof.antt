@@ -1,14 +1,14 @@
 -- `refal_writer::walk::write_rows` meet their contracts, as one cycle of calls.
 use Prim.Native.Nat.{ℕ, _+_, _*_, _-_, _≤_, _<_}
-use mathlib.Core.List.{List, []}
-use mathlib.Core.Path.{_≡_, refl, sym, subst, _∙_}
+use mathlib.Core.List.{List}
+use mathlib.Core.Path.{_≡_, refl, subst, _∙_}
 use native.Mathlib.Omega.{arith}
 use lib.ListN.{length}
 use Rattle.refal_tree.specs.States.{after}
 use Rattle.refal_tree.specs.Walk.{flatAt}
-use Rattle.refal_writer.specs.Puts.{Puts, Pours, pours-start, pours-on, pours-end}
+use Rattle.refal_writer.specs.Puts.{Pours, pours-start, pours-on, pours-end}
 use Rattle.refal_writer.specs.Token.{textOf}
-use Rattle.refal_writer.specs.Walk.{Walks, Standing, walk-low, walk-high, walk-row, walk-kids, walk-rest, turn-text, end-text, widest, filled-small, turn-small, rows-fall, left-falls}
+use Rattle.refal_writer.specs.Walk.{Walks, walk-low, walk-high, walk-row, walk-kids, walk-rest, turn-text, end-text, widest, filled-small, turn-small, rows-fall, left-falls}
 use borrow.Author.Needs.{needs}
 use Prim.Native.Nat.{ℕ, _<_}
 use borrow.Fn.Kinds.{In}
@@ -367,9 +367,13 @@ write-rows-write-rows-requires : (t : ℕ) → write-rows-lts.Need-write-rows-re
 write-rows-write-rows-requires t c κs = let a = c .before .before .before .before .before .before .before .before .before .before .before .before .before .before .before .args in
     let g = c .before .before .before .before .before .before .before .before .before .before .before .loop in
     let m : g .i < a .to = c .before .before .before .before .before .before .before .before .before .before .loop-test .taken in
-    let lo = walk-low (a .tree .now) (g .i) (a .to) (g .st) (c .before .before .before .before .before .before .before .before .before .kind .result) (c .before .before .before .before .before .before .before .before .next .result) (c .before .before .before .before .before .before .before .before .before .kind .ensures) (c .before .before .before .before .before .before .before .before .next .ensures) (c .before .before .before .before .before .before .before .before .before .before .before .before .before .before .before .pre .1 .1) m (g .inv .4) in
-    let hi = walk-high (a .tree .now) (g .i) (a .to) (g .st) (c .before .before .before .before .before .before .before .before .before .kind .result) (c .before .before .before .before .before .before .before .before .next .result) (c .before .before .before .before .before .before .before .before .before .kind .ensures) (c .before .before .before .before .before .before .before .before .next .ensures) (c .before .before .before .before .before .before .before .before .before .before .before .before .before .before .before .pre .1 .1) m (g .inv .4) in
-    let s = walk-kids (a .tree .now) (g .i) (a .to) (g .st) (c .before .before .before .before .before .before .before .before .before .kind .result) (c .before .before .before .before .before .before .before .before .next .result) (c .before .before .before .before .before .before .before .before .before .kind .ensures) (c .before .before .before .before .before .before .before .before .next .ensures) (c .before .before .before .before .before .before .before .before .before .before .before .before .before .before .before .pre .1 .1) m (g .inv .4) (c .before .inside .result) (after (g .st) (c .before .before .before .before .before .before .before .before .before .kind .result)) (c .before .inside .ensures) refl in
+    let lo = walk-low (a .tree .now) (g .i) (a .to) (g .st) (c .before .before .before .before .before .before .before .before .before .kind .result) (c .before .before .before .before .before .before .before .before .next .result) (c .before .before .before .before .before .before .before .before .before .kind .ensures)
+    (c .before .before .before .before .before .before .before .before .next .ensures) (c .before .before .before .before .before .before .before .before .before .before .before .before .before .before .before .pre .1 .1) m (g .inv .4) in
+    let hi = walk-high (a .tree .now) (g .i) (a .to) (g .st) (c .before .before .before .before .before .before .before .before .before .kind .result) (c .before .before .before .before .before .before .before .before .next .result) (c .before .before .before .before .before .before .before .before .before .kind .ensures)
+    (c .before .before .before .before .before .before .before .before .next .ensures) (c .before .before .before .before .before .before .before .before .before .before .before .before .before .before .before .pre .1 .1) m (g .inv .4) in
+    let s = walk-kids (a .tree .now) (g .i) (a .to) (g .st) (c .before .before .before .before .before .before .before .before .before .kind .result) (c .before .before .before .before .before .before .before .before .next .result) (c .before .before .before .before .before .before .before .before .before .kind .ensures)
+    (c .before .before .before .before .before .before .before .before .next .ensures) (c .before .before .before .before .before .before .before .before .before .before .before .before .before .before .before .pre .1 .1) m (g .inv .4) (c .before .inside .result) (after (g .st) (c .before .before .before .before .before .before .before .before .before .kind .result))
+    (c .before .inside .ensures) refl in
     let d : c .before .before .before .before .before .before .before .before .next .result - (g .i + 1) < a .to - a .from = rows-fall (a .from) (g .i) (c .before .before .before .before .before .before .before .before .next .result) (a .to) (g .inv .0) lo hi in
     let e = c .before .before .before .before .before .before .before .before .before .before .before .before .before .before .before .pre .0 in
     (omega arith, (omega arith, omega arith, omega arith, s))
@@ -395,8 +399,11 @@ write-rows-add-filled : (t : ℕ) → write-rows-lts.Need-add-filled (
 write-rows-add-filled t c = let a = c .before .before .before .before .before .before .before .before .before .before .before .before .before .before .before .before .before .before .args in
     let g = c .before .before .before .before .before .before .before .before .before .before .before .before .before .before .loop in
     let m : g .i < a .to = c .before .before .before .before .before .before .before .before .before .before .before .before .before .loop-test .taken in
-    let hi = walk-high (a .tree .now) (g .i) (a .to) (g .st) (c .before .before .before .before .before .before .before .before .before .before .before .before .kind .result) (c .before .before .before .before .before .before .before .before .before .before .before .next .result) (c .before .before .before .before .before .before .before .before .before .before .before .before .kind .ensures) (c .before .before .before .before .before .before .before .before .before .before .before .next .ensures) (c .before .before .before .before .before .before .before .before .before .before .before .before .before .before .before .before .before .before .pre .1 .1) m (g .inv .4) in
-    let f = filled-small (a .from) (g .i) (c .before .before .before .before .before .before .before .before .before .before .before .next .result) (a .to) (g .at) (c .before .before .before .before .before .before .before .before .open-row .result) (c .before .before .write-rows .result) (g .inv .3) (c .before .before .before .before .before .before .before .before .open-row .ensures .1) (c .before .before .write-rows .ensures .1) hi (c .before .before .before .before .before .before .before .before .before .before .before .before .before .before .before .before .before .before .pre .1 .2) in
+    let hi = walk-high (a .tree .now) (g .i) (a .to) (g .st) (c .before .before .before .before .before .before .before .before .before .before .before .before .kind .result) (c .before .before .before .before .before .before .before .before .before .before .before .next .result)
+    (c .before .before .before .before .before .before .before .before .before .before .before .before .kind .ensures) (c .before .before .before .before .before .before .before .before .before .before .before .next .ensures)
+    (c .before .before .before .before .before .before .before .before .before .before .before .before .before .before .before .before .before .before .pre .1 .1) m (g .inv .4) in
+    let f = filled-small (a .from) (g .i) (c .before .before .before .before .before .before .before .before .before .before .before .next .result) (a .to) (g .at) (c .before .before .before .before .before .before .before .before .open-row .result) (c .before .before .write-rows .result) (g .inv .3)
+    (c .before .before .before .before .before .before .before .before .open-row .ensures .1) (c .before .before .write-rows .ensures .1) hi (c .before .before .before .before .before .before .before .before .before .before .before .before .before .before .before .before .before .before .pre .1 .2) in
     search needs
 
 write-rows-least-requires-3 : (t : ℕ) → write-rows-lts.Need-least-requires-3 (
@@ -520,8 +527,12 @@ write-rows-add-at : (t : ℕ) → write-rows-lts.Need-add-at (
 write-rows-add-at t c = let a = c .before .before .before .before .before .before .before .before .before .before .before .before .before .before .before .before .before .before .before .before .before .before .before .args in
     let g = c .before .before .before .before .before .before .before .before .before .before .before .before .before .before .before .before .before .before .before .loop in
     let m : g .i < a .to = c .before .before .before .before .before .before .before .before .before .before .before .before .before .before .before .before .before .before .loop-test .taken in
-    let hi = walk-high (a .tree .now) (g .i) (a .to) (g .st) (c .before .before .before .before .before .before .before .before .before .before .before .before .before .before .before .before .before .kind .result) (c .before .before .before .before .before .before .before .before .before .before .before .before .before .before .before .before .next .result) (c .before .before .before .before .before .before .before .before .before .before .before .before .before .before .before .before .before .kind .ensures) (c .before .before .before .before .before .before .before .before .before .before .before .before .before .before .before .before .next .ensures) (c .before .before .before .before .before .before .before .before .before .before .before .before .before .before .before .before .before .before .before .before .before .before .before .pre .1 .1) m (g .inv .4) in
-    let f = filled-small (a .from) (g .i) (c .before .before .before .before .before .before .before .before .before .before .before .before .before .before .before .before .next .result) (a .to) (g .at) (c .before .before .before .before .before .before .before .before .before .before .before .before .before .open-row .result) (c .before .before .before .before .before .before .before .write-rows .result) (g .inv .3) (c .before .before .before .before .before .before .before .before .before .before .before .before .before .open-row .ensures .1) (c .before .before .before .before .before .before .before .write-rows .ensures .1) hi (c .before .before .before .before .before .before .before .before .before .before .before .before .before .before .before .before .before .before .before .before .before .before .before .pre .1 .2) in
+    let hi = walk-high (a .tree .now) (g .i) (a .to) (g .st) (c .before .before .before .before .before .before .before .before .before .before .before .before .before .before .before .before .before .kind .result) (c .before .before .before .before .before .before .before .before .before .before .before .before .before .before .before .before .next .result)
+    (c .before .before .before .before .before .before .before .before .before .before .before .before .before .before .before .before .before .kind .ensures) (c .before .before .before .before .before .before .before .before .before .before .before .before .before .before .before .before .next .ensures)
+    (c .before .before .before .before .before .before .before .before .before .before .before .before .before .before .before .before .before .before .before .before .before .before .before .pre .1 .1) m (g .inv .4) in
+    let f = filled-small (a .from) (g .i) (c .before .before .before .before .before .before .before .before .before .before .before .before .before .before .before .before .next .result) (a .to) (g .at) (c .before .before .before .before .before .before .before .before .before .before .before .before .before .open-row .result)
+    (c .before .before .before .before .before .before .before .write-rows .result) (g .inv .3) (c .before .before .before .before .before .before .before .before .before .before .before .before .before .open-row .ensures .1) (c .before .before .before .before .before .before .before .write-rows .ensures .1) hi
+    (c .before .before .before .before .before .before .before .before .before .before .before .before .before .before .before .before .before .before .before .before .before .before .before .pre .1 .2) in
     let l = c .before .before .write-closing .ensures .1 in
     search needs
 
@@ -566,7 +577,13 @@ write-rows-loop-less : (t : ℕ) → write-rows-lts.Need-loop-less (
 write-rows-loop-less t c = let a = c .before .before .before .before .before .before .before .before .before .before .before .before .before .before .before .before .before .before .before .before .before .before .before .before .args in
     let g = c .before .before .before .before .before .before .before .before .before .before .before .before .before .before .before .before .before .before .before .before .loop in
     let m : g .i < a .to = c .before .before .before .before .before .before .before .before .before .before .before .before .before .before .before .before .before .before .before .loop-test .taken in
-    left-falls (g .i) (c .before .before .before .before .before .before .before .before .before .before .before .before .before .before .before .before .before .next .result) (a .to) (walk-low (a .tree .now) (g .i) (a .to) (g .st) (c .before .before .before .before .before .before .before .before .before .before .before .before .before .before .before .before .before .before .kind .result) (c .before .before .before .before .before .before .before .before .before .before .before .before .before .before .before .before .before .next .result) (c .before .before .before .before .before .before .before .before .before .before .before .before .before .before .before .before .before .before .kind .ensures) (c .before .before .before .before .before .before .before .before .before .before .before .before .before .before .before .before .before .next .ensures) (c .before .before .before .before .before .before .before .before .before .before .before .before .before .before .before .before .before .before .before .before .before .before .before .before .pre .1 .1) m (g .inv .4)) (walk-high (a .tree .now) (g .i) (a .to) (g .st) (c .before .before .before .before .before .before .before .before .before .before .before .before .before .before .before .before .before .before .kind .result) (c .before .before .before .before .before .before .before .before .before .before .before .before .before .before .before .before .before .next .result) (c .before .before .before .before .before .before .before .before .before .before .before .before .before .before .before .before .before .before .kind .ensures) (c .before .before .before .before .before .before .before .before .before .before .before .before .before .before .before .before .before .next .ensures) (c .before .before .before .before .before .before .before .before .before .before .before .before .before .before .before .before .before .before .before .before .before .before .before .before .pre .1 .1) m (g .inv .4))
+    left-falls (g .i) (c .before .before .before .before .before .before .before .before .before .before .before .before .before .before .before .before .before .next .result) (a .to) (walk-low (a .tree .now) (g .i) (a .to) (g .st)
+    (c .before .before .before .before .before .before .before .before .before .before .before .before .before .before .before .before .before .before .kind .result) (c .before .before .before .before .before .before .before .before .before .before .before .before .before .before .before .before .before .next .result)
+    (c .before .before .before .before .before .before .before .before .before .before .before .before .before .before .before .before .before .before .kind .ensures) (c .before .before .before .before .before .before .before .before .before .before .before .before .before .before .before .before .before .next .ensures)
+    (c .before .before .before .before .before .before .before .before .before .before .before .before .before .before .before .before .before .before .before .before .before .before .before .before .pre .1 .1) m (g .inv .4)) (walk-high (a .tree .now) (g .i) (a .to) (g .st)
+    (c .before .before .before .before .before .before .before .before .before .before .before .before .before .before .before .before .before .before .kind .result) (c .before .before .before .before .before .before .before .before .before .before .before .before .before .before .before .before .before .next .result)
+    (c .before .before .before .before .before .before .before .before .before .before .before .before .before .before .before .before .before .before .kind .ensures) (c .before .before .before .before .before .before .before .before .before .before .before .before .before .before .before .before .before .next .ensures)
+    (c .before .before .before .before .before .before .before .before .before .before .before .before .before .before .before .before .before .before .before .before .before .before .before .before .pre .1 .1) m (g .inv .4))
 
 write-rows-loop-again : (t : ℕ) → write-rows-lts.Need-loop-again (
   kind-reads.Asked,
@@ -589,11 +606,23 @@ write-rows-loop-again : (t : ℕ) → write-rows-lts.Need-loop-again (
 write-rows-loop-again t c = let a = c .before .before .before .before .before .before .before .before .before .before .before .before .before .before .before .before .before .before .before .before .before .before .before .before .args in
     let g = c .before .before .before .before .before .before .before .before .before .before .before .before .before .before .before .before .before .before .before .before .loop in
     let m : g .i < a .to = c .before .before .before .before .before .before .before .before .before .before .before .before .before .before .before .before .before .before .before .loop-test .taken in
-    let lo = walk-low (a .tree .now) (g .i) (a .to) (g .st) (c .before .before .before .before .before .before .before .before .before .before .before .before .before .before .before .before .before .before .kind .result) (c .before .before .before .before .before .before .before .before .before .before .before .before .before .before .before .before .before .next .result) (c .before .before .before .before .before .before .before .before .before .before .before .before .before .before .before .before .before .before .kind .ensures) (c .before .before .before .before .before .before .before .before .before .before .before .before .before .before .before .before .before .next .ensures) (c .before .before .before .before .before .before .before .before .before .before .before .before .before .before .before .before .before .before .before .before .before .before .before .before .pre .1 .1) m (g .inv .4) in
-    let hi = walk-high (a .tree .now) (g .i) (a .to) (g .st) (c .before .before .before .before .before .before .before .before .before .before .before .before .before .before .before .before .before .before .kind .result) (c .before .before .before .before .before .before .before .before .before .before .before .before .before .before .before .before .before .next .result) (c .before .before .before .before .before .before .before .before .before .before .before .before .before .before .before .before .before .before .kind .ensures) (c .before .before .before .before .before .before .before .before .before .before .before .before .before .before .before .before .before .next .ensures) (c .before .before .before .before .before .before .before .before .before .before .before .before .before .before .before .before .before .before .before .before .before .before .before .before .pre .1 .1) m (g .inv .4) in
-    let b = turn-small (a .from) (g .i) (c .before .before .before .before .before .before .before .before .before .before .before .before .before .before .before .before .before .next .result) (a .to) (g .at) (c .before .before .before .before .before .before .before .before .before .before .before .before .before .before .open-row .result) (c .before .before .before .before .before .before .before .before .write-rows .result) (g .inv .3) (c .before .before .before .before .before .before .before .before .before .before .before .before .before .before .open-row .ensures .1) (c .before .before .before .before .before .before .before .before .write-rows .ensures .1) hi (c .before .before .before .before .before .before .before .before .before .before .before .before .before .before .before .before .before .before .before .before .before .before .before .before .pre .1 .2) (c .before .before .before .write-closing .result) (c .before .before .before .write-closing .ensures .1) in
-    let rest = walk-rest (a .tree .now) (g .i) (a .to) (g .st) (c .before .before .before .before .before .before .before .before .before .before .before .before .before .before .before .before .before .before .kind .result) (c .before .before .before .before .before .before .before .before .before .before .before .before .before .before .before .before .before .next .result) (c .before .before .before .before .before .before .before .before .before .before .before .before .before .before .before .before .before .before .kind .ensures) (c .before .before .before .before .before .before .before .before .before .before .before .before .before .before .before .before .before .next .ensures) (c .before .before .before .before .before .before .before .before .before .before .before .before .before .before .before .before .before .before .before .before .before .before .before .before .pre .1 .1) m (g .inv .4) (c .before .before .before .before .before .before .before .before .before .before .inside .result) (c .after .result) (c .before .before .before .before .before .before .before .before .before .before .inside .ensures) (c .after .ensures) in
-    let e = turn-text (a .tree .now) (g .i) (a .to) (g .st) (c .before .before .before .before .before .before .before .before .before .before .before .before .before .before .before .before .before .before .kind .result) (c .before .before .before .before .before .before .before .before .before .before .before .before .before .before .before .before .before .next .result) (c .before .before .before .before .before .before .before .before .before .before .before .before .before .before .before .before .before .before .kind .ensures) (c .before .before .before .before .before .before .before .before .before .before .before .before .before .before .before .before .before .next .ensures) (c .before .before .before .before .before .before .before .before .before .before .before .before .before .before .before .before .before .before .before .before .before .before .before .before .pre .1 .1) m (g .inv .4) (c .before .before .before .before .before .before .before .before .before .before .inside .result) (c .after .result) (c .before .before .before .before .before .before .before .before .before .before .inside .ensures) (c .after .ensures) (a .src .now) in
+    let lo = walk-low (a .tree .now) (g .i) (a .to) (g .st) (c .before .before .before .before .before .before .before .before .before .before .before .before .before .before .before .before .before .before .kind .result) (c .before .before .before .before .before .before .before .before .before .before .before .before .before .before .before .before .before .next .result)
+    (c .before .before .before .before .before .before .before .before .before .before .before .before .before .before .before .before .before .before .kind .ensures) (c .before .before .before .before .before .before .before .before .before .before .before .before .before .before .before .before .before .next .ensures)
+    (c .before .before .before .before .before .before .before .before .before .before .before .before .before .before .before .before .before .before .before .before .before .before .before .before .pre .1 .1) m (g .inv .4) in
+    let hi = walk-high (a .tree .now) (g .i) (a .to) (g .st) (c .before .before .before .before .before .before .before .before .before .before .before .before .before .before .before .before .before .before .kind .result) (c .before .before .before .before .before .before .before .before .before .before .before .before .before .before .before .before .before .next .result)
+    (c .before .before .before .before .before .before .before .before .before .before .before .before .before .before .before .before .before .before .kind .ensures) (c .before .before .before .before .before .before .before .before .before .before .before .before .before .before .before .before .before .next .ensures)
+    (c .before .before .before .before .before .before .before .before .before .before .before .before .before .before .before .before .before .before .before .before .before .before .before .before .pre .1 .1) m (g .inv .4) in
+    let b = turn-small (a .from) (g .i) (c .before .before .before .before .before .before .before .before .before .before .before .before .before .before .before .before .before .next .result) (a .to) (g .at) (c .before .before .before .before .before .before .before .before .before .before .before .before .before .before .open-row .result)
+    (c .before .before .before .before .before .before .before .before .write-rows .result) (g .inv .3) (c .before .before .before .before .before .before .before .before .before .before .before .before .before .before .open-row .ensures .1) (c .before .before .before .before .before .before .before .before .write-rows .ensures .1) hi
+    (c .before .before .before .before .before .before .before .before .before .before .before .before .before .before .before .before .before .before .before .before .before .before .before .before .pre .1 .2) (c .before .before .before .write-closing .result) (c .before .before .before .write-closing .ensures .1) in
+    let rest = walk-rest (a .tree .now) (g .i) (a .to) (g .st) (c .before .before .before .before .before .before .before .before .before .before .before .before .before .before .before .before .before .before .kind .result) (c .before .before .before .before .before .before .before .before .before .before .before .before .before .before .before .before .before .next .result)
+    (c .before .before .before .before .before .before .before .before .before .before .before .before .before .before .before .before .before .before .kind .ensures) (c .before .before .before .before .before .before .before .before .before .before .before .before .before .before .before .before .before .next .ensures)
+    (c .before .before .before .before .before .before .before .before .before .before .before .before .before .before .before .before .before .before .before .before .before .before .before .before .pre .1 .1) m (g .inv .4) (c .before .before .before .before .before .before .before .before .before .before .inside .result) (c .after .result)
+    (c .before .before .before .before .before .before .before .before .before .before .inside .ensures) (c .after .ensures) in
+    let e = turn-text (a .tree .now) (g .i) (a .to) (g .st) (c .before .before .before .before .before .before .before .before .before .before .before .before .before .before .before .before .before .before .kind .result) (c .before .before .before .before .before .before .before .before .before .before .before .before .before .before .before .before .before .next .result)
+    (c .before .before .before .before .before .before .before .before .before .before .before .before .before .before .before .before .before .before .kind .ensures) (c .before .before .before .before .before .before .before .before .before .before .before .before .before .before .before .before .before .next .ensures)
+    (c .before .before .before .before .before .before .before .before .before .before .before .before .before .before .before .before .before .before .before .before .before .before .before .before .pre .1 .1) m (g .inv .4) (c .before .before .before .before .before .before .before .before .before .before .inside .result) (c .after .result)
+    (c .before .before .before .before .before .before .before .before .before .before .inside .ensures) (c .after .ensures) (a .src .now) in
     let T : List ℕ = textOf (a .src .now) (flatAt (a .tree .now) (a .from) (a .to) (a .start)) in
     let p = subst (λ (r : List ℕ). Pours T r (g .at) (g .out) (a .out .now)) e (g .inv .5) in
     let p1 = pours-on _ _ _ _ _ _ _ _ _ p (g .inv .2) (c .before .before .before .before .before .before .before .before .before .before .before .before .before .before .before .before .least .ensures) (c .before .before .before .before .before .before .before .before .before .before .before .before .before .before .open-row .ensures .0) in

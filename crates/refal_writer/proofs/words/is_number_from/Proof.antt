@@ -37,11 +37,13 @@ returns-3 c = let w = c .before .before .before .before .before .before .before 
     let a = c .before .before .before .before .before .before .whole-end .result .end in
     let v = c .before .before .before .before .before .before .whole-end .result .worth in
     whole-same (length w) (c .before .before .before .before .before .before .before .before .args .from) a v (drop (c .before .before .before .before .before .before .before .before .args .from) w)
-    (number-whole w 0 (c .before .before .before .before .before .before .before .before .args .from) a (c .before .before .before .before .before .part-end .result) (c .before .before .before .before .before .before .whole-end .ensures .0) (c .before .before .before .before .before .part-end .ensures .0) (c .before .before .before .part-end2 .result) v (wholeScan 0 (c .before .before .before .before .before .before .before .before .args .from) a v) (c .before .before .before .before .if1 .left) (c .before .before .before .part-end2 .ensures .0) (c .before .before .if2 .left) (c .before .if3 .taken) (c .before .before .before .before .before .before .whole-end .ensures .2) refl)
+    (number-whole w 0 (c .before .before .before .before .before .before .before .before .args .from) a (c .before .before .before .before .before .part-end .result) (c .before .before .before .before .before .before .whole-end .ensures .0) (c .before .before .before .before .before .part-end .ensures .0) (c .before .before .before .part-end2 .result) v (wholeScan 0
+    (c .before .before .before .before .before .before .before .before .args .from) a v) (c .before .before .before .before .if1 .left) (c .before .before .before .part-end2 .ensures .0) (c .before .before .if2 .left) (c .before .if3 .taken) (c .before .before .before .before .before .before .whole-end .ensures .2) refl)
 
 returns-4 : tie.Need-returns-4
 returns-4 c = let w = c .before .before .before .before .before .before .before .args .word .now in
-    ap (tokenTo 5 (length w)) (number-real w 0 (c .before .before .before .before .before .before .before .args .from) (c .before .before .before .before .before .whole-end .result .end) (c .before .before .before .before .part-end .result) (c .before .before .before .before .before .whole-end .ensures .0) (c .before .before .before .before .part-end .ensures .0) (c .before .before .part-end2 .result) (c .before .before .before .if1 .left) (c .before .before .part-end2 .ensures .0) (c .before .if2 .left) (c .if3 .left))
+    ap (tokenTo 5 (length w)) (number-real w 0 (c .before .before .before .before .before .before .before .args .from) (c .before .before .before .before .before .whole-end .result .end) (c .before .before .before .before .part-end .result) (c .before .before .before .before .before .whole-end .ensures .0) (c .before .before .before .before .part-end .ensures .0)
+    (c .before .before .part-end2 .result) (c .before .before .before .if1 .left) (c .before .before .part-end2 .ensures .0) (c .before .if2 .left) (c .if3 .left))
 
 pub is-number-from-spec : {M : Type 1} → statement M
 is-number-from-spec =
