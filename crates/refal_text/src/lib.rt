@@ -5,6 +5,7 @@ ghost use lib.ListN.{length, drop, getD};
 ghost use Rattle.refal_text.specs.Utf8.{leads, second, well2, well3, well4, two, three, four, decode, wellTo, ascii};
 ghost use Rattle.refal_text.specs.White.{whiteSpace};
 ghost use Rattle.refal_text.specs.Span.{span};
+ghost use Rattle.refal_text.specs.AsciiLaws.{eight};
 
 // A character and how many bytes it has; 0 where the bytes are no character.
 pub struct Char {
@@ -151,12 +152,36 @@ pub fn char_at(src: &[u8], at: usize) -> Char
     Char { code: 0, len: 0 }
 }
 
+// Whether the eight bytes at i are below 128.
+fn ascii_eight(src: &[u8], i: usize) -> bool
+    requires { ⌜ i + 8 ≤ length (now src) ⌝ }
+    ensures { λ r. ⌜ r ≡ eight (now (src .entry)) i ⌝ }
+{
+    (((src[i] < 128) & (src[i + 1] < 128)) & ((src[i + 2] < 128) & (src[i + 3] < 128)))
+        & (((src[i + 4] < 128) & (src[i + 5] < 128)) & ((src[i + 6] < 128) & (src[i + 7] < 128)))
+}
+
+// A place within the run of bytes below 128 from `at`, as far on as eights of them go.
+fn ascii_eights(src: &[u8], at: usize) -> usize
+    requires { ⌜ at ≤ length (now src) ⌝ }
+    ensures { λ r. ⌜ (r + span ascii (drop r (now (src .entry))) ≡ at + span ascii (drop at (now (src .entry)))) × (r ≤ length (now (src .entry))) ⌝ }
+{
+    let mut i = at;
+    while 8 <= src.len() - i {
+        if !ascii_eight(src, i) {
+            return i;
+        }
+        i += 8;
+    }
+    i
+}
+
 // Where the bytes below 128 from `at` end.
 fn ascii_end(src: &[u8], at: usize) -> usize
     requires { ⌜ at ≤ length (now src) ⌝ }
     ensures { λ r. ⌜ (r ≡ at + span ascii (drop at (now (src .entry)))) × (r ≤ length (now (src .entry))) ⌝ }
 {
-    let mut i = at;
+    let mut i = ascii_eights(src, at);
     while i < src.len() {
         if src[i] >= 128 {
             return i;

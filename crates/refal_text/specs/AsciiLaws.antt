@@ -1,0 +1,43 @@
+-- Eight bytes below 128 at a time: the run of them goes on eight bytes further.
+use Prim.Native.Nat.{ℕ, _+_, _<_, _≤_}
+use native.Mathlib.Omega.{arith}
+use mathlib.Core.Bool.{Bool, true, _&&_}
+use mathlib.Core.List.{List}
+use mathlib.Core.Path.{_≡_, refl, ap, _∙_}
+use lib.ListN.{length, drop, getD}
+use Rattle.refal_rows.specs.Tests.{and-left, and-right}
+use Rattle.refal_text.specs.Span.{span}
+use Rattle.refal_text.specs.SpanLaws.{span-step}
+use Rattle.refal_text.specs.Utf8.{ascii}
+
+abbrev pub low : List ℕ → ℕ → Bool
+low s i = ascii (getD s i 0)
+
+abbrev pub quad : List ℕ → ℕ → ℕ → ℕ → ℕ → Bool
+quad s a b c d = (low s a && low s b) && (low s c && low s d)
+
+abbrev pub eight : List ℕ → ℕ → Bool
+eight s i = quad s i (i + 1) (i + 2) (i + 3) && quad s (i + 4) (i + 5) (i + 6) (i + 7)
+
+-- a run that starts at i goes on at j
+abbrev On : List ℕ → ℕ → ℕ → Type 0
+On s j i = j + span ascii (drop j s) ≡ i + span ascii (drop i s)
+
+one-on : (s : List ℕ) (i j : ℕ) → i < length s → j ≡ i + 1 → low s i ≡ true → On s j i
+one-on s i j h e t = ap (λ (k : ℕ). k + span ascii (drop k s)) e ∙ span-step ascii s i h t
+
+four-on : (s : List ℕ) (a b c d e : ℕ) → d < length s → b ≡ a + 1 → c ≡ b + 1 → d ≡ c + 1 → e ≡ d + 1 → quad s a b c d ≡ true → On s e a
+four-on s a b c d e h eb ec ed ee t =
+    let l = and-left (low s a && low s b) (low s c && low s d) t in
+    let r = and-right (low s a && low s b) (low s c && low s d) t in
+    one-on s d e h ee (and-right (low s c) (low s d) r)
+    ∙ one-on s c d (omega arith) ed (and-left (low s c) (low s d) r)
+    ∙ one-on s b c (omega arith) ec (and-right (low s a) (low s b) l)
+    ∙ one-on s a b (omega arith) eb (and-left (low s a) (low s b) l)
+
+pub eight-on : (s : List ℕ) (i : ℕ) → i + 8 ≤ length s → eight s i ≡ true → i + 8 + span ascii (drop (i + 8) s) ≡ i + span ascii (drop i s)
+eight-on s i h t =
+    four-on s (i + 4) (i + 5) (i + 6) (i + 7) (i + 8) (omega arith) (omega arith) (omega arith) (omega arith) (omega arith)
+    (and-right (quad s i (i + 1) (i + 2) (i + 3)) (quad s (i + 4) (i + 5) (i + 6) (i + 7)) t)
+    ∙ four-on s i (i + 1) (i + 2) (i + 3) (i + 4) (omega arith) refl (omega arith) (omega arith) (omega arith)
+    (and-left (quad s i (i + 1) (i + 2) (i + 3)) (quad s (i + 4) (i + 5) (i + 6) (i + 7)) t)
