@@ -130,7 +130,7 @@ fn parse(input: &[u8], rows: &mut [u32]) {
     parse_first(&tokens, n, rows);
 }
 
-// The call on rows that the letter stands for, with as much of the space as is to be lent.
+// The call that leaves rows that the letter stands for, with as much of the space as is to be lent.
 fn call_rows(letter: u8, input: &[u8], space: &mut [u32], lent: usize) {
     if lent > space.len() {
         return;
@@ -144,7 +144,47 @@ fn call_rows(letter: u8, input: &[u8], space: &mut [u32], lent: usize) {
     }
 }
 
-// The call on names that the letter stands for, with as much of the space as is to be lent.
+// Writes the tree that the first n words are.
+fn write_first(tree: &[u32], n: usize, input: &[u8], out: &mut [u8]) {
+    if n > tree.len() {
+        return;
+    }
+    let mut answer = [0u64; 7];
+    refal5::refal5_write(&tree[..n], input, out, &mut answer);
+    put_answer(&answer);
+    put_bytes(out);
+}
+
+// Parses the first n words of the tokens' rows with room for every node, then writes.
+fn write_parsed(tokens: &[u32], n: usize, input: &[u8], out: &mut [u8]) {
+    if n > tokens.len() {
+        return;
+    }
+    let mut tree = [0u32; 840];
+    let mut answer = [0u64; 7];
+    refal5::refal5_parse(&tokens[..n], &mut tree, &mut answer);
+    let count = answer[1];
+    if count > 120 {
+        return;
+    }
+    let m = (count as usize) * 7;
+    write_first(&tree, m, input, out);
+}
+
+// Reads with room for every token, then parses and writes.
+fn write(input: &[u8], out: &mut [u8]) {
+    let mut tokens = [0u32; 354];
+    let mut answer = [0u64; 7];
+    refal5::refal5_read(input, &mut tokens, &mut answer);
+    let count = answer[1];
+    if count > 59 {
+        return;
+    }
+    let n = (count as usize) * 6;
+    write_parsed(&tokens, n, input, out);
+}
+
+// The call that leaves bytes that the letter stands for, with as much of the space as is to be lent.
 fn call(letter: u8, input: &[u8], space: &mut [u8], lent: usize) {
     if lent > space.len() {
         return;
@@ -155,6 +195,10 @@ fn call(letter: u8, input: &[u8], space: &mut [u8], lent: usize) {
     }
     if letter == b'i' {
         index(input, &mut space[..lent]);
+        return;
+    }
+    if letter == b'w' {
+        write(input, &mut space[..lent]);
         return;
     }
     if letter == b'e' {

@@ -1,8 +1,9 @@
 //! A sample of the lists as the program crates/vectors takes and writes it.
 
-use super::{LISTS, parsing};
+use super::{LISTS, parsing, writing};
 use crate::cases::{Case, Outcome, Reference, run};
-use crate::reference::{parse, read};
+use crate::generate::trees;
+use crate::reference::{parse, read, write};
 
 /// Bytes of a record.
 const RECORD: usize = 64;
@@ -30,7 +31,26 @@ pub fn sample() -> (Vec<u8>, String) {
             .collect());
     }
     put(parsed());
+    put(written());
     (input, output)
+}
+
+/// Sources that are read, parsed and then written.
+fn written() -> Vec<(Vec<u8>, String)> {
+    let mut lines = Vec::new();
+    for src in writing::SOURCES {
+        let src = src.as_bytes().to_vec();
+        let (rows, src) = trees::of_source(src);
+        let tree = trees::flat(&rows);
+        let exact = write::text(&tree, &src).map_or(0, |text| text.len());
+        for lent in [exact, exact + 3, exact.saturating_sub(1), 0] {
+            if let Some(record) = line(b'w', &src, lent) {
+                let (tree, src) = (tree.clone(), src.clone());
+                lines.push((record, expected(&Case::Write { tree, src, lent })));
+            }
+        }
+    }
+    lines
 }
 
 /// Sources that are read and then parsed, since a record has no room for tokens' rows.

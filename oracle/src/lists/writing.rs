@@ -35,7 +35,8 @@ pub fn cases() -> Vec<Case> {
     cases
 }
 
-const SOURCES: [&str; 12] = [
+/// Sources with every kind of node.
+pub const SOURCES: [&str; 12] = [
     "",
     "$ENTRY Go{=;}",
     "F{}",

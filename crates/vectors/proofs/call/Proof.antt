@@ -10,62 +10,83 @@ use Rattle.vectors.proofs.call.Lts as lts
 use Rattle.vectors.proofs.equal.Reads as equal-reads
 use Rattle.vectors.proofs.index.Reads as index-reads
 use Rattle.vectors.proofs.name.Reads as name-reads
+use Rattle.vectors.proofs.write.Reads as write-reads
 
--- src/main.rt:89:9
+-- src/main.rt:190:9
 returns : tie.Need-returns
 returns c = search needs
 
--- src/main.rt:92:21
+-- src/main.rt:193:21
 slice-relend-prefix-name : tie.Need-slice-relend-prefix-name
 slice-relend-prefix-name c = search needs
 
--- src/main.rt:92:21
+-- src/main.rt:193:21
 slice-aggregate-name : tie.Need-slice-aggregate-name
 slice-aggregate-name c = sym (length-take-le _ _ (omega arith))
 
--- src/main.rt:92:9
+-- src/main.rt:193:9
 name-requires : tie.Need-name-requires
 name-requires c κs = search needs
 
--- src/main.rt:93:9
+-- src/main.rt:194:9
 same-length : tie.Need-same-length
 same-length c = search needs
 
--- src/main.rt:93:9
+-- src/main.rt:194:9
 returns-2 : tie.Need-returns-2
 returns-2 c = search needs
 
--- src/main.rt:96:22
+-- src/main.rt:197:22
 slice-relend-prefix-index : tie.Need-slice-relend-prefix-index
 slice-relend-prefix-index c = search needs
 
--- src/main.rt:96:22
+-- src/main.rt:197:22
 slice-aggregate-index : tie.Need-slice-aggregate-index
 slice-aggregate-index c = sym (length-take-le _ _ (omega arith))
 
--- src/main.rt:96:9
+-- src/main.rt:197:9
 index-requires : tie.Need-index-requires
 index-requires c κs = search needs
 
--- src/main.rt:97:9
+-- src/main.rt:198:9
 same-length-2 : tie.Need-same-length-2
 same-length-2 c = search needs
 
--- src/main.rt:97:9
+-- src/main.rt:198:9
 returns-3 : tie.Need-returns-3
 returns-3 c = search needs
 
--- src/main.rt:100:9
-equal-requires : tie.Need-equal-requires
-equal-requires c κs = search needs
+-- src/main.rt:201:22
+slice-relend-prefix-write : tie.Need-slice-relend-prefix-write
+slice-relend-prefix-write c = search needs
 
--- src/main.rt:87:1
+-- src/main.rt:201:22
+slice-aggregate-write : tie.Need-slice-aggregate-write
+slice-aggregate-write c = sym (length-take-le _ _ (omega arith))
+
+-- src/main.rt:201:9
+write-requires : tie.Need-write-requires
+write-requires c κs = search needs
+
+-- src/main.rt:202:9
+same-length-3 : tie.Need-same-length-3
+same-length-3 c = search needs
+
+-- src/main.rt:202:9
 returns-4 : tie.Need-returns-4
 returns-4 c = search needs
 
--- src/main.rt:87:1
+-- src/main.rt:205:9
+equal-requires : tie.Need-equal-requires
+equal-requires c κs = search needs
+
+-- src/main.rt:188:1
 returns-5 : tie.Need-returns-5
 returns-5 c = search needs
+
+-- src/main.rt:188:1
+returns-6 : tie.Need-returns-6
+returns-6 c = search needs
 
 pub call-spec : {M : Type 1} → statement M
 call-spec =
@@ -82,6 +103,11 @@ call-spec =
     index-requires
     same-length-2
     returns-3
-    equal-requires
+    slice-relend-prefix-write
+    slice-aggregate-write
+    write-requires
+    same-length-3
     returns-4
-    returns-5)
+    equal-requires
+    returns-5
+    returns-6)
