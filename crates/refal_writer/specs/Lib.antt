@@ -1,5 +1,5 @@
 -- Definitions: Spellings (the test for refusal 41), Write (what `write` answers and leaves).
--- Laws of writers of bytes: Puts. Of tokens: Token, TextPuts. Of the walk over rows: Walk. Of words and rows: WordLaws, SpellingLaws. Of `write`: WriteLaws.
+-- Laws of writers of bytes: Puts. Of tokens: Token, TextPuts. Of the walk over rows: Walk, Leaves. Of words and rows: WordLaws, SpellingLaws. Of `write`: WriteLaws.
 pub mod Kinds
 pub mod Spellings
 pub mod Write
@@ -7,6 +7,7 @@ pub mod Puts
 pub mod Token
 pub mod TextPuts
 pub mod Walk
+pub mod Leaves
 pub mod WordLaws
 pub mod SpellingLaws
 pub mod WriteLaws

@@ -134,6 +134,9 @@ module _ (from i x to at a b : ℕ) (done : at + from * widest ≤ i * widest) (
   pub turn-small : (c : ℕ) → c ≤ 16 → at + a + b + c + from * widest ≤ x * widest
   turn-small c h = omega arith
 
+pub leaf-small : (from i at a : ℕ) → at + from * widest ≤ i * widest → a ≤ 8589934710 → at + a + from * widest ≤ (i + 1) * widest
+leaf-small from i at a h l = omega arith
+
 pub rows-fall : (from i x to : ℕ) → from ≤ i → i < x → x ≤ to → x - (i + 1) < to - from
 rows-fall from i x to a b c = omega arith
 

@@ -54,7 +54,8 @@ fn open_row(tree: &[u32], src: &[u8], i: usize, st: u32, out: &mut [u8]) -> usiz
     )
 }
 
-// The rows from .. to, the first of which stands in the state `start`.
+// The rows from .. to, the first of which stands in the state `start`. A leaf is written whole before its children, of which
+// it has none.
 pub fn write_rows(
     tree: &[u32],
     src: &[u8],
@@ -71,19 +72,25 @@ pub fn write_rows(
     let mut at = 0;
     while i < to {
         let k = kind(tree, i);
-        let end = next(tree, i);
         let first = i + 1;
         let p = least(at, out.len());
         let a = open_row(tree, src, i, st, &mut out[p..]);
         let opened = at + a;
-        let q = least(opened, out.len());
-        let b = write_rows(tree, src, first, end, inside(k), &mut out[q..]);
-        let filled = opened + b;
-        let s = least(filled, out.len());
-        let c = write_closing(src, st, k, &mut out[s..]);
-        at = filled + c;
-        st = after(st, k);
-        i = end;
+        let leaf = (9 <= k) & (k <= 12);
+        if leaf {
+            at = opened;
+            i = first;
+        } else {
+            let end = next(tree, i);
+            let q = least(opened, out.len());
+            let b = write_rows(tree, src, first, end, inside(k), &mut out[q..]);
+            let filled = opened + b;
+            let s = least(filled, out.len());
+            let c = write_closing(src, st, k, &mut out[s..]);
+            at = filled + c;
+            st = after(st, k);
+            i = end;
+        }
     }
     at
 }

@@ -8,7 +8,8 @@ use Rattle.refal_tree.specs.States.{after}
 use Rattle.refal_tree.specs.Walk.{flatAt}
 use Rattle.refal_writer.specs.Puts.{Pours, pours-start, pours-on, pours-end}
 use Rattle.refal_writer.specs.Token.{textOf}
-use Rattle.refal_writer.specs.Walk.{Walks, walk-low, walk-high, walk-row, walk-kids, walk-rest, turn-text, end-text, widest, filled-small, turn-small, rows-fall, left-falls}
+use Rattle.refal_writer.specs.Leaves.{leaf-rest, leaf-text}
+use Rattle.refal_writer.specs.Walk.{Walks, walk-low, walk-high, walk-row, walk-kids, walk-rest, turn-text, end-text, widest, leaf-small, filled-small, turn-small, rows-fall, left-falls}
 use borrow.Author.Needs.{needs}
 use Prim.Native.Nat.{ℕ, _<_}
 use borrow.Fn.Kinds.{In}
@@ -46,12 +47,12 @@ write-rows-μ-loop tree src from to start out₀ i₀ st₀ at₀ out i st at = 
 write-rows-loop-holds : (t : ℕ) → write-rows-lts.Need-loop-holds (
   kind-reads.Asked,
   kind-reads.Learnt,
-  next-reads.Asked,
-  next-reads.Learnt,
   least-reads.Asked,
   least-reads.Learnt,
   open-row-reads.Asked,
   open-row-reads.Learnt,
+  next-reads.Asked,
+  next-reads.Learnt,
   inside-reads.Asked,
   inside-reads.Learnt,
   write-rows-below t,
@@ -66,12 +67,12 @@ write-rows-loop-holds t c = (omega arith, c .before .before .before .pre .1 .0, 
 write-rows-kind-requires : (t : ℕ) → write-rows-lts.Need-kind-requires (
   kind-reads.Asked,
   kind-reads.Learnt,
-  next-reads.Asked,
-  next-reads.Learnt,
   least-reads.Asked,
   least-reads.Learnt,
   open-row-reads.Asked,
   open-row-reads.Learnt,
+  next-reads.Asked,
+  next-reads.Learnt,
   inside-reads.Asked,
   inside-reads.Learnt,
   write-rows-below t,
@@ -83,35 +84,15 @@ write-rows-kind-requires : (t : ℕ) → write-rows-lts.Need-kind-requires (
 ) (write-rows-at t) write-rows.Post write-rows-Inv-loop write-rows-μ-loop
 write-rows-kind-requires t c κs = search needs
 
-write-rows-next-requires : (t : ℕ) → write-rows-lts.Need-next-requires (
-  kind-reads.Asked,
-  kind-reads.Learnt,
-  next-reads.Asked,
-  next-reads.Learnt,
-  least-reads.Asked,
-  least-reads.Learnt,
-  open-row-reads.Asked,
-  open-row-reads.Learnt,
-  inside-reads.Asked,
-  inside-reads.Learnt,
-  write-rows-below t,
-  write-rows.Post,
-  write-closing-reads.Asked,
-  write-closing-reads.Learnt,
-  after-reads.Asked,
-  after-reads.Learnt,
-) (write-rows-at t) write-rows.Post write-rows-Inv-loop write-rows-μ-loop
-write-rows-next-requires t c κs = search needs
-
 write-rows-add-first : (t : ℕ) → write-rows-lts.Need-add-first (
   kind-reads.Asked,
   kind-reads.Learnt,
-  next-reads.Asked,
-  next-reads.Learnt,
   least-reads.Asked,
   least-reads.Learnt,
   open-row-reads.Asked,
   open-row-reads.Learnt,
+  next-reads.Asked,
+  next-reads.Learnt,
   inside-reads.Asked,
   inside-reads.Learnt,
   write-rows-below t,
@@ -126,12 +107,12 @@ write-rows-add-first t c = search needs
 write-rows-least-requires : (t : ℕ) → write-rows-lts.Need-least-requires (
   kind-reads.Asked,
   kind-reads.Learnt,
-  next-reads.Asked,
-  next-reads.Learnt,
   least-reads.Asked,
   least-reads.Learnt,
   open-row-reads.Asked,
   open-row-reads.Learnt,
+  next-reads.Asked,
+  next-reads.Learnt,
   inside-reads.Asked,
   inside-reads.Learnt,
   write-rows-below t,
@@ -146,12 +127,12 @@ write-rows-least-requires t c κs = search needs
 write-rows-sub-open-row : (t : ℕ) → write-rows-lts.Need-sub-open-row (
   kind-reads.Asked,
   kind-reads.Learnt,
-  next-reads.Asked,
-  next-reads.Learnt,
   least-reads.Asked,
   least-reads.Learnt,
   open-row-reads.Asked,
   open-row-reads.Learnt,
+  next-reads.Asked,
+  next-reads.Learnt,
   inside-reads.Asked,
   inside-reads.Learnt,
   write-rows-below t,
@@ -166,12 +147,12 @@ write-rows-sub-open-row t c = search needs
 write-rows-part-open-row-start : (t : ℕ) → write-rows-lts.Need-part-open-row-start (
   kind-reads.Asked,
   kind-reads.Learnt,
-  next-reads.Asked,
-  next-reads.Learnt,
   least-reads.Asked,
   least-reads.Learnt,
   open-row-reads.Asked,
   open-row-reads.Learnt,
+  next-reads.Asked,
+  next-reads.Learnt,
   inside-reads.Asked,
   inside-reads.Learnt,
   write-rows-below t,
@@ -186,12 +167,12 @@ write-rows-part-open-row-start t c = search needs
 write-rows-part-open-row-end : (t : ℕ) → write-rows-lts.Need-part-open-row-end (
   kind-reads.Asked,
   kind-reads.Learnt,
-  next-reads.Asked,
-  next-reads.Learnt,
   least-reads.Asked,
   least-reads.Learnt,
   open-row-reads.Asked,
   open-row-reads.Learnt,
+  next-reads.Asked,
+  next-reads.Learnt,
   inside-reads.Asked,
   inside-reads.Learnt,
   write-rows-below t,
@@ -206,12 +187,12 @@ write-rows-part-open-row-end t c = search needs
 write-rows-open-row-requires : (t : ℕ) → write-rows-lts.Need-open-row-requires (
   kind-reads.Asked,
   kind-reads.Learnt,
-  next-reads.Asked,
-  next-reads.Learnt,
   least-reads.Asked,
   least-reads.Learnt,
   open-row-reads.Asked,
   open-row-reads.Learnt,
+  next-reads.Asked,
+  next-reads.Learnt,
   inside-reads.Asked,
   inside-reads.Learnt,
   write-rows-below t,
@@ -221,20 +202,21 @@ write-rows-open-row-requires : (t : ℕ) → write-rows-lts.Need-open-row-requir
   after-reads.Asked,
   after-reads.Learnt,
 ) (write-rows-at t) write-rows.Post write-rows-Inv-loop write-rows-μ-loop
-write-rows-open-row-requires t c κs = let a = c .before .before .before .before .before .before .before .before .before .args in
-    let g = c .before .before .before .before .before .loop in
-    let m : g .i < a .to = c .before .before .before .before .loop-test .taken in
-    (omega arith, walk-row (a .tree .now) (g .i) (a .to) (g .st) (c .before .before .before .kind .result) (c .before .before .next .result) (c .before .before .before .kind .ensures) (c .before .before .next .ensures) (c .before .before .before .before .before .before .before .before .before .pre .1 .1) m (g .inv .4))
+write-rows-open-row-requires t c κs = let a = c .before .before .before .before .before .before .before .before .args in
+    let g = c .before .before .before .before .loop in
+    let m : g .i < a .to = c .before .before .before .loop-test .taken in
+    let k = c .before .before .kind in
+    (omega arith, walk-row (a .tree .now) (g .i) (a .to) (g .st) (k .result) _ (k .ensures) refl (c .before .before .before .before .before .before .before .before .pre .1 .1) m (g .inv .4))
 
 write-rows-add-opened : (t : ℕ) → write-rows-lts.Need-add-opened (
   kind-reads.Asked,
   kind-reads.Learnt,
-  next-reads.Asked,
-  next-reads.Learnt,
   least-reads.Asked,
   least-reads.Learnt,
   open-row-reads.Asked,
   open-row-reads.Learnt,
+  next-reads.Asked,
+  next-reads.Learnt,
   inside-reads.Asked,
   inside-reads.Learnt,
   write-rows-below t,
@@ -246,15 +228,88 @@ write-rows-add-opened : (t : ℕ) → write-rows-lts.Need-add-opened (
 ) (write-rows-at t) write-rows.Post write-rows-Inv-loop write-rows-μ-loop
 write-rows-add-opened t c = search needs
 
-write-rows-least-requires-2 : (t : ℕ) → write-rows-lts.Need-least-requires-2 (
+write-rows-loop-less : (t : ℕ) → write-rows-lts.Need-loop-less (
   kind-reads.Asked,
   kind-reads.Learnt,
-  next-reads.Asked,
-  next-reads.Learnt,
   least-reads.Asked,
   least-reads.Learnt,
   open-row-reads.Asked,
   open-row-reads.Learnt,
+  next-reads.Asked,
+  next-reads.Learnt,
+  inside-reads.Asked,
+  inside-reads.Learnt,
+  write-rows-below t,
+  write-rows.Post,
+  write-closing-reads.Asked,
+  write-closing-reads.Learnt,
+  after-reads.Asked,
+  after-reads.Learnt,
+) (write-rows-at t) write-rows.Post write-rows-Inv-loop write-rows-μ-loop
+write-rows-loop-less t c = let a = c .before .before .before .before .before .before .before .before .before .before .before .before .args in
+    let g = c .before .before .before .before .before .before .before .before .loop in
+    let m : g .i < a .to = c .before .before .before .before .before .before .before .loop-test .taken in
+    let k = c .before .before .before .before .before .before .kind in
+    omega arith
+
+write-rows-loop-again : (t : ℕ) → write-rows-lts.Need-loop-again (
+  kind-reads.Asked,
+  kind-reads.Learnt,
+  least-reads.Asked,
+  least-reads.Learnt,
+  open-row-reads.Asked,
+  open-row-reads.Learnt,
+  next-reads.Asked,
+  next-reads.Learnt,
+  inside-reads.Asked,
+  inside-reads.Learnt,
+  write-rows-below t,
+  write-rows.Post,
+  write-closing-reads.Asked,
+  write-closing-reads.Learnt,
+  after-reads.Asked,
+  after-reads.Learnt,
+) (write-rows-at t) write-rows.Post write-rows-Inv-loop write-rows-μ-loop
+write-rows-loop-again t c = let a = c .before .before .before .before .before .before .before .before .before .before .before .before .args in
+    let g = c .before .before .before .before .before .before .before .before .loop in
+    let m : g .i < a .to = c .before .before .before .before .before .before .before .loop-test .taken in
+    let k = c .before .before .before .before .before .before .kind in
+    let o = c .before .before .before .open-row in
+    let rest = leaf-rest (a .tree .now) (g .i) (a .to) (g .st) (k .result) (k .ensures) (c .if1 .taken) (c .before .before .before .before .before .before .before .before .before .before .before .before .pre .1 .1) m (g .inv .4) in
+    let T : List ℕ = textOf (a .src .now) (flatAt (a .tree .now) (a .from) (a .to) (a .start)) in
+    let p = subst (λ (r : List ℕ). Pours T r (g .at) (g .out) (a .out .now)) (leaf-text (a .tree .now) (g .i) (a .to) (g .st) (k .result) (k .ensures) (c .if1 .taken) (c .before .before .before .before .before .before .before .before .before .before .before .before .pre .1 .1) m (g .inv .4) (a .src .now)) (g .inv .5) in
+    let p1 = pours-on _ _ _ _ _ _ _ _ _ p (g .inv .2) (c .before .before .before .before .before .least .ensures) (o .ensures .0) in
+    (omega arith, omega arith, c .before .before .out .given .1 ∙ g .inv .2, leaf-small (a .from) (g .i) (g .at) (o .result) (g .inv .3) (o .ensures .1), rest, p1)
+
+write-rows-next-requires : (t : ℕ) → write-rows-lts.Need-next-requires (
+  kind-reads.Asked,
+  kind-reads.Learnt,
+  least-reads.Asked,
+  least-reads.Learnt,
+  open-row-reads.Asked,
+  open-row-reads.Learnt,
+  next-reads.Asked,
+  next-reads.Learnt,
+  inside-reads.Asked,
+  inside-reads.Learnt,
+  write-rows-below t,
+  write-rows.Post,
+  write-closing-reads.Asked,
+  write-closing-reads.Learnt,
+  after-reads.Asked,
+  after-reads.Learnt,
+) (write-rows-at t) write-rows.Post write-rows-Inv-loop write-rows-μ-loop
+write-rows-next-requires t c κs = search needs
+
+write-rows-least-requires-2 : (t : ℕ) → write-rows-lts.Need-least-requires-2 (
+  kind-reads.Asked,
+  kind-reads.Learnt,
+  least-reads.Asked,
+  least-reads.Learnt,
+  open-row-reads.Asked,
+  open-row-reads.Learnt,
+  next-reads.Asked,
+  next-reads.Learnt,
   inside-reads.Asked,
   inside-reads.Learnt,
   write-rows-below t,
@@ -269,12 +324,12 @@ write-rows-least-requires-2 t c κs = search needs
 write-rows-inside-requires : (t : ℕ) → write-rows-lts.Need-inside-requires (
   kind-reads.Asked,
   kind-reads.Learnt,
-  next-reads.Asked,
-  next-reads.Learnt,
   least-reads.Asked,
   least-reads.Learnt,
   open-row-reads.Asked,
   open-row-reads.Learnt,
+  next-reads.Asked,
+  next-reads.Learnt,
   inside-reads.Asked,
   inside-reads.Learnt,
   write-rows-below t,
@@ -289,12 +344,12 @@ write-rows-inside-requires t c κs = search needs
 write-rows-sub-write-rows : (t : ℕ) → write-rows-lts.Need-sub-write-rows (
   kind-reads.Asked,
   kind-reads.Learnt,
-  next-reads.Asked,
-  next-reads.Learnt,
   least-reads.Asked,
   least-reads.Learnt,
   open-row-reads.Asked,
   open-row-reads.Learnt,
+  next-reads.Asked,
+  next-reads.Learnt,
   inside-reads.Asked,
   inside-reads.Learnt,
   write-rows-below t,
@@ -309,12 +364,12 @@ write-rows-sub-write-rows t c = search needs
 write-rows-part-write-rows-start : (t : ℕ) → write-rows-lts.Need-part-write-rows-start (
   kind-reads.Asked,
   kind-reads.Learnt,
-  next-reads.Asked,
-  next-reads.Learnt,
   least-reads.Asked,
   least-reads.Learnt,
   open-row-reads.Asked,
   open-row-reads.Learnt,
+  next-reads.Asked,
+  next-reads.Learnt,
   inside-reads.Asked,
   inside-reads.Learnt,
   write-rows-below t,
@@ -329,12 +384,12 @@ write-rows-part-write-rows-start t c = search needs
 write-rows-part-write-rows-end : (t : ℕ) → write-rows-lts.Need-part-write-rows-end (
   kind-reads.Asked,
   kind-reads.Learnt,
-  next-reads.Asked,
-  next-reads.Learnt,
   least-reads.Asked,
   least-reads.Learnt,
   open-row-reads.Asked,
   open-row-reads.Learnt,
+  next-reads.Asked,
+  next-reads.Learnt,
   inside-reads.Asked,
   inside-reads.Learnt,
   write-rows-below t,
@@ -349,12 +404,12 @@ write-rows-part-write-rows-end t c = search needs
 write-rows-write-rows-requires : (t : ℕ) → write-rows-lts.Need-write-rows-requires (
   kind-reads.Asked,
   kind-reads.Learnt,
-  next-reads.Asked,
-  next-reads.Learnt,
   least-reads.Asked,
   least-reads.Learnt,
   open-row-reads.Asked,
   open-row-reads.Learnt,
+  next-reads.Asked,
+  next-reads.Learnt,
   inside-reads.Asked,
   inside-reads.Learnt,
   write-rows-below t,
@@ -364,29 +419,27 @@ write-rows-write-rows-requires : (t : ℕ) → write-rows-lts.Need-write-rows-re
   after-reads.Asked,
   after-reads.Learnt,
 ) (write-rows-at t) write-rows.Post write-rows-Inv-loop write-rows-μ-loop
-write-rows-write-rows-requires t c κs = let a = c .before .before .before .before .before .before .before .before .before .before .before .before .before .before .before .args in
-    let g = c .before .before .before .before .before .before .before .before .before .before .before .loop in
-    let m : g .i < a .to = c .before .before .before .before .before .before .before .before .before .before .loop-test .taken in
-    let lo = walk-low (a .tree .now) (g .i) (a .to) (g .st) (c .before .before .before .before .before .before .before .before .before .kind .result) (c .before .before .before .before .before .before .before .before .next .result) (c .before .before .before .before .before .before .before .before .before .kind .ensures)
-    (c .before .before .before .before .before .before .before .before .next .ensures) (c .before .before .before .before .before .before .before .before .before .before .before .before .before .before .before .pre .1 .1) m (g .inv .4) in
-    let hi = walk-high (a .tree .now) (g .i) (a .to) (g .st) (c .before .before .before .before .before .before .before .before .before .kind .result) (c .before .before .before .before .before .before .before .before .next .result) (c .before .before .before .before .before .before .before .before .before .kind .ensures)
-    (c .before .before .before .before .before .before .before .before .next .ensures) (c .before .before .before .before .before .before .before .before .before .before .before .before .before .before .before .pre .1 .1) m (g .inv .4) in
-    let s = walk-kids (a .tree .now) (g .i) (a .to) (g .st) (c .before .before .before .before .before .before .before .before .before .kind .result) (c .before .before .before .before .before .before .before .before .next .result) (c .before .before .before .before .before .before .before .before .before .kind .ensures)
-    (c .before .before .before .before .before .before .before .before .next .ensures) (c .before .before .before .before .before .before .before .before .before .before .before .before .before .before .before .pre .1 .1) m (g .inv .4) (c .before .inside .result) (after (g .st) (c .before .before .before .before .before .before .before .before .before .kind .result))
-    (c .before .inside .ensures) refl in
-    let d : c .before .before .before .before .before .before .before .before .next .result - (g .i + 1) < a .to - a .from = rows-fall (a .from) (g .i) (c .before .before .before .before .before .before .before .before .next .result) (a .to) (g .inv .0) lo hi in
-    let e = c .before .before .before .before .before .before .before .before .before .before .before .before .before .before .before .pre .0 in
+write-rows-write-rows-requires t c κs = let a = c .before .before .before .before .before .before .before .before .before .before .before .before .before .before .before .before .args in
+    let g = c .before .before .before .before .before .before .before .before .before .before .before .before .loop in
+    let m : g .i < a .to = c .before .before .before .before .before .before .before .before .before .before .before .loop-test .taken in
+    let k = c .before .before .before .before .before .before .before .before .before .before .kind in
+    let x = c .before .before .before .next in
+    let lo = walk-low (a .tree .now) (g .i) (a .to) (g .st) (k .result) (x .result) (k .ensures) (x .ensures) (c .before .before .before .before .before .before .before .before .before .before .before .before .before .before .before .before .pre .1 .1) m (g .inv .4) in
+    let hi = walk-high (a .tree .now) (g .i) (a .to) (g .st) (k .result) (x .result) (k .ensures) (x .ensures) (c .before .before .before .before .before .before .before .before .before .before .before .before .before .before .before .before .pre .1 .1) m (g .inv .4) in
+    let s = walk-kids (a .tree .now) (g .i) (a .to) (g .st) (k .result) (x .result) (k .ensures) (x .ensures) (c .before .before .before .before .before .before .before .before .before .before .before .before .before .before .before .before .pre .1 .1) m (g .inv .4) (c .before .inside .result) (after (g .st) (k .result)) (c .before .inside .ensures) refl in
+    let d : x .result - (g .i + 1) < a .to - a .from = rows-fall (a .from) (g .i) (x .result) (a .to) (g .inv .0) lo hi in
+    let e = c .before .before .before .before .before .before .before .before .before .before .before .before .before .before .before .before .pre .0 in
     (omega arith, (omega arith, omega arith, omega arith, s))
 
 write-rows-add-filled : (t : ℕ) → write-rows-lts.Need-add-filled (
   kind-reads.Asked,
   kind-reads.Learnt,
-  next-reads.Asked,
-  next-reads.Learnt,
   least-reads.Asked,
   least-reads.Learnt,
   open-row-reads.Asked,
   open-row-reads.Learnt,
+  next-reads.Asked,
+  next-reads.Learnt,
   inside-reads.Asked,
   inside-reads.Learnt,
   write-rows-below t,
@@ -396,25 +449,26 @@ write-rows-add-filled : (t : ℕ) → write-rows-lts.Need-add-filled (
   after-reads.Asked,
   after-reads.Learnt,
 ) (write-rows-at t) write-rows.Post write-rows-Inv-loop write-rows-μ-loop
-write-rows-add-filled t c = let a = c .before .before .before .before .before .before .before .before .before .before .before .before .before .before .before .before .before .before .args in
-    let g = c .before .before .before .before .before .before .before .before .before .before .before .before .before .before .loop in
-    let m : g .i < a .to = c .before .before .before .before .before .before .before .before .before .before .before .before .before .loop-test .taken in
-    let hi = walk-high (a .tree .now) (g .i) (a .to) (g .st) (c .before .before .before .before .before .before .before .before .before .before .before .before .kind .result) (c .before .before .before .before .before .before .before .before .before .before .before .next .result)
-    (c .before .before .before .before .before .before .before .before .before .before .before .before .kind .ensures) (c .before .before .before .before .before .before .before .before .before .before .before .next .ensures)
-    (c .before .before .before .before .before .before .before .before .before .before .before .before .before .before .before .before .before .before .pre .1 .1) m (g .inv .4) in
-    let f = filled-small (a .from) (g .i) (c .before .before .before .before .before .before .before .before .before .before .before .next .result) (a .to) (g .at) (c .before .before .before .before .before .before .before .before .open-row .result) (c .before .before .write-rows .result) (g .inv .3)
-    (c .before .before .before .before .before .before .before .before .open-row .ensures .1) (c .before .before .write-rows .ensures .1) hi (c .before .before .before .before .before .before .before .before .before .before .before .before .before .before .before .before .before .before .pre .1 .2) in
+write-rows-add-filled t c = let a = c .before .before .before .before .before .before .before .before .before .before .before .before .before .before .before .before .before .before .before .args in
+    let g = c .before .before .before .before .before .before .before .before .before .before .before .before .before .before .before .loop in
+    let m : g .i < a .to = c .before .before .before .before .before .before .before .before .before .before .before .before .before .before .loop-test .taken in
+    let k = c .before .before .before .before .before .before .before .before .before .before .before .before .before .kind in
+    let x = c .before .before .before .before .before .before .next in
+    let o = c .before .before .before .before .before .before .before .before .before .before .open-row in
+    let r = c .before .before .write-rows in
+    let f = filled-small (a .from) (g .i) (x .result) (a .to) (g .at) (o .result) (r .result) (g .inv .3) (o .ensures .1) (r .ensures .1) (walk-high (a .tree .now) (g .i) (a .to) (g .st) (k .result) (x .result) (k .ensures) (x .ensures)
+    (c .before .before .before .before .before .before .before .before .before .before .before .before .before .before .before .before .before .before .before .pre .1 .1) m (g .inv .4)) (c .before .before .before .before .before .before .before .before .before .before .before .before .before .before .before .before .before .before .before .pre .1 .2) in
     search needs
 
 write-rows-least-requires-3 : (t : ℕ) → write-rows-lts.Need-least-requires-3 (
   kind-reads.Asked,
   kind-reads.Learnt,
-  next-reads.Asked,
-  next-reads.Learnt,
   least-reads.Asked,
   least-reads.Learnt,
   open-row-reads.Asked,
   open-row-reads.Learnt,
+  next-reads.Asked,
+  next-reads.Learnt,
   inside-reads.Asked,
   inside-reads.Learnt,
   write-rows-below t,
@@ -429,12 +483,12 @@ write-rows-least-requires-3 t c κs = search needs
 write-rows-sub-write-closing : (t : ℕ) → write-rows-lts.Need-sub-write-closing (
   kind-reads.Asked,
   kind-reads.Learnt,
-  next-reads.Asked,
-  next-reads.Learnt,
   least-reads.Asked,
   least-reads.Learnt,
   open-row-reads.Asked,
   open-row-reads.Learnt,
+  next-reads.Asked,
+  next-reads.Learnt,
   inside-reads.Asked,
   inside-reads.Learnt,
   write-rows-below t,
@@ -449,12 +503,12 @@ write-rows-sub-write-closing t c = search needs
 write-rows-part-write-closing-start : (t : ℕ) → write-rows-lts.Need-part-write-closing-start (
   kind-reads.Asked,
   kind-reads.Learnt,
-  next-reads.Asked,
-  next-reads.Learnt,
   least-reads.Asked,
   least-reads.Learnt,
   open-row-reads.Asked,
   open-row-reads.Learnt,
+  next-reads.Asked,
+  next-reads.Learnt,
   inside-reads.Asked,
   inside-reads.Learnt,
   write-rows-below t,
@@ -469,12 +523,12 @@ write-rows-part-write-closing-start t c = search needs
 write-rows-part-write-closing-end : (t : ℕ) → write-rows-lts.Need-part-write-closing-end (
   kind-reads.Asked,
   kind-reads.Learnt,
-  next-reads.Asked,
-  next-reads.Learnt,
   least-reads.Asked,
   least-reads.Learnt,
   open-row-reads.Asked,
   open-row-reads.Learnt,
+  next-reads.Asked,
+  next-reads.Learnt,
   inside-reads.Asked,
   inside-reads.Learnt,
   write-rows-below t,
@@ -489,12 +543,12 @@ write-rows-part-write-closing-end t c = search needs
 write-rows-write-closing-requires : (t : ℕ) → write-rows-lts.Need-write-closing-requires (
   kind-reads.Asked,
   kind-reads.Learnt,
-  next-reads.Asked,
-  next-reads.Learnt,
   least-reads.Asked,
   least-reads.Learnt,
   open-row-reads.Asked,
   open-row-reads.Learnt,
+  next-reads.Asked,
+  next-reads.Learnt,
   inside-reads.Asked,
   inside-reads.Learnt,
   write-rows-below t,
@@ -509,12 +563,12 @@ write-rows-write-closing-requires t c κs = search needs
 write-rows-add-at : (t : ℕ) → write-rows-lts.Need-add-at (
   kind-reads.Asked,
   kind-reads.Learnt,
-  next-reads.Asked,
-  next-reads.Learnt,
   least-reads.Asked,
   least-reads.Learnt,
   open-row-reads.Asked,
   open-row-reads.Learnt,
+  next-reads.Asked,
+  next-reads.Learnt,
   inside-reads.Asked,
   inside-reads.Learnt,
   write-rows-below t,
@@ -524,27 +578,28 @@ write-rows-add-at : (t : ℕ) → write-rows-lts.Need-add-at (
   after-reads.Asked,
   after-reads.Learnt,
 ) (write-rows-at t) write-rows.Post write-rows-Inv-loop write-rows-μ-loop
-write-rows-add-at t c = let a = c .before .before .before .before .before .before .before .before .before .before .before .before .before .before .before .before .before .before .before .before .before .before .before .args in
-    let g = c .before .before .before .before .before .before .before .before .before .before .before .before .before .before .before .before .before .before .before .loop in
-    let m : g .i < a .to = c .before .before .before .before .before .before .before .before .before .before .before .before .before .before .before .before .before .before .loop-test .taken in
-    let hi = walk-high (a .tree .now) (g .i) (a .to) (g .st) (c .before .before .before .before .before .before .before .before .before .before .before .before .before .before .before .before .before .kind .result) (c .before .before .before .before .before .before .before .before .before .before .before .before .before .before .before .before .next .result)
-    (c .before .before .before .before .before .before .before .before .before .before .before .before .before .before .before .before .before .kind .ensures) (c .before .before .before .before .before .before .before .before .before .before .before .before .before .before .before .before .next .ensures)
-    (c .before .before .before .before .before .before .before .before .before .before .before .before .before .before .before .before .before .before .before .before .before .before .before .pre .1 .1) m (g .inv .4) in
-    let f = filled-small (a .from) (g .i) (c .before .before .before .before .before .before .before .before .before .before .before .before .before .before .before .before .next .result) (a .to) (g .at) (c .before .before .before .before .before .before .before .before .before .before .before .before .before .open-row .result)
-    (c .before .before .before .before .before .before .before .write-rows .result) (g .inv .3) (c .before .before .before .before .before .before .before .before .before .before .before .before .before .open-row .ensures .1) (c .before .before .before .before .before .before .before .write-rows .ensures .1) hi
-    (c .before .before .before .before .before .before .before .before .before .before .before .before .before .before .before .before .before .before .before .before .before .before .before .pre .1 .2) in
+write-rows-add-at t c = let a = c .before .before .before .before .before .before .before .before .before .before .before .before .before .before .before .before .before .before .before .before .before .before .before .before .args in
+    let g = c .before .before .before .before .before .before .before .before .before .before .before .before .before .before .before .before .before .before .before .before .loop in
+    let m : g .i < a .to = c .before .before .before .before .before .before .before .before .before .before .before .before .before .before .before .before .before .before .before .loop-test .taken in
+    let k = c .before .before .before .before .before .before .before .before .before .before .before .before .before .before .before .before .before .before .kind in
+    let x = c .before .before .before .before .before .before .before .before .before .before .before .next in
+    let o = c .before .before .before .before .before .before .before .before .before .before .before .before .before .before .before .open-row in
+    let r = c .before .before .before .before .before .before .before .write-rows in
+    let f = filled-small (a .from) (g .i) (x .result) (a .to) (g .at) (o .result) (r .result) (g .inv .3) (o .ensures .1) (r .ensures .1) (walk-high (a .tree .now) (g .i) (a .to) (g .st) (k .result) (x .result) (k .ensures) (x .ensures)
+    (c .before .before .before .before .before .before .before .before .before .before .before .before .before .before .before .before .before .before .before .before .before .before .before .before .pre .1 .1) m (g .inv .4))
+    (c .before .before .before .before .before .before .before .before .before .before .before .before .before .before .before .before .before .before .before .before .before .before .before .before .pre .1 .2) in
     let l = c .before .before .write-closing .ensures .1 in
     search needs
 
 write-rows-after-requires : (t : ℕ) → write-rows-lts.Need-after-requires (
   kind-reads.Asked,
   kind-reads.Learnt,
-  next-reads.Asked,
-  next-reads.Learnt,
   least-reads.Asked,
   least-reads.Learnt,
   open-row-reads.Asked,
   open-row-reads.Learnt,
+  next-reads.Asked,
+  next-reads.Learnt,
   inside-reads.Asked,
   inside-reads.Learnt,
   write-rows-below t,
@@ -556,15 +611,15 @@ write-rows-after-requires : (t : ℕ) → write-rows-lts.Need-after-requires (
 ) (write-rows-at t) write-rows.Post write-rows-Inv-loop write-rows-μ-loop
 write-rows-after-requires t c κs = search needs
 
-write-rows-loop-less : (t : ℕ) → write-rows-lts.Need-loop-less (
+write-rows-loop-less-2 : (t : ℕ) → write-rows-lts.Need-loop-less-2 (
   kind-reads.Asked,
   kind-reads.Learnt,
-  next-reads.Asked,
-  next-reads.Learnt,
   least-reads.Asked,
   least-reads.Learnt,
   open-row-reads.Asked,
   open-row-reads.Learnt,
+  next-reads.Asked,
+  next-reads.Learnt,
   inside-reads.Asked,
   inside-reads.Learnt,
   write-rows-below t,
@@ -574,26 +629,23 @@ write-rows-loop-less : (t : ℕ) → write-rows-lts.Need-loop-less (
   after-reads.Asked,
   after-reads.Learnt,
 ) (write-rows-at t) write-rows.Post write-rows-Inv-loop write-rows-μ-loop
-write-rows-loop-less t c = let a = c .before .before .before .before .before .before .before .before .before .before .before .before .before .before .before .before .before .before .before .before .before .before .before .before .args in
-    let g = c .before .before .before .before .before .before .before .before .before .before .before .before .before .before .before .before .before .before .before .before .loop in
-    let m : g .i < a .to = c .before .before .before .before .before .before .before .before .before .before .before .before .before .before .before .before .before .before .before .loop-test .taken in
-    left-falls (g .i) (c .before .before .before .before .before .before .before .before .before .before .before .before .before .before .before .before .before .next .result) (a .to) (walk-low (a .tree .now) (g .i) (a .to) (g .st)
-    (c .before .before .before .before .before .before .before .before .before .before .before .before .before .before .before .before .before .before .kind .result) (c .before .before .before .before .before .before .before .before .before .before .before .before .before .before .before .before .before .next .result)
-    (c .before .before .before .before .before .before .before .before .before .before .before .before .before .before .before .before .before .before .kind .ensures) (c .before .before .before .before .before .before .before .before .before .before .before .before .before .before .before .before .before .next .ensures)
-    (c .before .before .before .before .before .before .before .before .before .before .before .before .before .before .before .before .before .before .before .before .before .before .before .before .pre .1 .1) m (g .inv .4)) (walk-high (a .tree .now) (g .i) (a .to) (g .st)
-    (c .before .before .before .before .before .before .before .before .before .before .before .before .before .before .before .before .before .before .kind .result) (c .before .before .before .before .before .before .before .before .before .before .before .before .before .before .before .before .before .next .result)
-    (c .before .before .before .before .before .before .before .before .before .before .before .before .before .before .before .before .before .before .kind .ensures) (c .before .before .before .before .before .before .before .before .before .before .before .before .before .before .before .before .before .next .ensures)
-    (c .before .before .before .before .before .before .before .before .before .before .before .before .before .before .before .before .before .before .before .before .before .before .before .before .pre .1 .1) m (g .inv .4))
+write-rows-loop-less-2 t c = let a = c .before .before .before .before .before .before .before .before .before .before .before .before .before .before .before .before .before .before .before .before .before .before .before .before .before .args in
+    let g = c .before .before .before .before .before .before .before .before .before .before .before .before .before .before .before .before .before .before .before .before .before .loop in
+    let m : g .i < a .to = c .before .before .before .before .before .before .before .before .before .before .before .before .before .before .before .before .before .before .before .before .loop-test .taken in
+    let k = c .before .before .before .before .before .before .before .before .before .before .before .before .before .before .before .before .before .before .before .kind in
+    let x = c .before .before .before .before .before .before .before .before .before .before .before .before .next in
+    left-falls (g .i) (x .result) (a .to) (walk-low (a .tree .now) (g .i) (a .to) (g .st) (k .result) (x .result) (k .ensures) (x .ensures) (c .before .before .before .before .before .before .before .before .before .before .before .before .before .before .before .before .before .before .before .before .before .before .before .before .before .pre .1 .1) m (g .inv .4)) (walk-high
+    (a .tree .now) (g .i) (a .to) (g .st) (k .result) (x .result) (k .ensures) (x .ensures) (c .before .before .before .before .before .before .before .before .before .before .before .before .before .before .before .before .before .before .before .before .before .before .before .before .before .pre .1 .1) m (g .inv .4))
 
-write-rows-loop-again : (t : ℕ) → write-rows-lts.Need-loop-again (
+write-rows-loop-again-2 : (t : ℕ) → write-rows-lts.Need-loop-again-2 (
   kind-reads.Asked,
   kind-reads.Learnt,
-  next-reads.Asked,
-  next-reads.Learnt,
   least-reads.Asked,
   least-reads.Learnt,
   open-row-reads.Asked,
   open-row-reads.Learnt,
+  next-reads.Asked,
+  next-reads.Learnt,
   inside-reads.Asked,
   inside-reads.Learnt,
   write-rows-below t,
@@ -603,43 +655,40 @@ write-rows-loop-again : (t : ℕ) → write-rows-lts.Need-loop-again (
   after-reads.Asked,
   after-reads.Learnt,
 ) (write-rows-at t) write-rows.Post write-rows-Inv-loop write-rows-μ-loop
-write-rows-loop-again t c = let a = c .before .before .before .before .before .before .before .before .before .before .before .before .before .before .before .before .before .before .before .before .before .before .before .before .args in
-    let g = c .before .before .before .before .before .before .before .before .before .before .before .before .before .before .before .before .before .before .before .before .loop in
-    let m : g .i < a .to = c .before .before .before .before .before .before .before .before .before .before .before .before .before .before .before .before .before .before .before .loop-test .taken in
-    let lo = walk-low (a .tree .now) (g .i) (a .to) (g .st) (c .before .before .before .before .before .before .before .before .before .before .before .before .before .before .before .before .before .before .kind .result) (c .before .before .before .before .before .before .before .before .before .before .before .before .before .before .before .before .before .next .result)
-    (c .before .before .before .before .before .before .before .before .before .before .before .before .before .before .before .before .before .before .kind .ensures) (c .before .before .before .before .before .before .before .before .before .before .before .before .before .before .before .before .before .next .ensures)
-    (c .before .before .before .before .before .before .before .before .before .before .before .before .before .before .before .before .before .before .before .before .before .before .before .before .pre .1 .1) m (g .inv .4) in
-    let hi = walk-high (a .tree .now) (g .i) (a .to) (g .st) (c .before .before .before .before .before .before .before .before .before .before .before .before .before .before .before .before .before .before .kind .result) (c .before .before .before .before .before .before .before .before .before .before .before .before .before .before .before .before .before .next .result)
-    (c .before .before .before .before .before .before .before .before .before .before .before .before .before .before .before .before .before .before .kind .ensures) (c .before .before .before .before .before .before .before .before .before .before .before .before .before .before .before .before .before .next .ensures)
-    (c .before .before .before .before .before .before .before .before .before .before .before .before .before .before .before .before .before .before .before .before .before .before .before .before .pre .1 .1) m (g .inv .4) in
-    let b = turn-small (a .from) (g .i) (c .before .before .before .before .before .before .before .before .before .before .before .before .before .before .before .before .before .next .result) (a .to) (g .at) (c .before .before .before .before .before .before .before .before .before .before .before .before .before .before .open-row .result)
-    (c .before .before .before .before .before .before .before .before .write-rows .result) (g .inv .3) (c .before .before .before .before .before .before .before .before .before .before .before .before .before .before .open-row .ensures .1) (c .before .before .before .before .before .before .before .before .write-rows .ensures .1) hi
-    (c .before .before .before .before .before .before .before .before .before .before .before .before .before .before .before .before .before .before .before .before .before .before .before .before .pre .1 .2) (c .before .before .before .write-closing .result) (c .before .before .before .write-closing .ensures .1) in
-    let rest = walk-rest (a .tree .now) (g .i) (a .to) (g .st) (c .before .before .before .before .before .before .before .before .before .before .before .before .before .before .before .before .before .before .kind .result) (c .before .before .before .before .before .before .before .before .before .before .before .before .before .before .before .before .before .next .result)
-    (c .before .before .before .before .before .before .before .before .before .before .before .before .before .before .before .before .before .before .kind .ensures) (c .before .before .before .before .before .before .before .before .before .before .before .before .before .before .before .before .before .next .ensures)
-    (c .before .before .before .before .before .before .before .before .before .before .before .before .before .before .before .before .before .before .before .before .before .before .before .before .pre .1 .1) m (g .inv .4) (c .before .before .before .before .before .before .before .before .before .before .inside .result) (c .after .result)
-    (c .before .before .before .before .before .before .before .before .before .before .inside .ensures) (c .after .ensures) in
-    let e = turn-text (a .tree .now) (g .i) (a .to) (g .st) (c .before .before .before .before .before .before .before .before .before .before .before .before .before .before .before .before .before .before .kind .result) (c .before .before .before .before .before .before .before .before .before .before .before .before .before .before .before .before .before .next .result)
-    (c .before .before .before .before .before .before .before .before .before .before .before .before .before .before .before .before .before .before .kind .ensures) (c .before .before .before .before .before .before .before .before .before .before .before .before .before .before .before .before .before .next .ensures)
-    (c .before .before .before .before .before .before .before .before .before .before .before .before .before .before .before .before .before .before .before .before .before .before .before .before .pre .1 .1) m (g .inv .4) (c .before .before .before .before .before .before .before .before .before .before .inside .result) (c .after .result)
-    (c .before .before .before .before .before .before .before .before .before .before .inside .ensures) (c .after .ensures) (a .src .now) in
+write-rows-loop-again-2 t c = let a = c .before .before .before .before .before .before .before .before .before .before .before .before .before .before .before .before .before .before .before .before .before .before .before .before .before .args in
+    let g = c .before .before .before .before .before .before .before .before .before .before .before .before .before .before .before .before .before .before .before .before .before .loop in
+    let m : g .i < a .to = c .before .before .before .before .before .before .before .before .before .before .before .before .before .before .before .before .before .before .before .before .loop-test .taken in
+    let k = c .before .before .before .before .before .before .before .before .before .before .before .before .before .before .before .before .before .before .before .kind in
+    let x = c .before .before .before .before .before .before .before .before .before .before .before .before .next in
+    let o = c .before .before .before .before .before .before .before .before .before .before .before .before .before .before .before .before .open-row in
+    let r = c .before .before .before .before .before .before .before .before .write-rows in
+    let z = c .before .before .before .write-closing in
+    let s = c .before .before .before .before .before .before .before .before .before .before .inside in
+    let u = c .after in
+    let lo = walk-low (a .tree .now) (g .i) (a .to) (g .st) (k .result) (x .result) (k .ensures) (x .ensures) (c .before .before .before .before .before .before .before .before .before .before .before .before .before .before .before .before .before .before .before .before .before .before .before .before .before .pre .1 .1) m (g .inv .4) in
+    let hi = walk-high (a .tree .now) (g .i) (a .to) (g .st) (k .result) (x .result) (k .ensures) (x .ensures) (c .before .before .before .before .before .before .before .before .before .before .before .before .before .before .before .before .before .before .before .before .before .before .before .before .before .pre .1 .1) m (g .inv .4) in
+    let b = turn-small (a .from) (g .i) (x .result) (a .to) (g .at) (o .result) (r .result) (g .inv .3) (o .ensures .1) (r .ensures .1) hi (c .before .before .before .before .before .before .before .before .before .before .before .before .before .before .before .before .before .before .before .before .before .before .before .before .before .pre .1 .2) (z .result) (z .ensures .1) in
+    let rest = walk-rest (a .tree .now) (g .i) (a .to) (g .st) (k .result) (x .result) (k .ensures) (x .ensures) (c .before .before .before .before .before .before .before .before .before .before .before .before .before .before .before .before .before .before .before .before .before .before .before .before .before .pre .1 .1) m (g .inv .4) (s .result) (u .result) (s .ensures) (u .ensures) in
+    let e = turn-text (a .tree .now) (g .i) (a .to) (g .st) (k .result) (x .result) (k .ensures) (x .ensures) (c .before .before .before .before .before .before .before .before .before .before .before .before .before .before .before .before .before .before .before .before .before .before .before .before .before .pre .1 .1) m (g .inv .4) (s .result) (u .result) (s .ensures) (u .ensures) (a .src .now) in
     let T : List ℕ = textOf (a .src .now) (flatAt (a .tree .now) (a .from) (a .to) (a .start)) in
-    let p = subst (λ (r : List ℕ). Pours T r (g .at) (g .out) (a .out .now)) e (g .inv .5) in
-    let p1 = pours-on _ _ _ _ _ _ _ _ _ p (g .inv .2) (c .before .before .before .before .before .before .before .before .before .before .before .before .before .before .before .before .least .ensures) (c .before .before .before .before .before .before .before .before .before .before .before .before .before .before .open-row .ensures .0) in
-    let p2 = pours-on _ _ _ _ _ _ _ _ _ p1 (c .before .before .before .before .before .before .before .before .before .before .before .before .before .out .given .1 ∙ g .inv .2) (c .before .before .before .before .before .before .before .before .before .before .before .least2 .ensures) (c .before .before .before .before .before .before .before .before .write-rows .ensures .0) in
-    let p3 = pours-on _ _ _ _ _ _ _ _ _ p2 (c .before .before .before .before .before .before .before .out2 .given .1 ∙ c .before .before .before .before .before .before .before .before .before .before .before .before .before .out .given .1 ∙ g .inv .2) (c .before .before .before .before .before .least3 .ensures) (c .before .before .before .write-closing .ensures .0) in
-    let f : a .from ≤ c .before .before .before .before .before .before .before .before .before .before .before .before .before .before .before .before .before .next .result = let i = g .inv .0 in omega arith in
-    (f, hi, c .before .before .out3 .given .1 ∙ c .before .before .before .before .before .before .before .out2 .given .1 ∙ c .before .before .before .before .before .before .before .before .before .before .before .before .before .out .given .1 ∙ g .inv .2, b, rest, p3)
+    let p = subst (λ (y : List ℕ). Pours T y (g .at) (g .out) (a .out .now)) e (g .inv .5) in
+    let l1 = c .before .before .before .before .before .before .before .before .before .before .before .before .before .before .before .out .given .1 ∙ g .inv .2 in
+    let l2 = c .before .before .before .before .before .before .before .out2 .given .1 ∙ l1 in
+    let p1 = pours-on _ _ _ _ _ _ _ _ _ p (g .inv .2) (c .before .before .before .before .before .before .before .before .before .before .before .before .before .before .before .before .before .before .least .ensures) (o .ensures .0) in
+    let p2 = pours-on _ _ _ _ _ _ _ _ _ p1 l1 (c .before .before .before .before .before .before .before .before .before .before .before .least2 .ensures) (r .ensures .0) in
+    let p3 = pours-on _ _ _ _ _ _ _ _ _ p2 l2 (c .before .before .before .before .before .least3 .ensures) (z .ensures .0) in
+    let f : a .from ≤ x .result = let i = g .inv .0 in omega arith in
+    (f, hi, c .before .before .out3 .given .1 ∙ l2, b, rest, p3)
 
 write-rows-same-length : (t : ℕ) → write-rows-lts.Need-same-length (
   kind-reads.Asked,
   kind-reads.Learnt,
-  next-reads.Asked,
-  next-reads.Learnt,
   least-reads.Asked,
   least-reads.Learnt,
   open-row-reads.Asked,
   open-row-reads.Learnt,
+  next-reads.Asked,
+  next-reads.Learnt,
   inside-reads.Asked,
   inside-reads.Learnt,
   write-rows-below t,
@@ -654,12 +703,12 @@ write-rows-same-length t c = c .before .loop .inv .2
 write-rows-returns : (t : ℕ) → write-rows-lts.Need-returns (
   kind-reads.Asked,
   kind-reads.Learnt,
-  next-reads.Asked,
-  next-reads.Learnt,
   least-reads.Asked,
   least-reads.Learnt,
   open-row-reads.Asked,
   open-row-reads.Learnt,
+  next-reads.Asked,
+  next-reads.Learnt,
   inside-reads.Asked,
   inside-reads.Learnt,
   write-rows-below t,
@@ -680,12 +729,12 @@ pub +write-rows-spec : {M : Type 1} → statement M
 +write-rows-spec = close μ-write-rows λ t. write-rows-lts.spec (
   kind-reads.Asked,
   kind-reads.Learnt,
-  next-reads.Asked,
-  next-reads.Learnt,
   least-reads.Asked,
   least-reads.Learnt,
   open-row-reads.Asked,
   open-row-reads.Learnt,
+  next-reads.Asked,
+  next-reads.Learnt,
   inside-reads.Asked,
   inside-reads.Learnt,
   write-rows-below t,
@@ -701,7 +750,6 @@ pub +write-rows-spec : {M : Type 1} → statement M
     write-rows-μ-loop
     (write-rows-loop-holds t)
     (write-rows-kind-requires t)
-    (write-rows-next-requires t)
     (write-rows-add-first t)
     (write-rows-least-requires t)
     (write-rows-sub-open-row t)
@@ -709,6 +757,9 @@ pub +write-rows-spec : {M : Type 1} → statement M
     (write-rows-part-open-row-end t)
     (write-rows-open-row-requires t)
     (write-rows-add-opened t)
+    (write-rows-loop-less t)
+    (write-rows-loop-again t)
+    (write-rows-next-requires t)
     (write-rows-least-requires-2 t)
     (write-rows-inside-requires t)
     (write-rows-sub-write-rows t)
@@ -723,7 +774,7 @@ pub +write-rows-spec : {M : Type 1} → statement M
     (write-rows-write-closing-requires t)
     (write-rows-add-at t)
     (write-rows-after-requires t)
-    (write-rows-loop-less t)
-    (write-rows-loop-again t)
+    (write-rows-loop-less-2 t)
+    (write-rows-loop-again-2 t)
     (write-rows-same-length t)
     (write-rows-returns t)
