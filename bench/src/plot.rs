@@ -12,25 +12,28 @@ const BOTTOM: f64 = 60.0;
 struct Line {
     name: &'static str,
     colour: &'static str,
+    /// How far below its last point the name stands, so that names keep apart.
+    below: f64,
     points: Vec<(f64, f64)>,
 }
 
 /// Deliveries only; None where nothing was timed.
 pub fn svg(measured: &[Measured]) -> Option<String> {
-    let line = |name, colour, time: fn(&Measured) -> Option<f64>| Line {
+    let line = |name, colour, below, time: fn(&Measured) -> Option<f64>| Line {
         name,
         colour,
+        below,
         points: measured
             .iter()
             .filter_map(|input| Some((input.bytes as f64 / 1024.0, 1e3 * time(input)?)))
             .collect(),
     };
     let lines = [
-        line("original", "#b3402a", |m| {
+        line("original", "#b3402a", 4.0, |m| {
             m.reading.plus(m.parsing).original
         }),
-        line("proved", "#1f6f5c", |m| m.reading.plus(m.parsing).ours),
-        line("mark", "#7a7a7a", |m| m.reading.plus(m.parsing).mark),
+        line("proved", "#1f6f5c", 0.0, |m| m.reading.plus(m.parsing).ours),
+        line("mark", "#7a7a7a", 11.0, |m| m.reading.plus(m.parsing).mark),
     ];
     let all = || lines.iter().flat_map(|line| line.points.iter());
     let low_x = all().map(|point| point.0).reduce(f64::min)?;
@@ -84,6 +87,7 @@ fn drawn(line: &Line, x: impl Fn(f64) -> f64, y: impl Fn(f64) -> f64) -> String 
     let Line {
         name,
         colour,
+        below,
         points,
     } = line;
     let Some(&(last_x, last_y)) = points.last() else {
@@ -107,7 +111,7 @@ fn drawn(line: &Line, x: impl Fn(f64) -> f64, y: impl Fn(f64) -> f64) -> String 
     text.push_str(&format!(
         "<text x=\"{:.1}\" y=\"{:.1}\" fill=\"{colour}\">{name}: {last_y:.0} ms</text>\n",
         x(last_x) + 10.0,
-        y(last_y) + 4.0
+        y(last_y) + below
     ));
     text
 }
