@@ -11,7 +11,7 @@ use lib.Dec.{T, leb, eqb}
 use Rattle.refal_rows.specs.Tests.{each-below, below}
 use Rattle.refal_text.specs.Pick.{split}
 use Rattle.refal_text.specs.White.{whiteSpace}
-use Rattle.refal_lexer.specs.Classes.{upper, digit, letter, blank, variable, single, classOf, cNone}
+use Rattle.refal_lexer.specs.Classes.{upper, digit, letter, nameByte, blank, variable, single, classOf, cNone}
 
 -- ---- what a class says of the byte
 pub data ClassIs (b : ℕ) : ℕ → Type 0 where
@@ -100,6 +100,11 @@ same-is true true t = refl
 same-is true false t = absurd t
 same-is false true t = absurd t
 same-is false false t = refl
+
+-- the bytes of names have the classes from 20 on
+pub name-class : (b : ℕ) → b < 256 → leb 20 (classOf b) ≡ nameByte b
+unfolding same
+name-class b h = same-is _ _ (each-below (λ (k : ℕ). same (leb 20 (classOf k)) (nameByte k)) 256 tt b h)
 
 -- below 128, white space is what `blank` tests
 pub blank-white : (b : ℕ) → b < 128 → blank b ≡ whiteSpace b

@@ -1,6 +1,6 @@
 -- Laws of literals: the ways out of their loops.
 use Prim.Native.Nat.{ℕ, zero, suc, _+_, _<_, _≤_}
-use borrow.Author.Tests.{eq-eqb, ne-eqb}
+use borrow.Author.Tests.{eq-eqb, ne-eqb, lt-ltb}
 use native.Mathlib.Nat.{add-zero}
 use native.Mathlib.Numerals.{add-one}
 use native.Mathlib.Omega.{arith}
@@ -12,7 +12,7 @@ use lib.ListN.{length, drop, getD, drop-of-length-le, length-drop}
 use lib.Seq.{drop-cons, drop-drop, getD-drop}
 use Rattle.refal_text.specs.Pick.{pick, split}
 use Rattle.refal_text.specs.Utf8.{decode, char, ill}
-use Rattle.refal_text.specs.Utf8Laws.{decode-in}
+use Rattle.refal_text.specs.Utf8Laws.{decode-in, decode-ascii}
 use Rattle.refal_text.specs.declared.Char.{Char}
 use Rattle.refal_lexer.specs.Within.{Within}
 use Rattle.refal_lexer.specs.declared.Scan.{Scan}
@@ -25,6 +25,9 @@ use Rattle.refal_rows.specs.Rows.{putRow}
 use Rattle.refal_ast.specs.Tokens.{words}
 
 -- ---- the character at a place
+decode-low : (s : List ℕ) (at : ℕ) → at < length s → getD s at 0 < 128 → decode (drop at s) ≡ char (getD s at 0) 1
+decode-low s at h l = ap decode (drop-cons s at 0 h) ∙ decode-ascii (getD s at 0) (drop (suc at) s) (lt-ltb _ _ l)
+
 module _ (q : ℕ) (s : List ℕ) (i : ℕ) (h : i < length s) where
   char-is : litChar q (drop i s) ≡ pick (eqb (getD s i 0) q) (pick (eqb (getD s (i + 1) 0) q) (char q 2) ill) (some (decode (drop i s)))
   unfolding litChar
@@ -48,6 +51,10 @@ module _ (q : ℕ) (s : List ℕ) (i : ℕ) (h : i < length s) where
   char-whole e c f g =
       let y : decode (drop i s) .len ≡ c .len = ap (λ (x : Char). x .len) (sym f) in
       (f ∙ sym (char-is ∙ simp (ne-eqb _ _ e, y, ne-eqb _ _ g)), subst (λ (x : Char). i + x .len ≤ length s) (sym f) (decode-in s i h))
+
+  -- a byte below 128 is the character
+  pub char-low : (getD s i 0 ≡ q → ⊥) → getD s i 0 < 128 → (w : ℕ) → w ≡ getD s i 0 → (char w 1 ≡ litChar q (drop i s)) × (i + 1 ≤ length s)
+  char-low e l w v = let f : char w 1 ≡ decode (drop i s) = ap (λ (x : ℕ). char x 1) v ∙ sym (decode-low s i h l) in char-whole e (char w 1) f (λ z. omega arith)
 
 -- ---- the close
 pub close-in : (at end n k : ℕ) → at < end → end ≤ n → Within at n (closeScan k end)

@@ -271,11 +271,13 @@ pub fn class_of(b: u8, table: &[u8]) -> u8
     table[b as usize]
 }
 
-pub fn is_name(b: u8) -> bool
+// Whether a name goes on over the byte: the classes from 20 on.
+pub fn is_name(b: u8, table: &[u8]) -> bool
+    requires { ⌜ Table (now table) ⌝ }
     ensures { λ r. ⌜ r ≡ nameByte b ⌝ }
 {
-    (((((65 <= b) & (b <= 90)) | ((97 <= b) & (b <= 122))) | ((48 <= b) & (b <= 57))) | (b == 95))
-        | (b == 45)
+    let k = class_of(b, table);
+    20 <= k
 }
 
 pub fn is_digit(b: u8) -> bool

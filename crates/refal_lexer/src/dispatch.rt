@@ -9,8 +9,8 @@ ghost use Rattle.refal_lexer.specs.Within.{Within};
 use crate::Scan;
 
 // A sign of class k at `at`: it starts a number before a digit only.
-fn sign_at(src: &[u8], at: usize, k: u8) -> Scan
-    requires { ⌜ at < length (now src) ⌝ }
+fn sign_at(src: &[u8], at: usize, k: u8, table: &[u8]) -> Scan
+    requires { ⌜ (at < length (now src)) × Table (now table) ⌝ }
     ensures { λ r. ⌜ (r ≡ signScan k at (drop (at + 1) (now (src .entry)))) × Within at (length (now (src .entry))) r ⌝ }
 {
     let next = at + 1;
@@ -20,7 +20,7 @@ fn sign_at(src: &[u8], at: usize, k: u8) -> Scan
         return crate::number::number_at(src, at, next);
     }
     if k == 20 {
-        return crate::word::other_at(src, at);
+        return crate::word::other_at(src, at, table);
     }
     Scan::Bad {
         number: 10,
@@ -29,18 +29,18 @@ fn sign_at(src: &[u8], at: usize, k: u8) -> Scan
 }
 
 // The classes that are rare, and the bytes that start nothing.
-fn rare_at(src: &[u8], at: usize, line: bool, b: u8, k: u8) -> Scan
-    requires { ⌜ (at < length (now src)) × (b ≡ getD (now src) at 0) ⌝ }
+fn rare_at(src: &[u8], at: usize, line: bool, b: u8, k: u8, table: &[u8]) -> Scan
+    requires { ⌜ (at < length (now src)) × (b ≡ getD (now src) at 0) × Table (now table) ⌝ }
     ensures { λ r. ⌜ (r ≡ rareClass k at line b (drop (at + 1) (now (src .entry)))) × Within at (length (now (src .entry))) r ⌝ }
 {
     match k {
         4 => crate::blank::star_at(src, at, line),
         5 => crate::blank::slash_at(src, at),
         6 => crate::word::directive_at(src, at),
-        17 => sign_at(src, at, k),
+        17 => sign_at(src, at, k, table),
         18 => crate::blank::wide_at(src, at, line, b),
-        20 => sign_at(src, at, k),
-        24 => crate::word::other_at(src, at),
+        20 => sign_at(src, at, k, table),
+        24 => crate::word::other_at(src, at, table),
         _ => {
             let next = at + 1;
             Scan::Bad {
@@ -76,9 +76,9 @@ pub fn scan_at(src: &[u8], at: usize, line: bool, table: &[u8]) -> Scan
             Scan::Blank { end: next, line: l }
         }
         3 => crate::literal::literal_at(src, at, b),
-        21 => crate::word::name_at(src, at),
+        21 => crate::word::name_at(src, at, table),
         22 => crate::number::number_at(src, at, at),
-        23 => crate::word::variable_at(src, at, b),
-        _ => rare_at(src, at, line, b, k),
+        23 => crate::word::variable_at(src, at, b, table),
+        _ => rare_at(src, at, line, b, k, table),
     }
 }

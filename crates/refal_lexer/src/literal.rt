@@ -26,6 +26,12 @@ fn lit_char(src: &[u8], i: usize, q: u8) -> Char
         }
         return Char { code: 0, len: 0 };
     }
+    if b < 128 {
+        return Char {
+            code: refal_text::wide(b),
+            len: 1,
+        };
+    }
     let c = refal_text::char_at(src, i);
     if c.len == 0 {
         return Char { code: 0, len: 1 };

@@ -4,14 +4,15 @@ ghost use Prim.Native.Nat.{_+_, _≤_};
 ghost use lib.ListN.{length, drop};
 ghost use Rattle.refal_text.specs.Span.{span};
 ghost use Rattle.refal_lexer.specs.Classes.{nameByte, letter, digit, notNewline};
+ghost use Rattle.refal_lexer.specs.ClassLaws.{Table};
 
-pub fn name_end(src: &[u8], at: usize) -> usize
-    requires { ⌜ at ≤ length (now src) ⌝ }
+pub fn name_end(src: &[u8], at: usize, table: &[u8]) -> usize
+    requires { ⌜ (at ≤ length (now src)) × Table (now table) ⌝ }
     ensures { λ r. ⌜ (r ≡ at + span nameByte (drop at (now (src .entry)))) × (r ≤ length (now (src .entry))) ⌝ }
 {
     let mut i = at;
     while i < src.len() {
-        if !crate::class::is_name(src[i]) {
+        if !crate::class::is_name(src[i], table) {
             return i;
         }
         i += 1;

@@ -6,16 +6,17 @@ ghost use lib.ListN.{length, drop, getD};
 ghost use Rattle.refal_text.specs.Span.{span};
 ghost use Rattle.refal_lexer.specs.Classes.{nameByte, letter, upper, digit};
 ghost use Rattle.refal_lexer.specs.Words.{nameScan, otherScan, indexScan, variableScan, directiveScan, prefix, wordIs, externWord};
+ghost use Rattle.refal_lexer.specs.ClassLaws.{Table};
 ghost use Rattle.refal_lexer.specs.Within.{Within};
 use crate::Scan;
 
 // The name that starts at `at`.
-pub fn name_at(src: &[u8], at: usize) -> Scan
-    requires { ⌜ at < length (now src) ⌝ }
+pub fn name_at(src: &[u8], at: usize, table: &[u8]) -> Scan
+    requires { ⌜ (at < length (now src)) × Table (now table) ⌝ }
     ensures { λ r. ⌜ (r ≡ nameScan at (drop (at + 1) (now (src .entry)))) × Within at (length (now (src .entry))) r ⌝ }
 {
     let next = at + 1;
-    let end = crate::runs::name_end(src, next);
+    let end = crate::runs::name_end(src, next, table);
     let len = end - at;
     if len <= 15 {
         return Scan::Token {
@@ -30,22 +31,22 @@ pub fn name_at(src: &[u8], at: usize) -> Scan
 }
 
 // A name that starts otherwise than with A to Z.
-pub fn other_at(src: &[u8], at: usize) -> Scan
-    requires { ⌜ at < length (now src) ⌝ }
+pub fn other_at(src: &[u8], at: usize, table: &[u8]) -> Scan
+    requires { ⌜ (at < length (now src)) × Table (now table) ⌝ }
     ensures { λ r. ⌜ (r ≡ otherScan at (drop (at + 1) (now (src .entry)))) × Within at (length (now (src .entry))) r ⌝ }
 {
     let next = at + 1;
-    let end = crate::runs::name_end(src, next);
+    let end = crate::runs::name_end(src, next, table);
     Scan::Bad { number: 14, end }
 }
 
 // The variable of letter b at `at`, whose point is at + 1.
-fn index_at(src: &[u8], at: usize, b: u8) -> Scan
-    requires { ⌜ at + 2 ≤ length (now src) ⌝ }
+fn index_at(src: &[u8], at: usize, b: u8, table: &[u8]) -> Scan
+    requires { ⌜ (at + 2 ≤ length (now src)) × Table (now table) ⌝ }
     ensures { λ r. ⌜ (r ≡ indexScan at b (drop (at + 2) (now (src .entry)))) × Within at (length (now (src .entry))) r ⌝ }
 {
     let start = at + 2;
-    let end = crate::runs::name_end(src, start);
+    let end = crate::runs::name_end(src, start, table);
     let len = end - start;
     if len == 0 {
         return Scan::Bad { number: 12, end };
@@ -63,14 +64,14 @@ fn index_at(src: &[u8], at: usize, b: u8) -> Scan
 }
 
 // What s, t or e at `at` starts.
-pub fn variable_at(src: &[u8], at: usize, b: u8) -> Scan
-    requires { ⌜ at < length (now src) ⌝ }
+pub fn variable_at(src: &[u8], at: usize, b: u8, table: &[u8]) -> Scan
+    requires { ⌜ (at < length (now src)) × Table (now table) ⌝ }
     ensures { λ r. ⌜ (r ≡ variableScan at b (drop (at + 1) (now (src .entry)))) × Within at (length (now (src .entry))) r ⌝ }
 {
     let next = at + 1;
     let x = refal_text::byte(src, next);
     if x == 46 {
-        return index_at(src, at, b);
+        return index_at(src, at, b, table);
     }
     let one = crate::class::is_upper(x) | crate::class::is_digit(x);
     if one {
@@ -83,7 +84,7 @@ pub fn variable_at(src: &[u8], at: usize, b: u8) -> Scan
             end,
         };
     }
-    other_at(src, at)
+    other_at(src, at, table)
 }
 
 // Whether src has the bytes of w at `at`.

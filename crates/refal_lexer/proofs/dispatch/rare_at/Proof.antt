@@ -50,35 +50,35 @@ add-next c = search needs
 
 -- src/dispatch.rt:31:1
 returns : tie.Need-returns
-returns c = let a = c .before .before .before .args in (c .star-at .ensures .0 ∙ rare-class (a .k) 4 (a .at) (a .line) (a .b) (drop (a .at + 1) (a .src .now)) (c .before .match .keys1), c .star-at .ensures .1)
+returns c = let a = c .before .before .before .before .args in (c .star-at .ensures .0 ∙ rare-class (a .k) 4 (a .at) (a .line) (a .b) (drop (a .at + 1) (a .src .now)) (c .before .match .keys1), c .star-at .ensures .1)
 
 -- src/dispatch.rt:31:1
 returns-2 : tie.Need-returns-2
-returns-2 c = let a = c .before .before .before .args in (c .slash-at .ensures .0 ∙ rare-class (a .k) 5 (a .at) (a .line) (a .b) (drop (a .at + 1) (a .src .now)) (c .before .match .keys2), c .slash-at .ensures .1)
+returns-2 c = let a = c .before .before .before .before .args in (c .slash-at .ensures .0 ∙ rare-class (a .k) 5 (a .at) (a .line) (a .b) (drop (a .at + 1) (a .src .now)) (c .before .match .keys2), c .slash-at .ensures .1)
 
 -- src/dispatch.rt:31:1
 returns-3 : tie.Need-returns-3
-returns-3 c = let a = c .before .before .before .args in (c .directive-at .ensures .0 ∙ rare-class (a .k) 6 (a .at) (a .line) (a .b) (drop (a .at + 1) (a .src .now)) (c .before .match .keys3), c .directive-at .ensures .1)
+returns-3 c = let a = c .before .before .before .before .args in (c .directive-at .ensures .0 ∙ rare-class (a .k) 6 (a .at) (a .line) (a .b) (drop (a .at + 1) (a .src .now)) (c .before .match .keys3), c .directive-at .ensures .1)
 
 -- src/dispatch.rt:31:1
 returns-4 : tie.Need-returns-4
-returns-4 c = let a = c .before .before .before .args in (c .sign-at .ensures .0 ∙ rare-sign (a .k) 17 (a .at) (a .line) (a .b) (drop (a .at + 1) (a .src .now)) (c .before .match .keys4) refl, c .sign-at .ensures .1)
+returns-4 c = let a = c .before .before .before .before .args in (c .sign-at .ensures .0 ∙ rare-sign (a .k) 17 (a .at) (a .line) (a .b) (drop (a .at + 1) (a .src .now)) (c .before .match .keys4) refl, c .sign-at .ensures .1)
 
 -- src/dispatch.rt:31:1
 returns-5 : tie.Need-returns-5
-returns-5 c = let a = c .before .before .before .args in (c .wide-at .ensures .0 ∙ rare-wide (a .src .now) (a .k) (a .at) (a .line) (a .b) (c .before .before .before .pre .0) (c .before .before .before .pre .1) (c .before .match .keys5), c .wide-at .ensures .1)
+returns-5 c = let a = c .before .before .before .before .args in (c .wide-at .ensures .0 ∙ rare-wide (a .src .now) (a .k) (a .at) (a .line) (a .b) (c .before .before .before .before .pre .0) (c .before .before .before .before .pre .1) (c .before .match .keys5), c .wide-at .ensures .1)
 
 -- src/dispatch.rt:31:1
 returns-6 : tie.Need-returns-6
-returns-6 c = let a = c .before .before .before .args in (c .sign-at2 .ensures .0 ∙ rare-sign (a .k) 20 (a .at) (a .line) (a .b) (drop (a .at + 1) (a .src .now)) (c .before .match .keys6) refl, c .sign-at2 .ensures .1)
+returns-6 c = let a = c .before .before .before .before .args in (c .sign-at2 .ensures .0 ∙ rare-sign (a .k) 20 (a .at) (a .line) (a .b) (drop (a .at + 1) (a .src .now)) (c .before .match .keys6) refl, c .sign-at2 .ensures .1)
 
 -- src/dispatch.rt:31:1
 returns-7 : tie.Need-returns-7
-returns-7 c = let a = c .before .before .before .args in (c .other-at .ensures .0 ∙ rare-class (a .k) 24 (a .at) (a .line) (a .b) (drop (a .at + 1) (a .src .now)) (c .before .match .keys7), c .other-at .ensures .1)
+returns-7 c = let a = c .before .before .before .before .args in (c .other-at .ensures .0 ∙ rare-class (a .k) 24 (a .at) (a .line) (a .b) (drop (a .at + 1) (a .src .now)) (c .before .match .keys7), c .other-at .ensures .1)
 
 -- src/dispatch.rt:31:1
 returns-8 : tie.Need-returns-8
-returns-8 c = let a = c .before .before .args in let n = c .match .rest in (rare-none (a .k) (a .at) (a .line) (a .b) (drop (a .at + 1) (a .src .now)) (n .0 .0 .0 .0 .0 .0 .1) (n .0 .0 .0 .0 .0 .1) (n .0 .0 .0 .0 .1) (n .0 .0 .0 .1) (n .0 .0 .1) (n .0 .1) (n .1), omega arith)
+returns-8 c = let a = c .before .before .before .args in let n = c .match .rest in (rare-none (a .k) (a .at) (a .line) (a .b) (drop (a .at + 1) (a .src .now)) (n .0 .0 .0 .0 .0 .0 .1) (n .0 .0 .0 .0 .0 .1) (n .0 .0 .0 .0 .1) (n .0 .0 .0 .1) (n .0 .0 .1) (n .0 .1) (n .1), omega arith)
 
 pub rare-at-spec : {M : Type 1} → statement M
 rare-at-spec =

@@ -26,11 +26,11 @@ is-digit-requires c κs = search needs
 
 -- src/dispatch.rt:19:9
 number-at-requires : tie.Need-number-at-requires
-number-at-requires c κs = let a = c .before .before .before .before .args in let i = sign-in (a .src .now) (a .k) (a .at) _ (c .before .before .byte .ensures) (sym (c .before .is-digit .ensures) ∙ c .if1 .taken) in (omega arith, i .0, i .1)
+number-at-requires c κs = let a = c .before .before .before .before .before .args in let i = sign-in (a .src .now) (a .k) (a .at) _ (c .before .before .byte .ensures) (sym (c .before .is-digit .ensures) ∙ c .if1 .taken) in (omega arith, i .0, i .1)
 
 -- src/dispatch.rt:19:9
 returns : tie.Need-returns
-returns c = let a = c .before .before .before .before .before .args in (sign-number (a .src .now) (a .k) (a .at) _ (c .before .before .before .byte .ensures) _ (sym (c .before .before .is-digit .ensures) ∙ c .before .if1 .taken) (c .number-at .ensures .0), c .number-at .ensures .1)
+returns c = let a = c .before .before .before .before .before .before .args in (sign-number (a .src .now) (a .k) (a .at) _ (c .before .before .before .byte .ensures) _ (sym (c .before .before .is-digit .ensures) ∙ c .before .if1 .taken) (c .number-at .ensures .0), c .number-at .ensures .1)
 
 -- src/dispatch.rt:22:9
 other-at-requires : tie.Need-other-at-requires
@@ -38,11 +38,11 @@ other-at-requires c κs = search needs
 
 -- src/dispatch.rt:22:9
 returns-2 : tie.Need-returns-2
-returns-2 c = let a = c .before .before .before .before .before .before .args in (sign-name (a .src .now) (a .k) (a .at) _ (c .before .before .before .before .byte .ensures) _ (sym (c .before .before .before .is-digit .ensures) ∙ c .before .before .if1 .left) (c .before .if2 .taken) (c .other-at .ensures .0), c .other-at .ensures .1)
+returns-2 c = let a = c .before .before .before .before .before .before .before .args in (sign-name (a .src .now) (a .k) (a .at) _ (c .before .before .before .before .byte .ensures) _ (sym (c .before .before .before .is-digit .ensures) ∙ c .before .before .if1 .left) (c .before .if2 .taken) (c .other-at .ensures .0), c .other-at .ensures .1)
 
 -- src/dispatch.rt:11:1
 returns-3 : tie.Need-returns-3
-returns-3 c = let a = c .before .before .before .before .before .args in (sign-bad (a .src .now) (a .k) (a .at) _ (c .before .before .before .byte .ensures) (sym (c .before .before .is-digit .ensures) ∙ c .before .if1 .left) (c .if2 .left), omega arith)
+returns-3 c = let a = c .before .before .before .before .before .before .args in (sign-bad (a .src .now) (a .k) (a .at) _ (c .before .before .before .byte .ensures) (sym (c .before .before .is-digit .ensures) ∙ c .before .if1 .left) (c .if2 .left), omega arith)
 
 pub sign-at-spec : {M : Type 1} → statement M
 sign-at-spec =

@@ -1,5 +1,5 @@
--- `refal_lexer::literal::lit_char` meets its contract: the close, a doubled quote, or a character.
-use Rattle.refal_lexer.specs.LiteralLaws.{char-double, char-close, char-byte, char-whole}
+use Rattle.refal_lexer.specs.LiteralLaws.{char-double, char-close, char-byte, char-whole, char-low}
+use native.Mathlib.Omega.{arith}
 use borrow.Author.Needs.{needs}
 use Rattle.refal_lexer.proofs.literal.lit_char.Statement.{statement}
 use Rattle.refal_lexer.proofs.literal.lit_char.Tie as tie
@@ -33,17 +33,25 @@ returns c = char-double _ _ _ (c .before .before .before .before .before .before
 returns-2 : tie.Need-returns-2
 returns-2 c = char-close _ _ _ (c .before .before .before .before .before .pre .0) (c .before .before .if1 .taken) _ (c .before .byte .ensures) (c .if2 .left)
 
--- src/literal.rt:29:9
+-- src/literal.rt:31:19
+wide-requires-2 : tie.Need-wide-requires-2
+wide-requires-2 c κs = search needs
+
+-- src/literal.rt:30:9
+returns-3 : tie.Need-returns-3
+returns-3 c = char-low _ _ _ (c .before .before .before .before .before .pre .0) (c .before .before .if1 .left) (c .before .if3 .taken) _ (c .wide2 .ensures)
+
+-- src/literal.rt:35:9
 char-at-requires : tie.Need-char-at-requires
 char-at-requires c κs = search needs
 
--- src/literal.rt:31:9
-returns-3 : tie.Need-returns-3
-returns-3 c = char-byte _ _ _ (c .before .before .before .before .before .before .pre .0) (c .before .before .before .if1 .left) _ (c .before .before .char-at .ensures) (c .if3 .taken)
+-- src/literal.rt:37:9
+returns-4 : tie.Need-returns-4
+returns-4 c = char-byte _ _ _ (c .before .before .before .before .before .before .before .pre .0) (c .before .before .before .before .if1 .left) _ (c .before .before .char-at .ensures) (c .if4 .taken)
 
 -- src/literal.rt:14:1
-returns-4 : tie.Need-returns-4
-returns-4 c = char-whole _ _ _ (c .before .before .before .before .before .before .pre .0) (c .before .before .before .if1 .left) _ (c .before .before .char-at .ensures) (c .if3 .left)
+returns-5 : tie.Need-returns-5
+returns-5 c = char-whole _ _ _ (c .before .before .before .before .before .before .before .pre .0) (c .before .before .before .before .if1 .left) _ (c .before .before .char-at .ensures) (c .if4 .left)
 
 pub lit-char-spec : {M : Type 1} → statement M
 lit-char-spec =
@@ -55,6 +63,8 @@ lit-char-spec =
     wide-requires
     returns
     returns-2
-    char-at-requires
+    wide-requires-2
     returns-3
-    returns-4)
+    char-at-requires
+    returns-4
+    returns-5)

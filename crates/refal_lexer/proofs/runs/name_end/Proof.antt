@@ -15,10 +15,10 @@ use Rattle.refal_lexer.proofs.runs.name_end.Lts as lts
 use Rattle.refal_lexer.proofs.class.is_name.Reads as is-name-reads
 
 abbrev Inv-loop : tie.InvT-loop
-Inv-loop src at i₀ i = (i ≤ length src) × (i + span nameByte (drop i src) ≡ at + span nameByte (drop at src))
+Inv-loop src at table i₀ i = (i ≤ length src) × (i + span nameByte (drop i src) ≡ at + span nameByte (drop at src))
 
 abbrev μ-loop : tie.MeasureT-loop
-μ-loop src at i₀ i = length src - i
+μ-loop src at table i₀ i = length src - i
 
 -- src/runs.rt:13:5
 loop-holds : tie.Need-loop-holds Inv-loop μ-loop
