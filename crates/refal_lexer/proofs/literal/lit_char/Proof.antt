@@ -1,3 +1,4 @@
+-- `refal_lexer::literal::lit_char` meets its contract.
 use Rattle.refal_lexer.specs.LiteralLaws.{char-double, char-close, char-byte, char-whole, char-low}
 use native.Mathlib.Omega.{arith}
 use borrow.Author.Needs.{needs}
