@@ -4,6 +4,7 @@ use bench::measure::{Effort, Measured, measure};
 use bench::memory::{Counting, original_peak};
 use bench::{plot, table};
 use oracle::generate::delivery::{HOSTILE, delivery, hostile};
+use oracle::generate::rules::rules;
 use oracle::terms::MAX_SOURCE;
 use std::process::ExitCode;
 use std::time::Duration;
@@ -14,9 +15,10 @@ static ALLOCATOR: Counting = Counting;
 const HELP: &str = "\
 bench: times the original, the proved library and an unverified mark in one run
 
-  bench [--quick] [--seed N] [--svg FILE]
+  bench [--quick] [--deliveries] [--seed N] [--svg FILE]
 
   --quick      deliveries of 64 KiB and 1 MiB, hostile files of 1 MiB, few repetitions
+  --deliveries no hostile files
   --seed N     the seed of the deliveries (default 1)
   --svg FILE   writes a plot of the time over the size of a delivery
 
@@ -27,12 +29,14 @@ is not timed; giving back what the original allocates is timed apart, and a seco
 
 fn main() -> ExitCode {
     let mut quick = false;
+    let mut short = false;
     let mut seed = 1;
     let mut svg = None;
     let mut words = std::env::args().skip(1);
     while let Some(word) = words.next() {
         match word.as_str() {
             "--quick" => quick = true,
+            "--deliveries" => short = true,
             "--seed" => match words.next().and_then(|word| word.parse().ok()) {
                 Some(number) => seed = number,
                 None => return usage(),
@@ -60,14 +64,19 @@ fn main() -> ExitCode {
     if !quick {
         sizes.extend([4 << 20, MAX_SOURCE]);
     }
-    let deliveries: Vec<String> = sizes.iter().map(|&size| delivery(seed, size)).collect();
+    // Few patterns of sentences over and over, as a rule generator writes; and random sentences, which no branch predictor
+    // can follow.
+    let few = sizes.iter().map(|&size| ("rules", rules(seed, size)));
+    let many = sizes.iter().map(|&size| ("delivery", delivery(seed, size)));
+    let deliveries: Vec<(&str, String)> = few.chain(many).collect();
     let measured: Vec<Measured> = deliveries
         .iter()
-        .map(|src| measure("delivery", src, effort))
+        .map(|(name, src)| measure(name, src, effort))
         .collect();
     let size = if quick { 1 << 20 } else { 4 << 20 };
     let hostiles: Vec<Measured> = HOSTILE
         .iter()
+        .filter(|_| !short)
         .map(|name| measure(name, &hostile(name, size), effort))
         .collect();
     println!(
@@ -87,7 +96,7 @@ fn main() -> ExitCode {
     let peaks: Vec<_> = measured
         .iter()
         .zip(&deliveries)
-        .map(|(input, src)| (input, original_peak(src)))
+        .map(|(input, (_, src))| (input, original_peak(src)))
         .collect();
     print!("{}", table::memory(&peaks));
     if let Some(file) = svg {

@@ -1,6 +1,7 @@
 //! The command: answers on standard input's bytes, and generated files.
 
 use oracle::generate::delivery::{HOSTILE, delivery, hostile};
+use oracle::generate::rules::rules;
 use oracle::lists::{self, LISTS};
 use oracle::reference::{parse, read, write};
 use oracle::terms::Refusal;
@@ -14,7 +15,8 @@ oracle: the answers of document 01, from the original where it is present
   oracle read  < SOURCE         token rows, or a refusal
   oracle parse < SOURCE         node rows, or a refusal
   oracle write < SOURCE         the written text, or a refusal
-  oracle delivery SEED SIZE     a generated rule file of SIZE bytes
+  oracle delivery SEED SIZE     a generated rule file of SIZE bytes, of random sentences
+  oracle rules SEED SIZE        the same, of few patterns of sentences
   oracle hostile NAME SIZE      a hostile file of at most SIZE bytes
   oracle hostile                the names of the hostile files
   oracle lists FOLDER           the fixed lists of tests/vectors
@@ -40,6 +42,10 @@ fn main() -> ExitCode {
         }
         ["delivery", seed, size] => match (seed.parse(), size.parse()) {
             (Ok(seed), Ok(size)) => print(delivery(seed, size).as_bytes()),
+            _ => usage(),
+        },
+        ["rules", seed, size] => match (seed.parse(), size.parse()) {
+            (Ok(seed), Ok(size)) => print(rules(seed, size).as_bytes()),
             _ => usage(),
         },
         ["hostile", name, size] if HOSTILE.contains(&name) => match size.parse() {

@@ -3,6 +3,7 @@
 pub mod delivery;
 pub mod nests;
 pub mod rng;
+pub mod rules;
 pub mod sources;
 pub mod tokens;
 pub mod trees;
