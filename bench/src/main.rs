@@ -22,7 +22,8 @@ bench: times the original, the proved library and an unverified mark in one run
   --seed N     the seed of the deliveries (default 1)
   --svg FILE   writes a plot of the time over the size of a delivery
 
-Everything lent is made and touched before it is timed. The three are timed in turn, in processor
+Everything lent is made and touched before it is timed, and each is called once untimed before each
+timed call, so that none pays for what another left in the caches. The three are timed in turn, in processor
 time of one thread, and medians are given. The copy of the tokens that the original's parser takes
 is not timed; giving back what the original allocates is timed apart, and a second ratio has it.
 ";

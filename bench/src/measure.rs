@@ -87,7 +87,7 @@ pub fn measure(name: &str, src: &str, effort: Effort) -> Measured {
         repeat(effort, || {
             if original::PRESENT {
                 let (called, tokens) = time(|| original::tokenize(black_box(src)));
-                let (freed, ()) = time(|| drop(tokens));
+                let (freed, ()) = once(|| drop(tokens));
                 theirs.push(called);
                 released.push(called + freed);
             }
@@ -112,9 +112,10 @@ pub fn measure(name: &str, src: &str, effort: Effort) -> Measured {
         let tokens = original::tokenize(src);
         repeat(effort, || {
             if let Some(tokens) = &tokens {
+                drop(original::parse_tokens(black_box(tokens.copy())));
                 let copy = tokens.copy();
-                let (called, tree) = time(|| original::parse_tokens(black_box(copy)));
-                let (freed, ()) = time(|| drop(tree));
+                let (called, tree) = once(|| original::parse_tokens(black_box(copy)));
+                let (freed, ()) = once(|| drop(tree));
                 theirs.push(called);
                 released.push(called + freed);
             }
@@ -170,8 +171,14 @@ fn writing(src: &str, tree: &[u32], effort: Effort) -> Option<Writing> {
     })
 }
 
-/// Seconds of processor time, so that a busy machine does not count.
-fn time<T>(work: impl FnOnce() -> T) -> (f64, T) {
+/// Seconds of processor time, so that a busy machine does not count, after a first call that is not timed: each of those
+/// that are compared finds the caches, the predictors and the allocator as its own last call left them.
+fn time<T>(mut work: impl FnMut() -> T) -> (f64, T) {
+    drop(black_box(work()));
+    once(work)
+}
+
+fn once<T>(work: impl FnOnce() -> T) -> (f64, T) {
     let started = clock::seconds();
     let result = black_box(work());
     (clock::seconds() - started, result)
