@@ -1,11 +1,11 @@
 -- Laws of literals: the ways out of their loops.
-use Prim.Native.Nat.{ℕ, zero, suc, _+_, _<_, _≤_}
-use borrow.Author.Tests.{eq-eqb, ne-eqb, lt-ltb}
+use Prim.Native.Nat.{ℕ, zero, suc, _+_, _-_, _<_, _≤_}
+use borrow.Author.Tests.{eq-eqb, ne-eqb, lt-ltb, eqb-false, ltb-true}
 use native.Mathlib.Nat.{add-zero}
 use native.Mathlib.Numerals.{add-one}
 use native.Mathlib.Omega.{arith}
 use mathlib.Core.List.{List, [], _∷_}
-use mathlib.Core.Bool.{Bool, true, false}
+use mathlib.Core.Bool.{Bool, true, false, not, _&&_, true≢false}
 use mathlib.Core.Path.{_≡_, refl, ap, _∙_, sym, subst}
 use lib.Dec.{ltb, eqb}
 use lib.ListN.{length, drop, getD, drop-of-length-le, length-drop}
@@ -56,6 +56,10 @@ module _ (q : ℕ) (s : List ℕ) (i : ℕ) (h : i < length s) where
   pub char-low : (getD s i 0 ≡ q → ⊥) → getD s i 0 < 128 → (w : ℕ) → w ≡ getD s i 0 → (char w 1 ≡ litChar q (drop i s)) × (i + 1 ≤ length s)
   char-low e l w v = let f : char w 1 ≡ decode (drop i s) = ap (λ (x : ℕ). char x 1) v ∙ sym (decode-low s i h l) in char-whole e (char w 1) f (λ z. omega arith)
 
+-- ---- runs of plain characters: a byte that is no quote, no newline and below 128 is a character by itself
+abbrev pub plain : ℕ → ℕ → Bool
+plain q b = not (eqb b q) && (not (eqb b 10) && ltb b 128)
+
 -- ---- the close
 pub close-in : (at end n k : ℕ) → at < end → end ≤ n → Within at n (closeScan k end)
 close-in at end n k l h =
@@ -101,6 +105,48 @@ module _ (q : ℕ) (s : List ℕ) (i n : ℕ) (c : Char) (h : i < length s) (e :
           let g : suc i + k ≡ i + suc k = omega arith in
           rw (ne-eqb _ _ f) (lit-skip q k (suc i) (suc n) (drop (suc i) s) j ∙ rw (g, drop-drop, g, add-one n))
 
+-- from `at` to r all are plain: the literal goes on at r, with as many more characters behind
+pub record PlainRun (q : ℕ) (s : List ℕ) (at r : ℕ) : Type 0 where
+  pub on : at ≤ r
+  pub within : r ≤ length s
+  pub same : (n : ℕ) → litFrom q 0 at n (drop at s) ≡ litFrom q 0 r (n + (r - at)) (drop r s)
+
+pub plain-start : (q : ℕ) (s : List ℕ) (at : ℕ) → at ≤ length s → PlainRun q s at at
+plain-start q s at h =
+    let e : (n : ℕ) → n + (at - at) ≡ n = λ n. omega arith in
+    record { on = omega arith; within = h; same = λ n. rw (e n) refl }
+
+module _ (q : ℕ) (s : List ℕ) (i : ℕ) (h : i < length s) (p : plain q (getD s i 0) ≡ true) where
+  is-plain : (getD s i 0 ≡ q → ⊥) × (getD s i 0 ≡ 10 → ⊥) × (getD s i 0 < 128)
+  is-plain = go (eqb (getD s i 0) q) (eqb (getD s i 0) 10) (ltb (getD s i 0) 128) refl refl refl p
+    where
+      go : (t u v : Bool) → eqb (getD s i 0) q ≡ t → eqb (getD s i 0) 10 ≡ u → ltb (getD s i 0) 128 ≡ v → not t && (not u && v) ≡ true
+          → (getD s i 0 ≡ q → ⊥) × (getD s i 0 ≡ 10 → ⊥) × (getD s i 0 < 128)
+      go false false true a b c e = (eqb-false _ _ a, eqb-false _ _ b, ltb-true _ _ c)
+      go false false false a b c e = absurd (true≢false (sym e))
+      go false true v a b c e = absurd (true≢false (sym e))
+      go true u v a b c e = absurd (true≢false (sym e))
+
+  plain-char : (w : ℕ) → w ≡ getD s i 0 → char w 1 ≡ litChar q (drop i s)
+  plain-char w e = char-low q s i h (is-plain .0) (is-plain .2) w e .0
+
+  pub plain-step : (at : ℕ) → PlainRun q s at i → PlainRun q s at (i + 1)
+  plain-step at r =
+      let o : at ≤ i = r .on in
+      let e : (n : ℕ) → n + (i - at) + 1 ≡ n + (i + 1 - at) = λ n. omega arith in
+      record {
+        on = omega arith;
+        within = omega arith;
+        same = λ n. r .same n ∙ lit-step q s i (n + (i - at)) (char (getD s i 0) 1) h (plain-char (getD s i 0) refl) (λ z. omega arith) (is-plain .1) (omega arith) ∙ ap (λ (m : ℕ). litFrom q 0 (i + 1) m (drop (i + 1) s)) (e n);
+      }
+
+-- a run at the literal's start, and one after a character
+pub plain-first : (q : ℕ) (s : List ℕ) (at i : ℕ) → PlainRun q s at i → litFrom q 0 at 0 (drop at s) ≡ litFrom q 0 i (i - at) (drop i s)
+plain-first q s at i r = let e : 0 + (i - at) ≡ i - at = omega arith in r .same 0 ∙ ap (λ (m : ℕ). litFrom q 0 i m (drop i s)) e
+
+pub plain-more : (q : ℕ) (s : List ℕ) (i n next j : ℕ) → litFrom q 0 i n (drop i s) ≡ litFrom q 0 next (n + 1) (drop next s) → PlainRun q s next j → litFrom q 0 i n (drop i s) ≡ litFrom q 0 j (n + 1 + (j - next)) (drop j s)
+plain-more q s i n next j e r = e ∙ r .same (n + 1)
+
 -- ---- its tokens' loop
 pub chars-skip : (q from to k : ℕ) (s : List ℕ) → k ≤ length s → charTokens q from to k s ≡ charTokens q from to 0 (drop k s)
 unfolding charTokens
@@ -132,6 +178,10 @@ module _ (q from to : ℕ) (s : List ℕ) (i : ℕ) (c : Char) (h : i < length s
           let j : k ≤ length (drop (suc i) s) = rw length-drop (omega arith) in
           let g : suc i + k ≡ i + suc k = omega arith in
           ap (λ (l : List Tok). token 6 (c .code) 0 0 from to ∷ l) (chars-skip q from to k (drop (suc i) s) j ∙ rw (drop-drop, g))
+
+pub plain-token : (q from to : ℕ) (s : List ℕ) (i : ℕ) → i < length s → plain q (getD s i 0) ≡ true → (w : ℕ) → w ≡ getD s i 0
+    → charTokens q from to 0 (drop i s) ≡ token 6 w 0 0 from to ∷ charTokens q from to 0 (drop (i + 1) s)
+plain-token q from to s i h p w e = chars-step q from to s i (char w 1) h (plain-char q s i h p w e) (λ z. omega arith) (omega arith)
 
 -- a literal has fewer characters than bytes
 pub chars-few : (q from to skip at n end : ℕ) (s : List ℕ) → litFrom q skip at n s ≡ Literal end → at + length (charTokens q from to skip s) < end
@@ -172,6 +222,12 @@ pub fills-row : (ts us ts₀ : List Tok) (t : Tok) (m m′ m₀ : List ℕ) (n n
 fills-row ts us ts₀ t m m′ m₀ n n₀ e f h =
     let g : Fills (t ∷ us) ts₀ m m₀ n n₀ = subst (λ (x : List Tok). Fills x ts₀ m m₀ n n₀) e h in
     record { count = omega (arith, g .count); words = rw (f, add-one) (g .words) }
+
+pub fills-then : (us ts ts₀ : List Tok) (m′ m m₀ : List ℕ) (k n n₀ : ℕ) → Fills us ts m′ m k n → Fills ts ts₀ m m₀ n n₀ → Fills us ts₀ m′ m₀ k n₀
+fills-then us ts ts₀ m′ m m₀ k n n₀ g h = record { count = g .count ∙ h .count; words = g .words ∙ h .words }
+
+pub fills-at : (us ts : List Tok) (m m₀ : List ℕ) (k j n : ℕ) → k ≡ j → Fills us ts m m₀ k n → Fills us ts m m₀ j n
+fills-at us ts m m₀ k j n e h = subst (λ (x : ℕ). Fills us ts m m₀ x n) e h
 
 pub fills-end : (ts ts₀ : List Tok) (m m₀ : List ℕ) (n n₀ : ℕ) → ts ≡ [] → Fills ts ts₀ m m₀ n n₀ → (n ≡ n₀ + length ts₀) × (m ≡ putTokens m₀ n₀ ts₀)
 fills-end ts ts₀ m m₀ n n₀ e h =

@@ -68,7 +68,7 @@ pub fn skip_ascii(src: &[u8], at: usize, line: bool) -> Place
     Place { at: i, line: l }
 }
 
-// The same past white space of any length: runs of one byte each, and longer characters between them.
+// The same past white space of any length: longer characters one by one, and runs of one byte each between them.
 fn skip_white(src: &[u8], at: usize, line: bool) -> Place
     requires { ⌜ at ≤ length (now src) ⌝ }
     ensures { λ r. ⌜ (lex 0 (r .at) (r .line) (drop (r .at) (now (src .entry))) ≡ lex 0 at line (drop at (now (src .entry)))) × (at ≤ r .at) × (r .at ≤ length (now (src .entry))) ⌝ }
@@ -85,11 +85,8 @@ fn skip_white(src: &[u8], at: usize, line: bool) -> Place
                 if !two_white(a, b) {
                     return Place { at: i, line: l };
                 }
-                let m = line_after(a, i, l);
-                let next = i + 2;
-                let q = skip_ascii(src, next, m);
-                i = q.at;
-                l = q.line;
+                l = line_after(a, i, l);
+                i += 2;
             }
             3 => {
                 let b = refal_text::byte(src, i + 1);
@@ -97,8 +94,15 @@ fn skip_white(src: &[u8], at: usize, line: bool) -> Place
                 if !three_white(a, b, c) {
                     return Place { at: i, line: l };
                 }
+                l = line_after(a, i, l);
+                i += 3;
+            }
+            0 => {
+                if !crate::class::is_blank(a) {
+                    return Place { at: i, line: l };
+                }
                 let m = line_after(a, i, l);
-                let next = i + 3;
+                let next = i + 1;
                 let q = skip_ascii(src, next, m);
                 i = q.at;
                 l = q.line;
@@ -182,6 +186,18 @@ pub fn wide_at(src: &[u8], at: usize, line: bool, b: u8) -> Scan
     Scan::Bad { number: 10, end }
 }
 
+// The same after a comment, where another often follows at once.
+fn skip_between(src: &[u8], at: usize, line: bool) -> Place
+    requires { ⌜ at ≤ length (now src) ⌝ }
+    ensures { λ r. ⌜ (lex 0 (r .at) (r .line) (drop (r .at) (now (src .entry))) ≡ lex 0 at line (drop at (now (src .entry)))) × (at ≤ r .at) × (r .at ≤ length (now (src .entry))) ⌝ }
+{
+    let b = refal_text::byte(src, at);
+    if b == 47 {
+        return Place { at, line };
+    }
+    skip_white(src, at, line)
+}
+
 // Past white space and the block comments between it. An unclosed comment is left to the scan that refuses it.
 pub fn skip_blank(src: &[u8], at: usize, line: bool) -> Place
     requires { ⌜ at ≤ length (now src) ⌝ }
@@ -198,7 +214,7 @@ pub fn skip_blank(src: &[u8], at: usize, line: bool) -> Place
         let Scan::Blank { end, line: m } = s else {
             return Place { at: i, line: l };
         };
-        let q = skip_white(src, end, m);
+        let q = skip_between(src, end, m);
         i = q.at;
         l = q.line;
     }

@@ -25,29 +25,31 @@ ok-more w i h h' =
     ∙ ok-two (tok w i) (tok w (i + 6)) (rest w (i + 6 + 6))
     ∙ ap (λ (l : List Token). goodToken (tok w i) && okTokens l) (sym e)
 
--- a good token, and another, with whole rows after it
-pub ok-go : (w : List ℕ) (i : ℕ) → i + 6 < length w → i + 6 + 6 ≤ length w → goodToken (tok w i) ≡ true → okTokens (rest w i) ≡ okTokens (rest w (i + 6))
-ok-go w i h h' g = ok-more w i h h' ∙ ap (λ (b : Bool). b && okTokens (rest w (i + 6))) g
-
-pub ok-bad : (w : List ℕ) (i : ℕ) → i + 6 < length w → i + 6 + 6 ≤ length w → goodToken (tok w i) ≡ false → okTokens (rest w i) ≡ false
-ok-bad w i h h' g = ok-more w i h h' ∙ ap (λ (b : Bool). b && okTokens (rest w (i + 6))) g
+-- one token more, with whole rows after it: what was good so far, and the token
+pub ok-on : (w : List ℕ) (i : ℕ) (x : Bool) (good g : Bool) → i + 6 < length w → i + 6 + 6 ≤ length w → g ≡ goodToken (tok w i)
+    → x ≡ good && okTokens (rest w i) → x ≡ (good && g) && okTokens (rest w (i + 6))
+ok-on w i x true g h h' e f = f ∙ ok-more w i h h' ∙ ap (λ (b : Bool). b && okTokens (rest w (i + 6))) (sym e)
+ok-on w i x false g h h' e f = f
 
 ok-one : (t : Token) → okTokens (t ∷ []) ≡ goodEof t
 unfolding okTokens
 ok-one t = refl
 
-pub ok-last : (w : List ℕ) (i : ℕ) → i + 6 ≡ length w → okTokens (rest w i) ≡ goodEof (tok w i)
-ok-last w i h =
-    ap okTokens (rest-step w i (omega arith))
+pub ok-last : (w : List ℕ) (i : ℕ) (good e : Bool) → i + 6 ≡ length w → e ≡ goodEof (tok w i) → good && okTokens (rest w i) ≡ good && e
+ok-last w i good e h f =
+    ap (λ (b : Bool). good && b)
+    (ap okTokens (rest-step w i (omega arith))
     ∙ ap (λ (l : List Token). okTokens (tok w i ∷ l)) (rest-none w (i + 6) (omega arith))
     ∙ ok-one (tok w i)
+    ∙ sym f)
 
 ok-nil : okTokens [] ≡ false
 unfolding okTokens
 ok-nil = refl
 
-pub ok-none : (w : List ℕ) (i : ℕ) → length w < i + 6 → okTokens (rest w i) ≡ false
-ok-none w i h = ap okTokens (rest-none w i h) ∙ ok-nil
+pub ok-none : (w : List ℕ) (i : ℕ) (good : Bool) → length w < i + 6 → good && okTokens (rest w i) ≡ false
+ok-none w i true h = ap okTokens (rest-none w i h) ∙ ok-nil
+ok-none w i false h = refl
 
 -- the whole test
 pub well : (w : List ℕ) (b : Bool) → length w % 6 ≡ 0 → length w ≤ 100663302 → okTokens (rest w 0) ≡ b → wellFormed w ≡ b

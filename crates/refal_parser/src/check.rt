@@ -56,7 +56,8 @@ fn good_eof(tokens: &[u32], at: usize) -> bool
     (kind == token::EOF) & good
 }
 
-// Whole rows, at most 16,777,217 of them; kinds 1 to 17, Eof exactly once and last; fields as their kinds use them.
+// Whole rows, at most 16,777,217 of them; kinds 1 to 17, Eof exactly once and last; fields as their kinds use them. The loop
+// has no way out in its middle, so that the compiler tests several rows at once.
 pub fn check(tokens: &[u32]) -> bool
     ensures { λ r. ⌜ r ≡ wellFormed (now (tokens .entry)) ⌝ }
 {
@@ -68,14 +69,13 @@ pub fn check(tokens: &[u32]) -> bool
         return false;
     }
     let mut i = 0;
+    let mut good = true;
     while i + 6 < n {
-        if !good_token(tokens, i) {
-            return false;
-        }
+        good = good & good_token(tokens, i);
         i += 6;
     }
     if i + 6 == n {
-        return good_eof(tokens, i);
+        return good & good_eof(tokens, i);
     }
     false
 }

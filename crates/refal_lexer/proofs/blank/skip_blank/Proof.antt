@@ -12,6 +12,7 @@ use Rattle.refal_lexer.proofs.blank.skip_blank.Statement.{statement}
 use Rattle.refal_lexer.proofs.blank.skip_blank.Tie as tie
 use Rattle.refal_lexer.proofs.blank.skip_blank.Reads as reads
 use Rattle.refal_lexer.proofs.blank.skip_blank.Lts as lts
+use Rattle.refal_lexer.proofs.blank.skip_between.Reads as skip-between-reads
 use Rattle.refal_lexer.proofs.blank.skip_white.Reads as skip-white-reads
 use Rattle.refal_lexer.proofs.blank.slash_at.Reads as slash-at-reads
 
@@ -21,45 +22,45 @@ Inv-loop src at line i₀ l₀ i l = (lex 0 i l (drop i src) ≡ lex 0 at line (
 abbrev μ-loop : tie.MeasureT-loop
 μ-loop src at line i₀ l₀ i l = length src - i
 
--- src/blank.rt:190:9
+-- src/blank.rt:206:9
 skip-white-requires : tie.Need-skip-white-requires Inv-loop μ-loop
 skip-white-requires c κs = search needs
 
--- src/blank.rt:193:5
+-- src/blank.rt:209:5
 loop-holds : tie.Need-loop-holds Inv-loop μ-loop
 loop-holds c = c .skip-white .ensures
 
--- src/blank.rt:194:12
+-- src/blank.rt:210:12
 shared-slice-read-if1 : tie.Need-shared-slice-read-if1 Inv-loop μ-loop
 shared-slice-read-if1 c = search needs
 
--- src/blank.rt:195:13
+-- src/blank.rt:211:13
 returns : tie.Need-returns Inv-loop μ-loop
 returns c = c .before .before .before .loop .inv
 
--- src/blank.rt:197:13
+-- src/blank.rt:213:13
 slash-at-requires : tie.Need-slash-at-requires Inv-loop μ-loop
 slash-at-requires c κs = search needs
 
--- src/blank.rt:198:27
+-- src/blank.rt:214:27
 enum-known-s : tie.Need-enum-known-s Inv-loop μ-loop
 enum-known-s c = search needs
 
--- src/blank.rt:199:13
+-- src/blank.rt:215:13
 returns-2 : tie.Need-returns-2 Inv-loop μ-loop
 returns-2 c = c .before .before .before .before .before .loop .inv
 
--- src/blank.rt:201:13
-skip-white-requires-2 : tie.Need-skip-white-requires-2 Inv-loop μ-loop
-skip-white-requires-2 c κs = let w = in-is _ _ _ _ (c .before .s .given .1) (c .before .before .before .slash-at .ensures .1) in w .1
+-- src/blank.rt:217:13
+skip-between-requires : tie.Need-skip-between-requires Inv-loop μ-loop
+skip-between-requires c κs = let w = in-is _ _ _ _ (c .before .s .given .1) (c .before .before .before .slash-at .ensures .1) in w .1
 
--- src/blank.rt:193:5
+-- src/blank.rt:209:5
 loop-less : tie.Need-loop-less Inv-loop μ-loop
-loop-less c = let w = in-is _ _ _ _ (c .before .before .s .given .1) (c .before .before .before .before .slash-at .ensures .1) in let e = c .skip-white2 .ensures in omega arith
+loop-less c = let w = in-is _ _ _ _ (c .before .before .s .given .1) (c .before .before .before .before .slash-at .ensures .1) in let e = c .skip-between .ensures in omega arith
 
--- src/blank.rt:193:5
+-- src/blank.rt:209:5
 loop-again : tie.Need-loop-again Inv-loop μ-loop
-loop-again c = let w = in-is _ _ _ _ (c .before .before .s .given .1) (c .before .before .before .before .slash-at .ensures .1) in let e = c .skip-white2 .ensures in (
+loop-again c = let w = in-is _ _ _ _ (c .before .before .s .given .1) (c .before .before .before .before .slash-at .ensures .1) in let e = c .skip-between .ensures in (
   e .0
       ∙ sym (lex-blank (c .before .before .before .before .before .before .before .before .before .before .before .args .src .now) (c .before .before .before .before .before .before .before .before .loop .i) (c .before .before .before .before .before .before .before .before .loop .l) (c .before .before .before .before .before .before .before .loop-test .taken) _ _
       (sym (scan-slash (c .before .before .before .before .before .before .before .before .before .before .before .args .src .now) (c .before .before .before .before .before .before .before .before .loop .i) (c .before .before .before .before .before .before .before .before .loop .l) (c .before .before .before .before .before .before .before .loop-test .taken) (c .before .before .before .before .before .if1 .left))
@@ -69,7 +70,7 @@ loop-again c = let w = in-is _ _ _ _ (c .before .before .s .given .1) (c .before
   e .2,
 )
 
--- src/blank.rt:186:1
+-- src/blank.rt:202:1
 returns-3 : tie.Need-returns-3 Inv-loop μ-loop
 returns-3 c = c .before .loop .inv
 
@@ -86,7 +87,7 @@ skip-blank-spec =
     slash-at-requires
     enum-known-s
     returns-2
-    skip-white-requires-2
+    skip-between-requires
     loop-less
     loop-again
     returns-3)

@@ -1,13 +1,12 @@
 -- `refal_parser::check::check` meets its contract: one pass over the rows, each token good, an Eof last.
 use Prim.Native.Nat.{ℕ, _-_, _+_, _≤_, _%_}
 use mathlib.Core.Path.{_≡_, refl, sym, _∙_}
+use mathlib.Core.Bool.{_&&_}
 use lib.ListN.{length}
-use mathlib.Core.Bool.{true, false}
 use native.Mathlib.Omega.{arith}
-use borrow.Author.Tests.{not-true, not-false}
 use Rattle.refal_ast.specs.Check.{okTokens}
 use Rattle.refal_parser.specs.Ready.{rest}
-use Rattle.refal_parser.proofs.CheckLaws.{ok-go, ok-bad, ok-last, ok-none, well, ragged, too-long}
+use Rattle.refal_parser.proofs.CheckLaws.{ok-on, ok-last, ok-none, well, ragged, too-long}
 use borrow.Author.Needs.{needs}
 use Rattle.refal_parser.proofs.check.check.Statement.{statement}
 use Rattle.refal_parser.proofs.check.check.Tie as tie
@@ -17,72 +16,64 @@ use Rattle.refal_parser.proofs.check.good_eof.Reads as good-eof-reads
 use Rattle.refal_parser.proofs.check.good_token.Reads as good-token-reads
 
 abbrev Inv-loop : tie.InvT-loop
-Inv-loop tokens n i₀ i = (i ≤ length tokens) × ((length tokens - i) % 6 ≡ 0) × (okTokens (rest tokens 0) ≡ okTokens (rest tokens i))
+Inv-loop tokens n i₀ good₀ i good = (i ≤ length tokens) × ((length tokens - i) % 6 ≡ 0) × (okTokens (rest tokens 0) ≡ good && okTokens (rest tokens i))
 
 abbrev μ-loop : tie.MeasureT-loop
-μ-loop tokens n i₀ i = length tokens - i
+μ-loop tokens n i₀ good₀ i good = length tokens - i
 
--- src/check.rt:64:9
+-- src/check.rt:66:9
 returns : tie.Need-returns Inv-loop μ-loop
 returns c = sym (ragged _ (c .if1 .taken))
 
--- src/check.rt:67:9
+-- src/check.rt:69:9
 returns-2 : tie.Need-returns-2 Inv-loop μ-loop
 returns-2 c = sym (too-long _ (c .before .if1 .left) (c .if2 .taken))
 
--- src/check.rt:70:5
+-- src/check.rt:73:5
 loop-holds : tie.Need-loop-holds Inv-loop μ-loop
 loop-holds c = let h = c .before .if1 .left in (omega arith, omega arith, refl)
 
--- src/check.rt:70:11
+-- src/check.rt:73:11
 add-loop : tie.Need-add-loop Inv-loop μ-loop
 add-loop c = search needs
 
--- src/check.rt:71:13
+-- src/check.rt:74:23
 good-token-requires : tie.Need-good-token-requires Inv-loop μ-loop
 good-token-requires c κs = search needs
 
--- src/check.rt:72:13
-returns-3 : tie.Need-returns-3 Inv-loop μ-loop
-returns-3 c = let I = c .before .before .before .loop .inv in
-    let m = I .1 in
-    let t = c .before .before .loop-test .taken in
-    sym (well _ false (c .before .before .before .before .before .if1 .left) (c .before .before .before .before .if2 .left) (I .2
-    ∙ ok-bad _ _ (c .before .before .loop-test .taken) (omega arith) (sym (c .before .good-token .ensures) ∙ not-true _ (c .if3 .taken))))
-
--- src/check.rt:74:9
+-- src/check.rt:75:9
 add-i : tie.Need-add-i Inv-loop μ-loop
 add-i c = search needs
 
--- src/check.rt:70:5
+-- src/check.rt:73:5
 loop-less : tie.Need-loop-less Inv-loop μ-loop
 loop-less c = search needs
 
--- src/check.rt:70:5
+-- src/check.rt:73:5
 loop-again : tie.Need-loop-again Inv-loop μ-loop
-loop-again c = let I = c .before .before .before .loop .inv in
+loop-again c = let I = c .before .before .loop .inv in
     let m = I .1 in
-    let t = c .before .before .loop-test .taken in
-    (omega arith, omega arith, I .2 ∙ ok-go _ _ (c .before .before .loop-test .taken) (omega arith) (sym (c .before .good-token .ensures) ∙ not-false _ (c .if3 .left)))
+    let t = c .before .loop-test .taken in
+    (omega arith, omega arith, ok-on (c .before .before .before .before .before .before .args .tokens .now) (c .before .before .loop .i) _ (c .before .before .loop .good) _ (c .before .loop-test .taken) (omega arith) (c .good-token .ensures) (I .2))
 
--- src/check.rt:76:8
-add-if4 : tie.Need-add-if4 Inv-loop μ-loop
-add-if4 c = search needs
+-- src/check.rt:77:8
+add-if3 : tie.Need-add-if3 Inv-loop μ-loop
+add-if3 c = search needs
 
--- src/check.rt:77:9
+-- src/check.rt:78:23
 good-eof-requires : tie.Need-good-eof-requires Inv-loop μ-loop
 good-eof-requires c κs = search needs
 
--- src/check.rt:77:9
-returns-4 : tie.Need-returns-4 Inv-loop μ-loop
-returns-4 c = sym (well _ _ (c .before .before .before .before .before .if1 .left) (c .before .before .before .before .if2 .left) (c .before .before .before .loop .inv .2 ∙ ok-last _ _ (c .before .if4 .taken) ∙ sym (c .good-eof .ensures)))
+-- src/check.rt:78:9
+returns-3 : tie.Need-returns-3 Inv-loop μ-loop
+returns-3 c = sym (well _ _ (c .before .before .before .before .before .if1 .left) (c .before .before .before .before .if2 .left) (c .before .before .before .loop .inv .2 ∙ ok-last (c .before .before .before .before .before .before .before .args .tokens .now) (c .before .before .before .loop .i) (c .before .before .before .loop .good) _ (c .before .if3 .taken) (c .good-eof .ensures)))
 
--- src/check.rt:59:1
-returns-5 : tie.Need-returns-5 Inv-loop μ-loop
-returns-5 c = let w = c .before .before .before .before .before .before .args .tokens .now in
+-- src/check.rt:61:1
+returns-4 : tie.Need-returns-4 Inv-loop μ-loop
+returns-4 c = let w = c .before .before .before .before .before .before .args .tokens .now in
     let i₀ = c .before .before .loop .i in
-    let n = c .if4 .left in
-    let l = c .before .loop-test .left in sym (well _ false (c .before .before .before .before .if1 .left) (c .before .before .before .if2 .left) (c .before .before .loop .inv .2 ∙ ok-none w i₀ (omega arith)))
+    let n = c .if3 .left in
+    let l = c .before .loop-test .left in sym (well _ _ (c .before .before .before .before .if1 .left) (c .before .before .before .if2 .left) (c .before .before .loop .inv .2 ∙ ok-none w i₀ (c .before .before .loop .good) (omega arith)))
 
 pub check-spec : {M : Type 1} → statement M
 check-spec =
@@ -95,11 +86,10 @@ check-spec =
     loop-holds
     add-loop
     good-token-requires
-    returns-3
     add-i
     loop-less
     loop-again
-    add-if4
+    add-if3
     good-eof-requires
-    returns-4
-    returns-5)
+    returns-3
+    returns-4)
