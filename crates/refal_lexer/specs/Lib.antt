@@ -1,5 +1,6 @@
 -- Definitions: Classes, Blanks, Words, Numbers, Literals, Scans, Lex, Read. The bounds of a scan: Within. Rows put one by one: Puts.
 -- Laws: ClassLaws, BlankLaws, WordLaws, NumberLaws, LiteralLaws, ScanLaws, ShapeLaws, TokenLaws, PlaceLaws, LexLaws, ReadLaws.
+-- That spans stand on character boundaries: Boundaries, BoundaryLaws, EndLaws, ReadBoundaries.
 pub mod Classes
 pub mod Blanks
 pub mod Words
@@ -21,3 +22,7 @@ pub mod TokenLaws
 pub mod PlaceLaws
 pub mod LexLaws
 pub mod ReadLaws
+pub mod Boundaries
+pub mod BoundaryLaws
+pub mod EndLaws
+pub mod ReadBoundaries
