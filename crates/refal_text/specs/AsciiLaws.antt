@@ -1,4 +1,4 @@
--- Eight bytes below 128 at a time: the run of them goes on eight bytes further.
+-- Eight bytes below 128 at a time, and 32: the run of them goes on as many bytes further.
 use Prim.Native.Nat.{ℕ, _+_, _<_, _≤_}
 use native.Mathlib.Omega.{arith}
 use mathlib.Core.Bool.{Bool, true, _&&_}
@@ -41,3 +41,19 @@ eight-on s i h t =
     (and-right (quad s i (i + 1) (i + 2) (i + 3)) (quad s (i + 4) (i + 5) (i + 6) (i + 7)) t)
     ∙ four-on s i (i + 1) (i + 2) (i + 3) (i + 4) (omega arith) refl (omega arith) (omega arith) (omega arith)
     (and-left (quad s i (i + 1) (i + 2) (i + 3)) (quad s (i + 4) (i + 5) (i + 6) (i + 7)) t)
+
+-- 32 bytes, as four times eight
+abbrev pub block : List ℕ → ℕ → Bool
+block s i = (eight s i && eight s (i + 8)) && (eight s (i + 16) && eight s (i + 24))
+
+eight-to : (s : List ℕ) (i j : ℕ) → j ≡ i + 8 → j ≤ length s → eight s i ≡ true → On s j i
+eight-to s i j e h t = ap (λ (k : ℕ). k + span ascii (drop k s)) e ∙ eight-on s i (omega arith) t
+
+pub block-on : (s : List ℕ) (i : ℕ) → i + 32 ≤ length s → block s i ≡ true → i + 32 + span ascii (drop (i + 32) s) ≡ i + span ascii (drop i s)
+block-on s i h t =
+    let l = and-left (eight s i && eight s (i + 8)) (eight s (i + 16) && eight s (i + 24)) t in
+    let r = and-right (eight s i && eight s (i + 8)) (eight s (i + 16) && eight s (i + 24)) t in
+    eight-to s (i + 24) (i + 32) (omega arith) h (and-right (eight s (i + 16)) (eight s (i + 24)) r)
+    ∙ eight-to s (i + 16) (i + 24) (omega arith) (omega arith) (and-left (eight s (i + 16)) (eight s (i + 24)) r)
+    ∙ eight-to s (i + 8) (i + 16) (omega arith) (omega arith) (and-right (eight s i) (eight s (i + 8)) l)
+    ∙ eight-to s i (i + 8) refl (omega arith) (and-left (eight s i) (eight s (i + 8)) l)

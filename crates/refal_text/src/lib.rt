@@ -5,7 +5,7 @@ ghost use lib.ListN.{length, drop, getD};
 ghost use Rattle.refal_text.specs.Utf8.{leads, second, well2, well3, well4, two, three, four, decode, wellTo, ascii};
 ghost use Rattle.refal_text.specs.White.{whiteSpace};
 ghost use Rattle.refal_text.specs.Span.{span};
-ghost use Rattle.refal_text.specs.AsciiLaws.{eight};
+ghost use Rattle.refal_text.specs.AsciiLaws.{eight, block};
 
 // A character and how many bytes it has; 0 where the bytes are no character.
 pub struct Char {
@@ -161,12 +161,36 @@ fn ascii_eight(src: &[u8], i: usize) -> bool
         & (((src[i + 4] < 128) & (src[i + 5] < 128)) & ((src[i + 6] < 128) & (src[i + 7] < 128)))
 }
 
-// A place within the run of bytes below 128 from `at`, as far on as eights of them go.
-fn ascii_eights(src: &[u8], at: usize) -> usize
+// Whether the 32 bytes at i are below 128.
+fn ascii_block(src: &[u8], i: usize) -> bool
+    requires { ⌜ i + 32 ≤ length (now src) ⌝ }
+    ensures { λ r. ⌜ r ≡ block (now (src .entry)) i ⌝ }
+{
+    (ascii_eight(src, i) & ascii_eight(src, i + 8))
+        & (ascii_eight(src, i + 16) & ascii_eight(src, i + 24))
+}
+
+// A place within the run of bytes below 128 from `at`, as far on as blocks of 32 of them go.
+fn ascii_blocks(src: &[u8], at: usize) -> usize
     requires { ⌜ at ≤ length (now src) ⌝ }
     ensures { λ r. ⌜ (r + span ascii (drop r (now (src .entry))) ≡ at + span ascii (drop at (now (src .entry)))) × (r ≤ length (now (src .entry))) ⌝ }
 {
     let mut i = at;
+    while 32 <= src.len() - i {
+        if !ascii_block(src, i) {
+            return i;
+        }
+        i += 32;
+    }
+    i
+}
+
+// The same, as far on as eights of them go.
+fn ascii_eights(src: &[u8], at: usize) -> usize
+    requires { ⌜ at ≤ length (now src) ⌝ }
+    ensures { λ r. ⌜ (r + span ascii (drop r (now (src .entry))) ≡ at + span ascii (drop at (now (src .entry)))) × (r ≤ length (now (src .entry))) ⌝ }
+{
+    let mut i = ascii_blocks(src, at);
     while 8 <= src.len() - i {
         if !ascii_eight(src, i) {
             return i;

@@ -1,0 +1,68 @@
+-- `refal_text::ascii_blocks` meets its contract: 32 bytes a turn.
+use Prim.Native.Nat.{_+_, _-_, _≤_}
+use native.Mathlib.Omega.{arith}
+use borrow.Author.Tests.{not-false}
+use mathlib.Core.Path.{_≡_, refl, sym, _∙_}
+use lib.ListN.{length, drop}
+use Rattle.refal_text.specs.Utf8.{ascii}
+use Rattle.refal_text.specs.Span.{span}
+use Rattle.refal_text.specs.AsciiLaws.{block-on}
+use borrow.Author.Needs.{needs}
+use Rattle.refal_text.proofs.ascii_blocks.Statement.{statement}
+use Rattle.refal_text.proofs.ascii_blocks.Tie as tie
+use Rattle.refal_text.proofs.ascii_blocks.Reads as reads
+use Rattle.refal_text.proofs.ascii_blocks.Lts as lts
+use Rattle.refal_text.proofs.ascii_block.Reads as ascii-block-reads
+
+abbrev Inv-loop : tie.InvT-loop
+Inv-loop src at i₀ i = (i ≤ length src) × (i + span ascii (drop i src) ≡ at + span ascii (drop at src))
+
+abbrev μ-loop : tie.MeasureT-loop
+μ-loop src at i₀ i = length src - i
+
+-- src/lib.rt:179:5
+loop-holds : tie.Need-loop-holds Inv-loop μ-loop
+loop-holds c = (search needs, refl)
+
+-- src/lib.rt:179:17
+sub-loop : tie.Need-sub-loop Inv-loop μ-loop
+sub-loop c = search needs
+
+-- src/lib.rt:180:13
+ascii-block-requires : tie.Need-ascii-block-requires Inv-loop μ-loop
+ascii-block-requires c κs = search needs
+
+-- src/lib.rt:181:13
+returns : tie.Need-returns Inv-loop μ-loop
+returns c = (c .before .before .before .loop .inv .1, c .before .before .before .loop .inv .0)
+
+-- src/lib.rt:183:9
+add-i : tie.Need-add-i Inv-loop μ-loop
+add-i c = search needs
+
+-- src/lib.rt:179:5
+loop-less : tie.Need-loop-less Inv-loop μ-loop
+loop-less c = search needs
+
+-- src/lib.rt:179:5
+loop-again : tie.Need-loop-again Inv-loop μ-loop
+loop-again c = let h : c .before .before .before .loop .i + 32 ≤ length (c .before .before .before .before .before .args .src .now) = omega arith in (h, block-on (c .before .before .before .before .before .args .src .now) (c .before .before .before .loop .i) h (sym (c .before .ascii-block .ensures) ∙ not-false _ (c .if1 .left)) ∙ c .before .before .before .loop .inv .1)
+
+-- src/lib.rt:174:1
+returns-2 : tie.Need-returns-2 Inv-loop μ-loop
+returns-2 c = (c .before .loop .inv .1, c .before .loop .inv .0)
+
+pub ascii-blocks-spec : {M : Type 1} → statement M
+ascii-blocks-spec =
+    tie.close
+    (tie.spec
+    Inv-loop
+    μ-loop
+    loop-holds
+    sub-loop
+    ascii-block-requires
+    returns
+    add-i
+    loop-less
+    loop-again
+    returns-2)
