@@ -7,6 +7,8 @@ ghost use Rattle.refal_lexer.specs.Lex.{lex, stopAnswer};
 ghost use Rattle.refal_lexer.specs.Read.{readAnswer, readRows};
 ghost use Rattle.refal_lexer.specs.Puts.{putTokens};
 ghost use Rattle.refal_ast.specs.Answers.{refusal};
+ghost use Rattle.refal_ast.specs.Tokens.{token, words};
+ghost use Rattle.refal_rows.specs.Rows.{putRow};
 ghost use mathlib.Core.Bool.{true};
 
 mod blank;
@@ -56,7 +58,34 @@ fn refused(number: u32, start: usize, end: usize, need: usize) -> Answer
     })
 }
 
-// Every token's row, as far as they fit. The table of classes is made once for all of them.
+// The row of a token from `at` to `end`.
+fn put_token(
+    rows: &mut [u32],
+    n: usize,
+    kind: u32,
+    detail: u32,
+    start: usize,
+    len: usize,
+    at: usize,
+    end: usize,
+)
+    requires { ⌜ (n ≤ 16777216) × (start ≤ 16777216) × (len ≤ 16777216) × (at ≤ 16777216) × (end ≤ 16777216) ⌝ }
+    ensures { λ _. ⌜ now (rows .exit) ≡ putRow 6 (now (rows .entry)) n (words (token kind detail start len at end)) ⌝ }
+{
+    refal_rows::put6(
+        rows,
+        n,
+        kind,
+        detail,
+        start as u32,
+        len as u32,
+        at as u32,
+        end as u32,
+    );
+}
+
+// Every token's row, as far as they fit. The table of classes is made once for all of them. The classes that most tokens begin
+// with go straight to their scans; what these leave, a refusal, is left to the scan of every class.
 fn lex_by(src: &[u8], rows: &mut [u32], table: &[u8]) -> Answer
     requires { ⌜ (length (now src) ≤ 16777216) × Table (now table) ⌝ }
     ensures { λ r. ⌜ r ≡ stopAnswer (lex 0 0 true (now (src .entry))) ⌝ }
@@ -66,6 +95,55 @@ fn lex_by(src: &[u8], rows: &mut [u32], table: &[u8]) -> Answer
     let mut n = 0;
     let mut line = true;
     while at < src.len() {
+        let b = src[at];
+        let k = class::class_of(b, table);
+        match k {
+            21 => {
+                let name = word::name_at(src, at, table);
+                if let Scan::Token {
+                    kind,
+                    detail,
+                    start,
+                    len,
+                    end,
+                } = name {
+                    put_token(rows, n, kind, detail, start, len, at, end);
+                    n += 1;
+                    let p = blank::skip_ascii(src, end, false);
+                    at = p.at;
+                    line = p.line;
+                    continue;
+                }
+            }
+            23 => {
+                let variable = word::variable_at(src, at, b, table);
+                if let Scan::Token {
+                    kind,
+                    detail,
+                    start,
+                    len,
+                    end,
+                } = variable {
+                    put_token(rows, n, kind, detail, start, len, at, end);
+                    n += 1;
+                    let p = blank::skip_ascii(src, end, false);
+                    at = p.at;
+                    line = p.line;
+                    continue;
+                }
+            }
+            3 => {
+                let literal = literal::literal_at(src, at, b);
+                if let Scan::Literal { end } = literal {
+                    n = literal::put_chars(src, at, end, b, rows, n);
+                    let p = blank::skip_ascii(src, end, false);
+                    at = p.at;
+                    line = p.line;
+                    continue;
+                }
+            }
+            _ => {}
+        }
         let s = dispatch::scan_at(src, at, line, table);
         match s {
             Scan::Blank { end, line: l } => {
@@ -80,16 +158,7 @@ fn lex_by(src: &[u8], rows: &mut [u32], table: &[u8]) -> Answer
                 len,
                 end,
             } => {
-                refal_rows::put6(
-                    rows,
-                    n,
-                    kind,
-                    detail,
-                    start as u32,
-                    len as u32,
-                    at as u32,
-                    end as u32,
-                );
+                put_token(rows, n, kind, detail, start, len, at, end);
                 n += 1;
                 let p = blank::skip_ascii(src, end, false);
                 at = p.at;
