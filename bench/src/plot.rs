@@ -1,4 +1,4 @@
-//! The time of reading and parsing over the size of a delivery, as an SVG with two log scales.
+//! The time of reading and parsing over the size of a delivery of rules, as an SVG with two log scales.
 
 use crate::measure::Measured;
 
@@ -17,8 +17,9 @@ struct Line {
     points: Vec<(f64, f64)>,
 }
 
-/// Deliveries only; None where nothing was timed.
+/// Deliveries of rules only; None where nothing was timed.
 pub fn svg(measured: &[Measured]) -> Option<String> {
+    let measured: Vec<&Measured> = measured.iter().filter(|m| m.name == "rules").collect();
     let line = |name, colour, below, time: fn(&Measured) -> Option<f64>| Line {
         name,
         colour,
@@ -58,7 +59,7 @@ pub fn svg(measured: &[Measured]) -> Option<String> {
         ));
         mark *= 10.0;
     }
-    for input in measured {
+    for input in &measured {
         let size = input.bytes as f64 / 1024.0;
         let label = crate::table::size(input.bytes);
         body.push_str(&format!(
@@ -74,7 +75,7 @@ pub fn svg(measured: &[Measured]) -> Option<String> {
         "<svg xmlns=\"http://www.w3.org/2000/svg\" viewBox=\"0 0 {WIDTH} {HEIGHT}\" \
          font-family=\"sans-serif\" font-size=\"13\">\n\
          <rect width=\"100%\" height=\"100%\" fill=\"white\"/>\n\
-         <text x=\"{LEFT}\" y=\"26\" font-size=\"16\">Reading and parsing a delivery: time over size</text>\n\
+         <text x=\"{LEFT}\" y=\"26\" font-size=\"16\">Reading and parsing a delivery of rules: time over size</text>\n\
          {body}</svg>\n"
     ))
 }
