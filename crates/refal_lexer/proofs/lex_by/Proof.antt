@@ -54,15 +54,15 @@ name-at-requires c κs = search needs
 enum-known-name : tie.Need-enum-known-name Inv-loop μ-loop
 enum-known-name c = search needs
 
--- src/lib.rt:111:21
+-- src/lib.rt:110:21
 put-token-requires : tie.Need-put-token-requires Inv-loop μ-loop
 put-token-requires c κs = let w = in-is _ _ _ _ (c .before .before .name .given .1) (c .before .before .before .before .name-at .ensures .1) in (omega arith, omega arith, omega arith, omega arith, omega arith)
 
--- src/lib.rt:112:21
+-- src/lib.rt:111:21
 add-n : tie.Need-add-n Inv-loop μ-loop
 add-n c = search needs
 
--- src/lib.rt:113:25
+-- src/lib.rt:112:25
 skip-ascii-requires : tie.Need-skip-ascii-requires Inv-loop μ-loop
 skip-ascii-requires c κs = let w = in-is _ _ _ _ (c .before .before .before .before .before .name .given .1) (c .before .before .before .before .before .before .before .name-at .ensures .1) in w .1
 
@@ -72,30 +72,40 @@ loop-less c = let w = in-is _ _ _ _ (c .before .before .before .before .before .
 
 -- src/lib.rt:97:5
 loop-again : tie.Need-loop-again Inv-loop μ-loop
-loop-again c = let w = in-is _ _ _ _ (c .before .before .before .before .before .before .name .given .1) (c .before .before .before .before .before .before .before .before .name-at .ensures .1) in (
-  c .skip-ascii .ensures .2,
-  let p = c .skip-ascii .ensures .1 in omega arith,
-  c .before .before .before .put-token .kept .0 ∙ c .before .before .before .before .before .before .before .before .before .before .before .before .before .loop .inv .2,
-  leads-on _ _ _ _ _ _ (sym (c .skip-ascii .ensures .0)) (leads-row _ _ _ _ _ _ _ _ (lex-token _ _ _ (c .before .before .before .before .before .before .before .before .before .before .before .before .loop-test .taken) _ _ _ _ _ (sym (c .before .before .before .before .before .before .before .before .name-at .ensures .0 ∙ scan-class (c .before .before .before .before .before .before .before .before .before .before .before .before .before .before .before .before .before .args .src .now) (c .before .before .before .before .before .before .before .before .before .before .before .before .before .loop .at) (c .before .before .before .before .before .before .before .before .before .before .before .before .before .loop .line) (c .before .before .before .before .before .before .before .before .before .before .class-of .result) 21 (c .before .before .before .before .before .before .before .before .before .before .before .before .loop-test .taken) (c .before .before .before .before .before .before .before .before .before .before .class-of .ensures) (c .before .before .before .before .before .before .before .before .before .match .keys1)) ∙ c .before .before .before .before .before .before .name .given .1) (w .0) (w .1)) (c .before .before .before .put-token .ensures) (c .before .before .before .before .before .before .before .before .before .before .before .before .before .loop .inv .3)),
-)
+loop-again c = let w = in-is _ _ _ _ (c .before .before .before .before .before .before .name .given .1) (c .before .before .before .before .before .before .before .before .name-at .ensures .1) in
+    let p = c .skip-ascii .ensures .1 in
+    let t = lex-token _ _ _ (c .before .before .before .before .before .before .before .before .before .before .before .before .loop-test .taken) _ _ _ _ _
+    (sym (c .before .before .before .before .before .before .before .before .name-at .ensures .0
+    ∙ scan-class (c .before .before .before .before .before .before .before .before .before .before .before .before .before .before .before .before .before .args .src .now) (c .before .before .before .before .before .before .before .before .before .before .before .before .before .loop .at)
+    (c .before .before .before .before .before .before .before .before .before .before .before .before .before .loop .line) (c .before .before .before .before .before .before .before .before .before .before .class-of .result) 21
+    (c .before .before .before .before .before .before .before .before .before .before .before .before .loop-test .taken)
+    (c .before .before .before .before .before .before .before .before .before .before .class-of .ensures) (c .before .before .before .before .before .before .before .before .before .match .keys1))
+    ∙ c .before .before .before .before .before .before .name .given .1)
+    (w .0) (w .1) in (
+      c .skip-ascii .ensures .2,
+      omega arith,
+      c .before .before .before .put-token .kept .0 ∙ c .before .before .before .before .before .before .before .before .before .before .before .before .before .loop .inv .2,
+      leads-on _ _ _ _ _ _ (sym (c .skip-ascii .ensures .0))
+          (leads-row _ _ _ _ _ _ _ _ t (c .before .before .before .put-token .ensures) (c .before .before .before .before .before .before .before .before .before .before .before .before .before .loop .inv .3)),
+    )
 
--- src/lib.rt:120:21
+-- src/lib.rt:119:21
 variable-at-requires : tie.Need-variable-at-requires Inv-loop μ-loop
 variable-at-requires c κs = search needs
 
--- src/lib.rt:122:21
+-- src/lib.rt:121:21
 enum-known-variable : tie.Need-enum-known-variable Inv-loop μ-loop
 enum-known-variable c = search needs
 
--- src/lib.rt:129:21
+-- src/lib.rt:127:21
 put-token-requires-2 : tie.Need-put-token-requires-2 Inv-loop μ-loop
 put-token-requires-2 c κs = let w = in-is _ _ _ _ (c .before .before .variable .given .1) (c .before .before .before .before .variable-at .ensures .1) in (omega arith, omega arith, omega arith, omega arith, omega arith)
 
--- src/lib.rt:130:21
+-- src/lib.rt:128:21
 add-n-2 : tie.Need-add-n-2 Inv-loop μ-loop
 add-n-2 c = search needs
 
--- src/lib.rt:131:25
+-- src/lib.rt:129:25
 skip-ascii-requires-2 : tie.Need-skip-ascii-requires-2 Inv-loop μ-loop
 skip-ascii-requires-2 c κs = let w = in-is _ _ _ _ (c .before .before .before .before .before .variable .given .1) (c .before .before .before .before .before .before .before .variable-at .ensures .1) in w .1
 
@@ -105,26 +115,36 @@ loop-less-2 c = let w = in-is _ _ _ _ (c .before .before .before .before .before
 
 -- src/lib.rt:97:5
 loop-again-2 : tie.Need-loop-again-2 Inv-loop μ-loop
-loop-again-2 c = let w = in-is _ _ _ _ (c .before .before .before .before .before .before .variable .given .1) (c .before .before .before .before .before .before .before .before .variable-at .ensures .1) in (
-  c .skip-ascii2 .ensures .2,
-  let p = c .skip-ascii2 .ensures .1 in omega arith,
-  c .before .before .before .put-token2 .kept .0 ∙ c .before .before .before .before .before .before .before .before .before .before .before .before .before .loop .inv .2,
-  leads-on _ _ _ _ _ _ (sym (c .skip-ascii2 .ensures .0)) (leads-row _ _ _ _ _ _ _ _ (lex-token _ _ _ (c .before .before .before .before .before .before .before .before .before .before .before .before .loop-test .taken) _ _ _ _ _ (sym (c .before .before .before .before .before .before .before .before .variable-at .ensures .0 ∙ scan-class (c .before .before .before .before .before .before .before .before .before .before .before .before .before .before .before .before .before .args .src .now) (c .before .before .before .before .before .before .before .before .before .before .before .before .before .loop .at) (c .before .before .before .before .before .before .before .before .before .before .before .before .before .loop .line) (c .before .before .before .before .before .before .before .before .before .before .class-of .result) 23 (c .before .before .before .before .before .before .before .before .before .before .before .before .loop-test .taken) (c .before .before .before .before .before .before .before .before .before .before .class-of .ensures) (c .before .before .before .before .before .before .before .before .before .match .keys2)) ∙ c .before .before .before .before .before .before .variable .given .1) (w .0) (w .1)) (c .before .before .before .put-token2 .ensures) (c .before .before .before .before .before .before .before .before .before .before .before .before .before .loop .inv .3)),
-)
+loop-again-2 c = let w = in-is _ _ _ _ (c .before .before .before .before .before .before .variable .given .1) (c .before .before .before .before .before .before .before .before .variable-at .ensures .1) in
+    let p = c .skip-ascii2 .ensures .1 in
+    let t = lex-token _ _ _ (c .before .before .before .before .before .before .before .before .before .before .before .before .loop-test .taken) _ _ _ _ _
+    (sym (c .before .before .before .before .before .before .before .before .variable-at .ensures .0
+    ∙ scan-class (c .before .before .before .before .before .before .before .before .before .before .before .before .before .before .before .before .before .args .src .now) (c .before .before .before .before .before .before .before .before .before .before .before .before .before .loop .at)
+    (c .before .before .before .before .before .before .before .before .before .before .before .before .before .loop .line) (c .before .before .before .before .before .before .before .before .before .before .class-of .result) 23
+    (c .before .before .before .before .before .before .before .before .before .before .before .before .loop-test .taken)
+    (c .before .before .before .before .before .before .before .before .before .before .class-of .ensures) (c .before .before .before .before .before .before .before .before .before .match .keys2))
+    ∙ c .before .before .before .before .before .before .variable .given .1)
+    (w .0) (w .1) in (
+      c .skip-ascii2 .ensures .2,
+      omega arith,
+      c .before .before .before .put-token2 .kept .0 ∙ c .before .before .before .before .before .before .before .before .before .before .before .before .before .loop .inv .2,
+      leads-on _ _ _ _ _ _ (sym (c .skip-ascii2 .ensures .0))
+          (leads-row _ _ _ _ _ _ _ _ t (c .before .before .before .put-token2 .ensures) (c .before .before .before .before .before .before .before .before .before .before .before .before .before .loop .inv .3)),
+    )
 
--- src/lib.rt:138:21
+-- src/lib.rt:136:21
 literal-at-requires : tie.Need-literal-at-requires Inv-loop μ-loop
 literal-at-requires c κs = (c .before .before .before .loop-test .taken, class-quote (getD (c .before .before .before .before .before .before .before .before .args .src .now) (c .before .before .before .before .loop .at) 0) (sym (c .before .class-of .ensures) ∙ c .match .keys3))
 
--- src/lib.rt:139:40
+-- src/lib.rt:137:40
 enum-known-literal : tie.Need-enum-known-literal Inv-loop μ-loop
 enum-known-literal c = search needs
 
--- src/lib.rt:140:21
+-- src/lib.rt:138:21
 put-chars-requires : tie.Need-put-chars-requires Inv-loop μ-loop
 put-chars-requires c κs = let w = in-is _ _ _ _ (c .before .before .literal .given .1) (c .before .before .before .before .literal-at .ensures .1) in (w .0, w .1, omega arith, omega arith, class-quote (getD (c .before .before .before .before .before .before .before .before .before .before .before .before .before .args .src .now) (c .before .before .before .before .before .before .before .before .before .loop .at) 0) (sym (c .before .before .before .before .before .before .class-of .ensures) ∙ c .before .before .before .before .before .match .keys3))
 
--- src/lib.rt:141:25
+-- src/lib.rt:139:25
 skip-ascii-requires-3 : tie.Need-skip-ascii-requires-3 Inv-loop μ-loop
 skip-ascii-requires-3 c κs = let w = in-is _ _ _ _ (c .before .before .before .before .before .literal .given .1) (c .before .before .before .before .before .before .before .literal-at .ensures .1) in w .1
 
@@ -135,23 +155,35 @@ loop-less-3 c = let w = in-is _ _ _ _ (c .before .before .before .before .before
 -- src/lib.rt:97:5
 loop-again-3 : tie.Need-loop-again-3 Inv-loop μ-loop
 loop-again-3 c = let w = in-is _ _ _ _ (c .before .before .before .before .before .before .literal .given .1) (c .before .before .before .before .before .before .before .before .literal-at .ensures .1) in
-    let f = literal-few _ _ _ _ (c .before .before .before .before .before .before .before .before .before .before .before .before .loop-test .taken) (sym (c .before .before .before .before .before .before .before .before .literal-at .ensures .0 ∙ scan-class (c .before .before .before .before .before .before .before .before .before .before .before .before .before .before .before .before .before .args .src .now) (c .before .before .before .before .before .before .before .before .before .before .before .before .before .loop .at) (c .before .before .before .before .before .before .before .before .before .before .before .before .before .loop .line) (c .before .before .before .before .before .before .before .before .before .before .class-of .result) 3 (c .before .before .before .before .before .before .before .before .before .before .before .before .loop-test .taken) (c .before .before .before .before .before .before .before .before .before .before .class-of .ensures) (c .before .before .before .before .before .before .before .before .before .match .keys3)) ∙ c .before .before .before .before .before .before .literal .given .1) in let g = c .before .before .before .before .before .before .before .before .before .before .before .before .before .loop in let end = c .before .before .before .before .before .before .literal .given .0 .0 in let p = c .skip-ascii3 .ensures .1 in
-    let s = c .before .before .before .before .before .before .before .before .before .before .before .before .before .before .before .before .before .args .src .now in (
+    let e = (sym (c .before .before .before .before .before .before .before .before .literal-at .ensures .0
+    ∙ scan-class (c .before .before .before .before .before .before .before .before .before .before .before .before .before .before .before .before .before .args .src .now) (c .before .before .before .before .before .before .before .before .before .before .before .before .before .loop .at)
+    (c .before .before .before .before .before .before .before .before .before .before .before .before .before .loop .line) (c .before .before .before .before .before .before .before .before .before .before .class-of .result) 3
+    (c .before .before .before .before .before .before .before .before .before .before .before .before .loop-test .taken)
+    (c .before .before .before .before .before .before .before .before .before .before .class-of .ensures) (c .before .before .before .before .before .before .before .before .before .match .keys3))
+    ∙ c .before .before .before .before .before .before .literal .given .1) in
+    let f = literal-few _ _ _ _ (c .before .before .before .before .before .before .before .before .before .before .before .before .loop-test .taken) e in
+    let g = c .before .before .before .before .before .before .before .before .before .before .before .before .before .loop in
+    let end = c .before .before .before .before .before .before .literal .given .0 .0 in
+    let p = c .skip-ascii3 .ensures .1 in
+    let s = c .before .before .before .before .before .before .before .before .before .before .before .before .before .before .before .before .before .args .src .now in
+    let t = lex-literal _ _ _ (c .before .before .before .before .before .before .before .before .before .before .before .before .loop-test .taken) _ e (w .0) (w .1) in (
       c .skip-ascii3 .ensures .2,
       omega (arith, c .before .before .before .put-chars .ensures .0),
       c .before .before .before .put-chars .kept .1 .1 .1 .1 .0 ∙ c .before .before .before .before .before .before .before .before .before .before .before .before .before .loop .inv .2,
-      leads-on _ _ _ _ _ _ (sym (c .skip-ascii3 .ensures .0)) (leads-rows _ _ _ (charTokens (getD s (g .at) 0) (g .at) end 0 (drop (g .at + 1) s)) _ _ _ _ _ (lex-literal _ _ _ (c .before .before .before .before .before .before .before .before .before .before .before .before .loop-test .taken) _ (sym (c .before .before .before .before .before .before .before .before .literal-at .ensures .0 ∙ scan-class (c .before .before .before .before .before .before .before .before .before .before .before .before .before .before .before .before .before .args .src .now) (c .before .before .before .before .before .before .before .before .before .before .before .before .before .loop .at) (c .before .before .before .before .before .before .before .before .before .before .before .before .before .loop .line) (c .before .before .before .before .before .before .before .before .before .before .class-of .result) 3 (c .before .before .before .before .before .before .before .before .before .before .before .before .loop-test .taken) (c .before .before .before .before .before .before .before .before .before .before .class-of .ensures) (c .before .before .before .before .before .before .before .before .before .match .keys3)) ∙ c .before .before .before .before .before .before .literal .given .1) (w .0) (w .1)) (c .before .before .before .put-chars .ensures .1) (c .before .before .before .put-chars .ensures .0) (c .before .before .before .before .before .before .before .before .before .before .before .before .before .loop .inv .3)),
+      leads-on _ _ _ _ _ _ (sym (c .skip-ascii3 .ensures .0))
+          (leads-rows _ _ _ (charTokens (getD s (g .at) 0) (g .at) end 0 (drop (g .at + 1) s)) _ _ _ _ _ t
+          (c .before .before .before .put-chars .ensures .1) (c .before .before .before .put-chars .ensures .0) (c .before .before .before .before .before .before .before .before .before .before .before .before .before .loop .inv .3)),
     )
 
--- src/lib.rt:149:13
+-- src/lib.rt:147:13
 scan-at-requires : tie.Need-scan-at-requires Inv-loop μ-loop
 scan-at-requires c κs = search needs
 
--- src/lib.rt:151:27
+-- src/lib.rt:149:27
 enum-known-s : tie.Need-enum-known-s Inv-loop μ-loop
 enum-known-s c = search needs
 
--- src/lib.rt:152:21
+-- src/lib.rt:150:21
 skip-blank-requires : tie.Need-skip-blank-requires Inv-loop μ-loop
 skip-blank-requires c κs = let w = in-is _ _ _ _ (c .before .s .given .1) (c .before .before .before .scan-at .ensures .1) in w .1
 
@@ -162,21 +194,24 @@ loop-less-4 c = let w = in-is _ _ _ _ (c .before .before .s .given .1) (c .befor
 -- src/lib.rt:97:5
 loop-again-4 : tie.Need-loop-again-4 Inv-loop μ-loop
 loop-again-4 c = let w = in-is _ _ _ _ (c .before .before .s .given .1) (c .before .before .before .before .scan-at .ensures .1) in let p = c .skip-blank .ensures .1 in
-    (c .skip-blank .ensures .2, omega arith, c .before .before .before .before .before .before .before .before .before .loop .inv .2, leads-on _ _ _ _ _ _ (lex-blank _ _ _ (c .before .before .before .before .before .before .before .before .loop-test .taken) _ _ (sym (c .before .before .before .before .scan-at .ensures .0) ∙ c .before .before .s .given .1) (w .0) (w .1) ∙ sym (c .skip-blank .ensures .0)) (c .before .before .before .before .before .before .before .before .before .loop .inv .3))
+    let e = lex-blank _ _ _ (c .before .before .before .before .before .before .before .before .loop-test .taken) _ _
+    (sym (c .before .before .before .before .scan-at .ensures .0) ∙ c .before .before .s .given .1)
+    (w .0) (w .1) in
+    (c .skip-blank .ensures .2, omega arith, c .before .before .before .before .before .before .before .before .before .loop .inv .2, leads-on _ _ _ _ _ _ (e ∙ sym (c .skip-blank .ensures .0)) (c .before .before .before .before .before .before .before .before .before .loop .inv .3))
 
--- src/lib.rt:157:17
+-- src/lib.rt:155:17
 enum-known-s-2 : tie.Need-enum-known-s-2 Inv-loop μ-loop
 enum-known-s-2 c = search needs
 
--- src/lib.rt:163:17
+-- src/lib.rt:161:17
 put-token-requires-3 : tie.Need-put-token-requires-3 Inv-loop μ-loop
 put-token-requires-3 c κs = let w = in-is _ _ _ _ (c .before .before .s2 .given .1) (c .before .before .before .before .scan-at .ensures .1) in (omega arith, omega arith, omega arith, omega arith, omega arith)
 
--- src/lib.rt:164:17
+-- src/lib.rt:162:17
 add-n-3 : tie.Need-add-n-3 Inv-loop μ-loop
 add-n-3 c = search needs
 
--- src/lib.rt:165:21
+-- src/lib.rt:163:21
 skip-ascii-requires-4 : tie.Need-skip-ascii-requires-4 Inv-loop μ-loop
 skip-ascii-requires-4 c κs = let w = in-is _ _ _ _ (c .before .before .before .before .before .s2 .given .1) (c .before .before .before .before .before .before .before .scan-at .ensures .1) in w .1
 
@@ -186,22 +221,27 @@ loop-less-5 c = let w = in-is _ _ _ _ (c .before .before .before .before .before
 
 -- src/lib.rt:97:5
 loop-again-5 : tie.Need-loop-again-5 Inv-loop μ-loop
-loop-again-5 c = let w = in-is _ _ _ _ (c .before .before .before .before .before .before .s2 .given .1) (c .before .before .before .before .before .before .before .before .scan-at .ensures .1) in (
-  c .skip-ascii4 .ensures .2,
-  let p = c .skip-ascii4 .ensures .1 in omega arith,
-  c .before .before .before .put-token3 .kept .0 ∙ c .before .before .before .before .before .before .before .before .before .before .before .before .before .loop .inv .2,
-  leads-on _ _ _ _ _ _ (sym (c .skip-ascii4 .ensures .0)) (leads-row _ _ _ _ _ _ _ _ (lex-token _ _ _ (c .before .before .before .before .before .before .before .before .before .before .before .before .loop-test .taken) _ _ _ _ _ (sym (c .before .before .before .before .before .before .before .before .scan-at .ensures .0) ∙ c .before .before .before .before .before .before .s2 .given .1) (w .0) (w .1)) (c .before .before .before .put-token3 .ensures) (c .before .before .before .before .before .before .before .before .before .before .before .before .before .loop .inv .3)),
-)
+loop-again-5 c = let w = in-is _ _ _ _ (c .before .before .before .before .before .before .s2 .given .1) (c .before .before .before .before .before .before .before .before .scan-at .ensures .1) in
+    let p = c .skip-ascii4 .ensures .1 in
+    let t = lex-token _ _ _ (c .before .before .before .before .before .before .before .before .before .before .before .before .loop-test .taken) _ _ _ _ _
+    (sym (c .before .before .before .before .before .before .before .before .scan-at .ensures .0) ∙ c .before .before .before .before .before .before .s2 .given .1)
+    (w .0) (w .1) in (
+      c .skip-ascii4 .ensures .2,
+      omega arith,
+      c .before .before .before .put-token3 .kept .0 ∙ c .before .before .before .before .before .before .before .before .before .before .before .before .before .loop .inv .2,
+      leads-on _ _ _ _ _ _ (sym (c .skip-ascii4 .ensures .0))
+          (leads-row _ _ _ _ _ _ _ _ t (c .before .before .before .put-token3 .ensures) (c .before .before .before .before .before .before .before .before .before .before .before .before .before .loop .inv .3)),
+    )
 
--- src/lib.rt:169:29
+-- src/lib.rt:167:29
 enum-known-s-3 : tie.Need-enum-known-s-3 Inv-loop μ-loop
 enum-known-s-3 c = search needs
 
--- src/lib.rt:170:25
+-- src/lib.rt:168:25
 shared-slice-read-q : tie.Need-shared-slice-read-q Inv-loop μ-loop
 shared-slice-read-q c = search needs
 
--- src/lib.rt:171:17
+-- src/lib.rt:169:17
 put-chars-requires-2 : tie.Need-put-chars-requires-2 Inv-loop μ-loop
 put-chars-requires-2 c κs = let w = in-is _ _ _ _ (c .before .before .before .s3 .given .1) (c .before .before .before .before .before .scan-at .ensures .1) in (w .0, w .1, omega arith, omega arith, literal-quote _ _ _ _ (c .before .before .before .before .before .before .before .before .before .loop-test .taken) (sym (c .before .before .before .before .before .scan-at .ensures .0) ∙ c .before .before .before .s3 .given .1))
 
@@ -212,43 +252,48 @@ loop-less-6 c = let w = in-is _ _ _ _ (c .before .before .before .before .before
 -- src/lib.rt:97:5
 loop-again-6 : tie.Need-loop-again-6 Inv-loop μ-loop
 loop-again-6 c = let w = in-is _ _ _ _ (c .before .before .before .before .before .before .s3 .given .1) (c .before .before .before .before .before .before .before .before .scan-at .ensures .1) in
-    let f = literal-few _ _ _ _ (c .before .before .before .before .before .before .before .before .before .before .before .before .loop-test .taken) (sym (c .before .before .before .before .before .before .before .before .scan-at .ensures .0) ∙ c .before .before .before .before .before .before .s3 .given .1) in let g = c .before .before .before .before .before .before .before .before .before .before .before .before .before .loop in let end = c .before .before .before .before .before .before .s3 .given .0 .0 in
-    let s = c .before .before .before .before .before .before .before .before .before .before .before .before .before .before .before .before .before .args .src .now in (
+    let e = (sym (c .before .before .before .before .before .before .before .before .scan-at .ensures .0) ∙ c .before .before .before .before .before .before .s3 .given .1) in
+    let f = literal-few _ _ _ _ (c .before .before .before .before .before .before .before .before .before .before .before .before .loop-test .taken) e in
+    let g = c .before .before .before .before .before .before .before .before .before .before .before .before .before .loop in
+    let end = c .before .before .before .before .before .before .s3 .given .0 .0 in
+    let s = c .before .before .before .before .before .before .before .before .before .before .before .before .before .before .before .before .before .args .src .now in
+    let t = lex-literal _ _ _ (c .before .before .before .before .before .before .before .before .before .before .before .before .loop-test .taken) _ e (w .0) (w .1) in (
       w .1,
       omega (arith, c .before .before .put-chars2 .ensures .0),
       c .before .before .put-chars2 .kept .1 .1 .1 .1 .0 ∙ c .before .before .before .before .before .before .before .before .before .before .before .before .before .loop .inv .2,
-      leads-rows _ _ _ (charTokens (getD s (g .at) 0) (g .at) end 0 (drop (g .at + 1) s)) _ _ _ _ _ (lex-literal _ _ _ (c .before .before .before .before .before .before .before .before .before .before .before .before .loop-test .taken) _ (sym (c .before .before .before .before .before .before .before .before .scan-at .ensures .0) ∙ c .before .before .before .before .before .before .s3 .given .1) (w .0) (w .1)) (c .before .before .put-chars2 .ensures .1) (c .before .before .put-chars2 .ensures .0) (c .before .before .before .before .before .before .before .before .before .before .before .before .before .loop .inv .3),
+      leads-rows _ _ _ (charTokens (getD s (g .at) 0) (g .at) end 0 (drop (g .at + 1) s)) _ _ _ _ _ t
+          (c .before .before .put-chars2 .ensures .1) (c .before .before .put-chars2 .ensures .0) (c .before .before .before .before .before .before .before .before .before .before .before .before .before .loop .inv .3),
     )
 
--- src/lib.rt:175:25
+-- src/lib.rt:173:25
 enum-known-s-4 : tie.Need-enum-known-s-4 Inv-loop μ-loop
 enum-known-s-4 c = search needs
 
--- src/lib.rt:176:17
+-- src/lib.rt:174:17
 refused-requires : tie.Need-refused-requires Inv-loop μ-loop
 refused-requires c κs = search needs
 
--- src/lib.rt:176:17
+-- src/lib.rt:174:17
 same-length : tie.Need-same-length Inv-loop μ-loop
 same-length c = search needs
 
--- src/lib.rt:176:17
+-- src/lib.rt:174:17
 returns : tie.Need-returns Inv-loop μ-loop
 returns c = leads-bad _ _ _ _ _ _ _ _ _ (c .refused .ensures) (lex-bad _ _ _ (c .before .before .before .before .before .before .before .before .loop-test .taken) _ _ (sym (c .before .before .before .before .scan-at .ensures .0) ∙ c .before .before .s4 .given .1)) (c .before .before .before .before .before .before .before .before .before .loop .inv .3)
 
--- src/lib.rt:180:44
+-- src/lib.rt:178:44
 cast-put6 : tie.Need-cast-put6 Inv-loop μ-loop
 cast-put6 c = search needs
 
--- src/lib.rt:180:55
+-- src/lib.rt:178:55
 cast-put6-2 : tie.Need-cast-put6-2 Inv-loop μ-loop
 cast-put6-2 c = search needs
 
--- src/lib.rt:180:5
+-- src/lib.rt:178:5
 put6-requires : tie.Need-put6-requires Inv-loop μ-loop
 put6-requires c κs = search needs
 
--- src/lib.rt:181:17
+-- src/lib.rt:179:17
 add-count : tie.Need-add-count Inv-loop μ-loop
 add-count c = search needs
 
