@@ -3,9 +3,13 @@ use Prim.Native.Nat.{ℕ, zero, suc, _+_, _-_, _<_, _≤_}
 use native.Mathlib.Nat.{add-zero, zero-add}
 use native.Mathlib.Numerals.{add-one}
 use native.Mathlib.Omega.{arith}
+use borrow.Author.Tests.{eqb-true}
+use Rattle.refal_text.specs.Pick.{pick}
+use Rattle.refal_lexer.specs.BlankLaws.{nonzero-in}
 use mathlib.Core.List.{List, [], _∷_}
 use mathlib.Core.Bool.{Bool, true, false}
 use mathlib.Core.Path.{_≡_, refl, ap, _∙_, sym, subst}
+use lib.Dec.{eqb}
 use lib.ListN.{length, drop, getD, drop-of-length-le, length-drop, length-append}
 use lib.Seq.{drop-cons, drop-drop}
 use Rattle.refal_lexer.specs.Classes.{blank}
@@ -64,6 +68,20 @@ module _ (s : List ℕ) (at : ℕ) (line : Bool) (h : at < length s) where
 
   pub lex-white : (k : ℕ) → k ≡ whiteLen (drop at s) → (k ≡ 0 → ⊥) → at + k ≤ length s → lex 0 (at + k) (lineAfter (getD s at 0) at line) (drop (at + k) s) ≡ lex 0 at line (drop at s)
   lex-white k e z hi = sym (lex-blank (at + k) (lineAfter (getD s at 0) at line) (scan-white s at line h k e z) (omega arith) hi)
+
+-- one space at `at`, if it is there: o is 1 or 0 as it is or not
+pub lex-space : (s : List ℕ) (at b o : ℕ) → at ≤ length s → b ≡ getD s at 0 → o ≡ pick (eqb b 32) 1 0
+    → (lex 0 (at + o) false (drop (at + o) s) ≡ lex 0 at false (drop at s)) × (at ≤ at + o) × (at + o ≤ length s)
+lex-space s at b o h e = go (eqb b 32) refl
+  where
+    go : (t : Bool) → eqb b 32 ≡ t → o ≡ pick t 1 0 → (lex 0 (at + o) false (drop (at + o) s) ≡ lex 0 at false (drop at s)) × (at ≤ at + o) × (at + o ≤ length s)
+    go true f g =
+        let i : getD s at 0 ≡ 32 = sym e ∙ eqb-true b 32 f in
+        let l : at < length s = nonzero-in s at (λ z. omega arith) in
+        let k : blank (getD s at 0) ≡ true = ap blank i in
+        let m : lineAfter (getD s at 0) at false ≡ false = ap (λ (x : ℕ). lineAfter x at false) i in
+        (rw g (ap (λ (x : Bool). lex 0 (at + 1) x (drop (at + 1) s)) (sym m) ∙ lex-ascii s at false l k), omega arith, omega arith)
+    go false f g = (rw (g, add-zero at) refl, omega arith, omega arith)
 
 pub lex-end : (s : List ℕ) (at : ℕ) (line : Bool) → length s ≤ at → lex 0 at line (drop at s) ≡ eofAt at
 unfolding lex

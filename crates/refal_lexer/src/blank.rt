@@ -3,6 +3,7 @@ ghost use mathlib.Core.Path.{_≡_};
 ghost use mathlib.Core.Bool.{false};
 ghost use Prim.Native.Nat.{_+_, _≤_, _<_};
 ghost use lib.ListN.{length, drop};
+ghost use Rattle.refal_text.specs.Pick.{pick};
 ghost use Rattle.refal_text.specs.Utf8.{decode, two, three};
 ghost use Rattle.refal_text.specs.White.{whiteSpace};
 ghost use Rattle.refal_lexer.specs.Blanks.{lineAfter, starScan, slashScan, closeFrom, wideScan};
@@ -50,7 +51,7 @@ fn three_white(a: u8, b: u8, c: u8) -> bool
 }
 
 // Past the white space of one byte each at `at`. What is still to come is the same there as here.
-pub fn skip_ascii(src: &[u8], at: usize, line: bool) -> Place
+fn skip_ascii(src: &[u8], at: usize, line: bool) -> Place
     requires { ⌜ at ≤ length (now src) ⌝ }
     ensures { λ r. ⌜ (lex 0 (r .at) (r .line) (drop (r .at) (now (src .entry))) ≡ lex 0 at line (drop at (now (src .entry)))) × (at ≤ r .at) × (r .at ≤ length (now (src .entry))) ⌝ }
 {
@@ -68,7 +69,22 @@ pub fn skip_ascii(src: &[u8], at: usize, line: bool) -> Place
     Place { at: i, line: l }
 }
 
-// The same past white space of any length: longer characters one by one, and runs of one byte each between them.
+fn one_if(c: bool) -> usize
+    ensures { λ r. ⌜ r ≡ pick c 1 0 ⌝ }
+{
+    if c { 1 } else { 0 }
+}
+
+// Past the one space that most tokens have after them. No branch: whether it is there cannot be foretold.
+pub fn skip_space(src: &[u8], at: usize) -> usize
+    requires { ⌜ at ≤ length (now src) ⌝ }
+    ensures { λ r. ⌜ (lex 0 r false (drop r (now (src .entry))) ≡ lex 0 at false (drop at (now (src .entry)))) × (at ≤ r) × (r ≤ length (now (src .entry))) ⌝ }
+{
+    let b = refal_text::byte(src, at);
+    at + one_if(b == 32)
+}
+
+// Past white space of any length, with the contract of `skip_ascii`: longer characters one by one, and runs of one byte each between them.
 fn skip_white(src: &[u8], at: usize, line: bool) -> Place
     requires { ⌜ at ≤ length (now src) ⌝ }
     ensures { λ r. ⌜ (lex 0 (r .at) (r .line) (drop (r .at) (now (src .entry))) ≡ lex 0 at line (drop at (now (src .entry)))) × (at ≤ r .at) × (r .at ≤ length (now (src .entry))) ⌝ }

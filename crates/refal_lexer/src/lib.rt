@@ -109,9 +109,8 @@ fn lex_by(src: &[u8], rows: &mut [u32], table: &[u8]) -> Answer
                 } = name {
                     put_token(rows, n, kind, detail, start, len, at, end);
                     n += 1;
-                    let p = blank::skip_ascii(src, end, false);
-                    at = p.at;
-                    line = p.line;
+                    at = blank::skip_space(src, end);
+                    line = false;
                     continue;
                 }
             }
@@ -126,9 +125,8 @@ fn lex_by(src: &[u8], rows: &mut [u32], table: &[u8]) -> Answer
                 } = variable {
                     put_token(rows, n, kind, detail, start, len, at, end);
                     n += 1;
-                    let p = blank::skip_ascii(src, end, false);
-                    at = p.at;
-                    line = p.line;
+                    at = blank::skip_space(src, end);
+                    line = false;
                     continue;
                 }
             }
@@ -136,9 +134,8 @@ fn lex_by(src: &[u8], rows: &mut [u32], table: &[u8]) -> Answer
                 let literal = literal::literal_at(src, at, b);
                 if let Scan::Literal { end } = literal {
                     n = literal::put_chars(src, at, end, b, rows, n);
-                    let p = blank::skip_ascii(src, end, false);
-                    at = p.at;
-                    line = p.line;
+                    at = blank::skip_space(src, end);
+                    line = false;
                     continue;
                 }
             }
@@ -160,9 +157,8 @@ fn lex_by(src: &[u8], rows: &mut [u32], table: &[u8]) -> Answer
             } => {
                 put_token(rows, n, kind, detail, start, len, at, end);
                 n += 1;
-                let p = blank::skip_ascii(src, end, false);
-                at = p.at;
-                line = p.line;
+                at = blank::skip_space(src, end);
+                line = false;
             }
             Scan::Literal { end } => {
                 let q = src[at];

@@ -16,8 +16,8 @@ use Rattle.refal_lexer.proofs.lex_by.Statement.{statement}
 use Rattle.refal_lexer.proofs.lex_by.Tie as tie
 use Rattle.refal_lexer.proofs.lex_by.Reads as reads
 use Rattle.refal_lexer.proofs.lex_by.Lts as lts
-use Rattle.refal_lexer.proofs.blank.skip_ascii.Reads as skip-ascii-reads
 use Rattle.refal_lexer.proofs.blank.skip_blank.Reads as skip-blank-reads
+use Rattle.refal_lexer.proofs.blank.skip_space.Reads as skip-space-reads
 use Rattle.refal_lexer.proofs.class.class_of.Reads as class-of-reads
 use Rattle.refal_lexer.proofs.dispatch.scan_at.Reads as scan-at-reads
 use Rattle.refal_lexer.proofs.literal.literal_at.Reads as literal-at-reads
@@ -62,18 +62,18 @@ put-token-requires c κs = let w = in-is _ _ _ _ (c .before .before .name .given
 add-n : tie.Need-add-n Inv-loop μ-loop
 add-n c = search needs
 
--- src/lib.rt:112:25
-skip-ascii-requires : tie.Need-skip-ascii-requires Inv-loop μ-loop
-skip-ascii-requires c κs = let w = in-is _ _ _ _ (c .before .before .before .before .before .name .given .1) (c .before .before .before .before .before .before .before .name-at .ensures .1) in w .1
+-- src/lib.rt:112:21
+skip-space-requires : tie.Need-skip-space-requires Inv-loop μ-loop
+skip-space-requires c κs = let w = in-is _ _ _ _ (c .before .before .before .before .before .name .given .1) (c .before .before .before .before .before .before .before .name-at .ensures .1) in w .1
 
 -- src/lib.rt:97:5
 loop-less : tie.Need-loop-less Inv-loop μ-loop
-loop-less c = let w = in-is _ _ _ _ (c .before .before .before .before .before .before .name .given .1) (c .before .before .before .before .before .before .before .before .name-at .ensures .1) in let p = c .skip-ascii .ensures .1 in omega arith
+loop-less c = let w = in-is _ _ _ _ (c .before .before .before .before .before .before .name .given .1) (c .before .before .before .before .before .before .before .before .name-at .ensures .1) in let p = c .skip-space .ensures .1 in omega arith
 
 -- src/lib.rt:97:5
 loop-again : tie.Need-loop-again Inv-loop μ-loop
 loop-again c = let w = in-is _ _ _ _ (c .before .before .before .before .before .before .name .given .1) (c .before .before .before .before .before .before .before .before .name-at .ensures .1) in
-    let p = c .skip-ascii .ensures .1 in
+    let p = c .skip-space .ensures .1 in
     let t = lex-token _ _ _ (c .before .before .before .before .before .before .before .before .before .before .before .before .loop-test .taken) _ _ _ _ _
     (sym (c .before .before .before .before .before .before .before .before .name-at .ensures .0
     ∙ scan-class (c .before .before .before .before .before .before .before .before .before .before .before .before .before .before .before .before .before .args .src .now) (c .before .before .before .before .before .before .before .before .before .before .before .before .before .loop .at)
@@ -82,41 +82,41 @@ loop-again c = let w = in-is _ _ _ _ (c .before .before .before .before .before 
     (c .before .before .before .before .before .before .before .before .before .before .class-of .ensures) (c .before .before .before .before .before .before .before .before .before .match .keys1))
     ∙ c .before .before .before .before .before .before .name .given .1)
     (w .0) (w .1) in (
-      c .skip-ascii .ensures .2,
+      c .skip-space .ensures .2,
       omega arith,
       c .before .before .before .put-token .kept .0 ∙ c .before .before .before .before .before .before .before .before .before .before .before .before .before .loop .inv .2,
-      leads-on _ _ _ _ _ _ (sym (c .skip-ascii .ensures .0))
+      leads-on _ _ _ _ _ _ (sym (c .skip-space .ensures .0))
           (leads-row _ _ _ _ _ _ _ _ t (c .before .before .before .put-token .ensures) (c .before .before .before .before .before .before .before .before .before .before .before .before .before .loop .inv .3)),
     )
 
--- src/lib.rt:119:21
+-- src/lib.rt:118:21
 variable-at-requires : tie.Need-variable-at-requires Inv-loop μ-loop
 variable-at-requires c κs = search needs
 
--- src/lib.rt:121:21
+-- src/lib.rt:120:21
 enum-known-variable : tie.Need-enum-known-variable Inv-loop μ-loop
 enum-known-variable c = search needs
 
--- src/lib.rt:127:21
+-- src/lib.rt:126:21
 put-token-requires-2 : tie.Need-put-token-requires-2 Inv-loop μ-loop
 put-token-requires-2 c κs = let w = in-is _ _ _ _ (c .before .before .variable .given .1) (c .before .before .before .before .variable-at .ensures .1) in (omega arith, omega arith, omega arith, omega arith, omega arith)
 
--- src/lib.rt:128:21
+-- src/lib.rt:127:21
 add-n-2 : tie.Need-add-n-2 Inv-loop μ-loop
 add-n-2 c = search needs
 
--- src/lib.rt:129:25
-skip-ascii-requires-2 : tie.Need-skip-ascii-requires-2 Inv-loop μ-loop
-skip-ascii-requires-2 c κs = let w = in-is _ _ _ _ (c .before .before .before .before .before .variable .given .1) (c .before .before .before .before .before .before .before .variable-at .ensures .1) in w .1
+-- src/lib.rt:128:21
+skip-space-requires-2 : tie.Need-skip-space-requires-2 Inv-loop μ-loop
+skip-space-requires-2 c κs = let w = in-is _ _ _ _ (c .before .before .before .before .before .variable .given .1) (c .before .before .before .before .before .before .before .variable-at .ensures .1) in w .1
 
 -- src/lib.rt:97:5
 loop-less-2 : tie.Need-loop-less-2 Inv-loop μ-loop
-loop-less-2 c = let w = in-is _ _ _ _ (c .before .before .before .before .before .before .variable .given .1) (c .before .before .before .before .before .before .before .before .variable-at .ensures .1) in let p = c .skip-ascii2 .ensures .1 in omega arith
+loop-less-2 c = let w = in-is _ _ _ _ (c .before .before .before .before .before .before .variable .given .1) (c .before .before .before .before .before .before .before .before .variable-at .ensures .1) in let p = c .skip-space2 .ensures .1 in omega arith
 
 -- src/lib.rt:97:5
 loop-again-2 : tie.Need-loop-again-2 Inv-loop μ-loop
 loop-again-2 c = let w = in-is _ _ _ _ (c .before .before .before .before .before .before .variable .given .1) (c .before .before .before .before .before .before .before .before .variable-at .ensures .1) in
-    let p = c .skip-ascii2 .ensures .1 in
+    let p = c .skip-space2 .ensures .1 in
     let t = lex-token _ _ _ (c .before .before .before .before .before .before .before .before .before .before .before .before .loop-test .taken) _ _ _ _ _
     (sym (c .before .before .before .before .before .before .before .before .variable-at .ensures .0
     ∙ scan-class (c .before .before .before .before .before .before .before .before .before .before .before .before .before .before .before .before .before .args .src .now) (c .before .before .before .before .before .before .before .before .before .before .before .before .before .loop .at)
@@ -125,32 +125,32 @@ loop-again-2 c = let w = in-is _ _ _ _ (c .before .before .before .before .befor
     (c .before .before .before .before .before .before .before .before .before .before .class-of .ensures) (c .before .before .before .before .before .before .before .before .before .match .keys2))
     ∙ c .before .before .before .before .before .before .variable .given .1)
     (w .0) (w .1) in (
-      c .skip-ascii2 .ensures .2,
+      c .skip-space2 .ensures .2,
       omega arith,
       c .before .before .before .put-token2 .kept .0 ∙ c .before .before .before .before .before .before .before .before .before .before .before .before .before .loop .inv .2,
-      leads-on _ _ _ _ _ _ (sym (c .skip-ascii2 .ensures .0))
+      leads-on _ _ _ _ _ _ (sym (c .skip-space2 .ensures .0))
           (leads-row _ _ _ _ _ _ _ _ t (c .before .before .before .put-token2 .ensures) (c .before .before .before .before .before .before .before .before .before .before .before .before .before .loop .inv .3)),
     )
 
--- src/lib.rt:136:21
+-- src/lib.rt:134:21
 literal-at-requires : tie.Need-literal-at-requires Inv-loop μ-loop
 literal-at-requires c κs = (c .before .before .before .loop-test .taken, class-quote (getD (c .before .before .before .before .before .before .before .before .args .src .now) (c .before .before .before .before .loop .at) 0) (sym (c .before .class-of .ensures) ∙ c .match .keys3))
 
--- src/lib.rt:137:40
+-- src/lib.rt:135:40
 enum-known-literal : tie.Need-enum-known-literal Inv-loop μ-loop
 enum-known-literal c = search needs
 
--- src/lib.rt:138:21
+-- src/lib.rt:136:21
 put-chars-requires : tie.Need-put-chars-requires Inv-loop μ-loop
 put-chars-requires c κs = let w = in-is _ _ _ _ (c .before .before .literal .given .1) (c .before .before .before .before .literal-at .ensures .1) in (w .0, w .1, omega arith, omega arith, class-quote (getD (c .before .before .before .before .before .before .before .before .before .before .before .before .before .args .src .now) (c .before .before .before .before .before .before .before .before .before .loop .at) 0) (sym (c .before .before .before .before .before .before .class-of .ensures) ∙ c .before .before .before .before .before .match .keys3))
 
--- src/lib.rt:139:25
-skip-ascii-requires-3 : tie.Need-skip-ascii-requires-3 Inv-loop μ-loop
-skip-ascii-requires-3 c κs = let w = in-is _ _ _ _ (c .before .before .before .before .before .literal .given .1) (c .before .before .before .before .before .before .before .literal-at .ensures .1) in w .1
+-- src/lib.rt:137:21
+skip-space-requires-3 : tie.Need-skip-space-requires-3 Inv-loop μ-loop
+skip-space-requires-3 c κs = let w = in-is _ _ _ _ (c .before .before .before .before .before .literal .given .1) (c .before .before .before .before .before .before .before .literal-at .ensures .1) in w .1
 
 -- src/lib.rt:97:5
 loop-less-3 : tie.Need-loop-less-3 Inv-loop μ-loop
-loop-less-3 c = let w = in-is _ _ _ _ (c .before .before .before .before .before .before .literal .given .1) (c .before .before .before .before .before .before .before .before .literal-at .ensures .1) in let p = c .skip-ascii3 .ensures .1 in omega arith
+loop-less-3 c = let w = in-is _ _ _ _ (c .before .before .before .before .before .before .literal .given .1) (c .before .before .before .before .before .before .before .before .literal-at .ensures .1) in let p = c .skip-space3 .ensures .1 in omega arith
 
 -- src/lib.rt:97:5
 loop-again-3 : tie.Need-loop-again-3 Inv-loop μ-loop
@@ -164,26 +164,26 @@ loop-again-3 c = let w = in-is _ _ _ _ (c .before .before .before .before .befor
     let f = literal-few _ _ _ _ (c .before .before .before .before .before .before .before .before .before .before .before .before .loop-test .taken) e in
     let g = c .before .before .before .before .before .before .before .before .before .before .before .before .before .loop in
     let end = c .before .before .before .before .before .before .literal .given .0 .0 in
-    let p = c .skip-ascii3 .ensures .1 in
+    let p = c .skip-space3 .ensures .1 in
     let s = c .before .before .before .before .before .before .before .before .before .before .before .before .before .before .before .before .before .args .src .now in
     let t = lex-literal _ _ _ (c .before .before .before .before .before .before .before .before .before .before .before .before .loop-test .taken) _ e (w .0) (w .1) in (
-      c .skip-ascii3 .ensures .2,
+      c .skip-space3 .ensures .2,
       omega (arith, c .before .before .before .put-chars .ensures .0),
       c .before .before .before .put-chars .kept .1 .1 .1 .1 .0 ∙ c .before .before .before .before .before .before .before .before .before .before .before .before .before .loop .inv .2,
-      leads-on _ _ _ _ _ _ (sym (c .skip-ascii3 .ensures .0))
+      leads-on _ _ _ _ _ _ (sym (c .skip-space3 .ensures .0))
           (leads-rows _ _ _ (charTokens (getD s (g .at) 0) (g .at) end 0 (drop (g .at + 1) s)) _ _ _ _ _ t
           (c .before .before .before .put-chars .ensures .1) (c .before .before .before .put-chars .ensures .0) (c .before .before .before .before .before .before .before .before .before .before .before .before .before .loop .inv .3)),
     )
 
--- src/lib.rt:147:13
+-- src/lib.rt:144:13
 scan-at-requires : tie.Need-scan-at-requires Inv-loop μ-loop
 scan-at-requires c κs = search needs
 
--- src/lib.rt:149:27
+-- src/lib.rt:146:27
 enum-known-s : tie.Need-enum-known-s Inv-loop μ-loop
 enum-known-s c = search needs
 
--- src/lib.rt:150:21
+-- src/lib.rt:147:21
 skip-blank-requires : tie.Need-skip-blank-requires Inv-loop μ-loop
 skip-blank-requires c κs = let w = in-is _ _ _ _ (c .before .s .given .1) (c .before .before .before .scan-at .ensures .1) in w .1
 
@@ -199,49 +199,49 @@ loop-again-4 c = let w = in-is _ _ _ _ (c .before .before .s .given .1) (c .befo
     (w .0) (w .1) in
     (c .skip-blank .ensures .2, omega arith, c .before .before .before .before .before .before .before .before .before .loop .inv .2, leads-on _ _ _ _ _ _ (e ∙ sym (c .skip-blank .ensures .0)) (c .before .before .before .before .before .before .before .before .before .loop .inv .3))
 
--- src/lib.rt:155:17
+-- src/lib.rt:152:17
 enum-known-s-2 : tie.Need-enum-known-s-2 Inv-loop μ-loop
 enum-known-s-2 c = search needs
 
--- src/lib.rt:161:17
+-- src/lib.rt:158:17
 put-token-requires-3 : tie.Need-put-token-requires-3 Inv-loop μ-loop
 put-token-requires-3 c κs = let w = in-is _ _ _ _ (c .before .before .s2 .given .1) (c .before .before .before .before .scan-at .ensures .1) in (omega arith, omega arith, omega arith, omega arith, omega arith)
 
--- src/lib.rt:162:17
+-- src/lib.rt:159:17
 add-n-3 : tie.Need-add-n-3 Inv-loop μ-loop
 add-n-3 c = search needs
 
--- src/lib.rt:163:21
-skip-ascii-requires-4 : tie.Need-skip-ascii-requires-4 Inv-loop μ-loop
-skip-ascii-requires-4 c κs = let w = in-is _ _ _ _ (c .before .before .before .before .before .s2 .given .1) (c .before .before .before .before .before .before .before .scan-at .ensures .1) in w .1
+-- src/lib.rt:160:17
+skip-space-requires-4 : tie.Need-skip-space-requires-4 Inv-loop μ-loop
+skip-space-requires-4 c κs = let w = in-is _ _ _ _ (c .before .before .before .before .before .s2 .given .1) (c .before .before .before .before .before .before .before .scan-at .ensures .1) in w .1
 
 -- src/lib.rt:97:5
 loop-less-5 : tie.Need-loop-less-5 Inv-loop μ-loop
-loop-less-5 c = let w = in-is _ _ _ _ (c .before .before .before .before .before .before .s2 .given .1) (c .before .before .before .before .before .before .before .before .scan-at .ensures .1) in let p = c .skip-ascii4 .ensures .1 in omega arith
+loop-less-5 c = let w = in-is _ _ _ _ (c .before .before .before .before .before .before .s2 .given .1) (c .before .before .before .before .before .before .before .before .scan-at .ensures .1) in let p = c .skip-space4 .ensures .1 in omega arith
 
 -- src/lib.rt:97:5
 loop-again-5 : tie.Need-loop-again-5 Inv-loop μ-loop
 loop-again-5 c = let w = in-is _ _ _ _ (c .before .before .before .before .before .before .s2 .given .1) (c .before .before .before .before .before .before .before .before .scan-at .ensures .1) in
-    let p = c .skip-ascii4 .ensures .1 in
+    let p = c .skip-space4 .ensures .1 in
     let t = lex-token _ _ _ (c .before .before .before .before .before .before .before .before .before .before .before .before .loop-test .taken) _ _ _ _ _
     (sym (c .before .before .before .before .before .before .before .before .scan-at .ensures .0) ∙ c .before .before .before .before .before .before .s2 .given .1)
     (w .0) (w .1) in (
-      c .skip-ascii4 .ensures .2,
+      c .skip-space4 .ensures .2,
       omega arith,
       c .before .before .before .put-token3 .kept .0 ∙ c .before .before .before .before .before .before .before .before .before .before .before .before .before .loop .inv .2,
-      leads-on _ _ _ _ _ _ (sym (c .skip-ascii4 .ensures .0))
+      leads-on _ _ _ _ _ _ (sym (c .skip-space4 .ensures .0))
           (leads-row _ _ _ _ _ _ _ _ t (c .before .before .before .put-token3 .ensures) (c .before .before .before .before .before .before .before .before .before .before .before .before .before .loop .inv .3)),
     )
 
--- src/lib.rt:167:29
+-- src/lib.rt:163:29
 enum-known-s-3 : tie.Need-enum-known-s-3 Inv-loop μ-loop
 enum-known-s-3 c = search needs
 
--- src/lib.rt:168:25
+-- src/lib.rt:164:25
 shared-slice-read-q : tie.Need-shared-slice-read-q Inv-loop μ-loop
 shared-slice-read-q c = search needs
 
--- src/lib.rt:169:17
+-- src/lib.rt:165:17
 put-chars-requires-2 : tie.Need-put-chars-requires-2 Inv-loop μ-loop
 put-chars-requires-2 c κs = let w = in-is _ _ _ _ (c .before .before .before .s3 .given .1) (c .before .before .before .before .before .scan-at .ensures .1) in (w .0, w .1, omega arith, omega arith, literal-quote _ _ _ _ (c .before .before .before .before .before .before .before .before .before .loop-test .taken) (sym (c .before .before .before .before .before .scan-at .ensures .0) ∙ c .before .before .before .s3 .given .1))
 
@@ -265,35 +265,35 @@ loop-again-6 c = let w = in-is _ _ _ _ (c .before .before .before .before .befor
           (c .before .before .put-chars2 .ensures .1) (c .before .before .put-chars2 .ensures .0) (c .before .before .before .before .before .before .before .before .before .before .before .before .before .loop .inv .3),
     )
 
--- src/lib.rt:173:25
+-- src/lib.rt:169:25
 enum-known-s-4 : tie.Need-enum-known-s-4 Inv-loop μ-loop
 enum-known-s-4 c = search needs
 
--- src/lib.rt:174:17
+-- src/lib.rt:170:17
 refused-requires : tie.Need-refused-requires Inv-loop μ-loop
 refused-requires c κs = search needs
 
--- src/lib.rt:174:17
+-- src/lib.rt:170:17
 same-length : tie.Need-same-length Inv-loop μ-loop
 same-length c = search needs
 
--- src/lib.rt:174:17
+-- src/lib.rt:170:17
 returns : tie.Need-returns Inv-loop μ-loop
 returns c = leads-bad _ _ _ _ _ _ _ _ _ (c .refused .ensures) (lex-bad _ _ _ (c .before .before .before .before .before .before .before .before .loop-test .taken) _ _ (sym (c .before .before .before .before .scan-at .ensures .0) ∙ c .before .before .s4 .given .1)) (c .before .before .before .before .before .before .before .before .before .loop .inv .3)
 
--- src/lib.rt:178:44
+-- src/lib.rt:174:44
 cast-put6 : tie.Need-cast-put6 Inv-loop μ-loop
 cast-put6 c = search needs
 
--- src/lib.rt:178:55
+-- src/lib.rt:174:55
 cast-put6-2 : tie.Need-cast-put6-2 Inv-loop μ-loop
 cast-put6-2 c = search needs
 
--- src/lib.rt:178:5
+-- src/lib.rt:174:5
 put6-requires : tie.Need-put6-requires Inv-loop μ-loop
 put6-requires c κs = search needs
 
--- src/lib.rt:179:17
+-- src/lib.rt:175:17
 add-count : tie.Need-add-count Inv-loop μ-loop
 add-count c = search needs
 
@@ -318,20 +318,20 @@ lex-by-spec =
     enum-known-name
     put-token-requires
     add-n
-    skip-ascii-requires
+    skip-space-requires
     loop-less
     loop-again
     variable-at-requires
     enum-known-variable
     put-token-requires-2
     add-n-2
-    skip-ascii-requires-2
+    skip-space-requires-2
     loop-less-2
     loop-again-2
     literal-at-requires
     enum-known-literal
     put-chars-requires
-    skip-ascii-requires-3
+    skip-space-requires-3
     loop-less-3
     loop-again-3
     scan-at-requires
@@ -342,7 +342,7 @@ lex-by-spec =
     enum-known-s-2
     put-token-requires-3
     add-n-3
-    skip-ascii-requires-4
+    skip-space-requires-4
     loop-less-5
     loop-again-5
     enum-known-s-3
