@@ -15,7 +15,7 @@ fn spanless(k: u32) -> bool
 }
 
 // s, t, e
-fn letter(d: u32) -> bool
+pub fn letter(d: u32) -> bool
     ensures { λ r. ⌜ r ≡ isLetter d ⌝ }
 {
     ((d == 115) | (d == 116)) | (d == 101)

@@ -1,5 +1,6 @@
 // Trees of rows: whether words are the rows of a lawful tree.
 mod fields;
+mod leaves;
 pub mod states;
 
 ghost use mathlib.Core.Path.{_≡_};
@@ -81,14 +82,18 @@ fn row_ok(tree: &[u32], i: usize, st: u32, left: usize) -> bool
 }
 
 // Whether the rows from .. to are children that keep the rules, from the state `start` on: each row, and below it the
-// same check of its children.
+// same check of its children. Leaves among terms, which have none, are passed over in runs.
 fn check(tree: &[u32], from: usize, to: usize, start: u32, left: usize) -> bool
     requires { ⌜ (from ≤ to) × (7 * to ≤ length (now tree)) × (left + (to - from) ≤ 4294967296) ⌝ }
     ensures { λ r. ⌜ r ≡ okAt (now (tree .entry)) from to start left ⌝ }
 {
-    let mut i = from;
+    let mut at = from;
     let mut st = start;
-    while i < to {
+    while at < to {
+        let i = leaves::passed(tree, at, to, st);
+        if i == to {
+            return states::ends(st);
+        }
         let end = next(tree, i);
         if end <= i {
             return false;
@@ -105,7 +110,7 @@ fn check(tree: &[u32], from: usize, to: usize, start: u32, left: usize) -> bool
             return false;
         }
         st = states::after(st, k);
-        i = end;
+        at = end;
     }
     states::ends(st)
 }

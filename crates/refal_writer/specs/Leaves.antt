@@ -14,26 +14,11 @@ use Rattle.refal_tree.specs.States.{wrong, closed, pick, inside, after, below, 
 use Rattle.refal_tree.specs.Rules.{fieldsOk, rowOk}
 use Rattle.refal_tree.specs.Forest.{Row}
 use Rattle.refal_tree.specs.Ranges.{rowAt, kindAt, nextAt, okAt}
+use Rattle.refal_tree.specs.Leaves.{LeafKind, leaf9, leaf10, leaf11, leaf12, leaf-kind, leaf-inside}
 use Rattle.refal_tree.specs.FlattenRows.{opening, closing}
 use Rattle.refal_tree.specs.Walk.{flatAt, Step, step, flat-step, flat-end}
 use Rattle.refal_writer.specs.Token.{textOf, text-of-append}
 use Rattle.refal_writer.specs.Walk.{Walks}
-
--- the kinds of leaves: Identifier, Number, Char, Variable
-data LeafKind : ℕ → Type 0 where
-  leaf9 : LeafKind 9
-  leaf10 : LeafKind 10
-  leaf11 : LeafKind 11
-  leaf12 : LeafKind 12
-
-leaf-kind : (k : ℕ) → 9 ≤ k → k ≤ 12 → LeafKind k
-leaf-kind k l h = go (decLe k 9) (decLe k 10) (decLe k 11)
-  where
-    go : Dec (k ≤ 9) → Dec (k ≤ 10) → Dec (k ≤ 11) → LeafKind k
-    go (yes a) b c = let e : 9 ≡ k = omega arith in subst LeafKind e leaf9
-    go (no a) (yes b) c = let e : 10 ≡ k = omega arith in subst LeafKind e leaf10
-    go (no a) (no b) (yes c) = let e : 11 ≡ k = omega arith in subst LeafKind e leaf11
-    go (no a) (no b) (no c) = let e : 12 ≡ k = omega arith in subst LeafKind e leaf12
 
 row-fits : (st left : ℕ) (r : Row) → rowOk st left r ≡ true → fits st (r .kind) ≡ true
 row-fits st left r h =
@@ -59,12 +44,6 @@ leaf-after st _ leaf9 h = terms-state st h
 leaf-after st _ leaf10 h = terms-state st h
 leaf-after st _ leaf11 h = terms-state st h
 leaf-after st _ leaf12 h = terms-state st h
-
-leaf-inside : (k : ℕ) → LeafKind k → inside k ≡ closed
-leaf-inside _ leaf9 = refl
-leaf-inside _ leaf10 = refl
-leaf-inside _ leaf11 = refl
-leaf-inside _ leaf12 = refl
 
 leaf-closing : (st k : ℕ) → LeafKind k → closing st k ≡ []
 leaf-closing st _ leaf9 = refl

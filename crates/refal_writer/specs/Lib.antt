@@ -1,5 +1,6 @@
 -- Definitions: Spellings (the test for refusal 41), Write (what `write` answers and leaves).
--- Laws of writers of bytes: Puts. Of tokens: Token, TextPuts. Of the walk over rows: Walk, Leaves. Of words and rows: WordLaws, SpellingLaws. Of `write`: WriteLaws.
+-- Laws of writers of bytes: Puts. Of tokens: Token, TextPuts. Of the walk over rows: Walk, Leaves. Of words and rows: WordLaws,
+-- SpellingLaws, SpelledRows (along the walk), Windows (sixteen bytes at a time). Of `write`: WriteLaws.
 pub mod Kinds
 pub mod Spellings
 pub mod Write
@@ -11,3 +12,5 @@ pub mod Leaves
 pub mod WordLaws
 pub mod SpellingLaws
 pub mod WriteLaws
+pub mod Windows
+pub mod SpelledRows

@@ -17,6 +17,7 @@ use Rattle.refal_tree.specs.States.{atItems}
 use Rattle.refal_tree.specs.Lawful.{treeOf, found, mostRows, mostLevels, lawful}
 use Rattle.refal_tree.specs.Walk.{flatAt, ok-tree-rows, flat-tree-rows}
 use Rattle.refal_writer.specs.Spellings.{allSpelled}
+use Rattle.refal_writer.specs.SpelledRows.{spelledRows, spelled-all}
 use Rattle.refal_writer.specs.Write.{written, treeText, refuse, writeAnswer, writeBytes, left}
 use Rattle.refal_writer.specs.Puts.{Puts}
 use Rattle.refal_writer.specs.Token.{textOf}
@@ -56,6 +57,10 @@ module _ (w src : List ℕ) (h : lawful w ≡ true) where
   pub written-is : textOf src (flatAt w 0 (length w / 7) atItems) ≡ written w src
   unfolding written
   written-is = let k = known w h in ap (textOf src) (flat-tree-rows mostLevels w (k .tree) (length w / 7) (k .is) (k .whole)) ∙ sym (ap (treeText src) (k .is))
+
+  -- the test of all rows, as the walk makes it
+  pub all-spelled : spelledRows src w 0 (length w / 7) ≡ allSpelled src w
+  all-spelled = spelled-all src w (length w / 7) (known w h .whole)
 
 -- ---- the ways out
 pub record Answers (a : Answer) (w src old new : List ℕ) : Type 0 where

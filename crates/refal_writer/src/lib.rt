@@ -1,9 +1,11 @@
 // Writing: from the rows of a tree and its source to a text that reads back the same.
 mod bytes;
+mod leaf;
 mod opening;
 mod spelling;
 mod token;
 mod walk;
+mod window;
 mod words;
 
 use refal_ast::Answer;
@@ -35,13 +37,14 @@ pub fn write(tree: &[u32], src: &[u8], out: &mut [u8]) -> Answer
         refal_rows::clear_bytes(out);
         return refused(40, 0);
     }
-    if !spelling::spellings(tree, src) {
+    let room = out.len();
+    let rows = tree.len() / 7;
+    let all = walk::write_rows(tree, src, 0, rows, 1, out);
+    if !all.good {
         refal_rows::clear_bytes(out);
         return refused(41, 0);
     }
-    let room = out.len();
-    let rows = tree.len() / 7;
-    let n = walk::write_rows(tree, src, 0, rows, 1, out);
+    let n = all.len;
     let fits = (n <= room) & (n <= 16777216);
     if fits {
         return Answer::Done(n);

@@ -1,4 +1,4 @@
-// The test for refusal 41: every text of a row stands in the source and is a spelling that reading gives for the row's kind;
+// The test for refusal 41 on a row: its text stands in the source and is a spelling that reading gives for the row's kind;
 // a Char is no newline, and a scalar value.
 use crate::words::is_identifier;
 use crate::words::is_index;
@@ -7,10 +7,10 @@ ghost use mathlib.Core.Path.{_≡_};
 ghost use Prim.Native.Nat.{_+_, _≤_};
 ghost use lib.ListN.{length};
 ghost use Rattle.refal_tree.specs.Rules.{usesText};
-ghost use Rattle.refal_writer.specs.Spellings.{charOk, textSpelled, rowSpelled, allSpelled};
+ghost use Rattle.refal_writer.specs.Spellings.{charOk, textSpelled, rowSpelled};
 
 // Neither newline nor outside the scalar values.
-fn is_char(x: u32) -> bool
+pub fn is_char(x: u32) -> bool
     ensures { λ r. ⌜ r ≡ charOk x ⌝ }
 {
     (!(x == 10)) & ((x <= 1114111) & !((55296 <= x) & (x <= 57343)))
@@ -40,7 +40,7 @@ fn text_spelled(src: &[u8], kind: u32, start: u32, len: u32) -> bool
     is_identifier(&src[from..end])
 }
 
-fn row_spelled(src: &[u8], kind: u32, detail: u32, start: u32, len: u32) -> bool
+pub fn row_spelled(src: &[u8], kind: u32, detail: u32, start: u32, len: u32) -> bool
     ensures { λ r. ⌜ r ≡ rowSpelled (now (src .entry)) kind detail start len ⌝ }
 {
     if kind == 11 {
@@ -48,22 +48,6 @@ fn row_spelled(src: &[u8], kind: u32, detail: u32, start: u32, len: u32) -> bool
     }
     if uses_text(kind) {
         return text_spelled(src, kind, start, len);
-    }
-    true
-}
-
-// Every row of the tree.
-pub fn spellings(tree: &[u32], src: &[u8]) -> bool
-    ensures { λ r. ⌜ r ≡ allSpelled (now (src .entry)) (now (tree .entry)) ⌝ }
-{
-    let rows = tree.len() / 7;
-    let mut i = 0;
-    while i < rows {
-        let at = 7 * i;
-        if !row_spelled(src, tree[at], tree[at + 1], tree[at + 2], tree[at + 3]) {
-            return false;
-        }
-        i += 1;
     }
     true
 }

@@ -99,9 +99,13 @@ fn put_code(x: u32, out: &mut [u8]) -> usize
 }
 
 // A character in apostrophes, and a space.
-fn write_char(x: u32, out: &mut [u8]) -> usize
+pub fn write_char(x: u32, out: &mut [u8]) -> usize
     ensures { λ r. ⌜ Puts (quoted x ++ 32 ∷ []) r (now (out .entry)) (now (out .exit)) × (r ≤ 8) ⌝ }
 {
+    let plain = (x < 128) & !(x == 39);
+    if plain {
+        return put4(39, x as u8, 39, 32, out);
+    }
     let a = put1(39, out);
     let f = least(a, out.len());
     let b = put_code(x, &mut out[f..]);

@@ -1,6 +1,7 @@
 // The walk over the rows of a tree: for each row what stands before its children, the children, what stands after them.
+use crate::leaf::Put;
+use crate::leaf::open;
 use crate::opening::write_closing;
-use crate::opening::write_opening;
 use refal_rows::least;
 use refal_tree::states::after;
 use refal_tree::states::inside;
@@ -13,6 +14,7 @@ ghost use Rattle.refal_writer.specs.Puts.{Puts};
 ghost use Rattle.refal_writer.specs.Token.{textOf};
 ghost use Rattle.refal_tree.specs.Walk.{flatAt};
 ghost use Rattle.refal_writer.specs.Walk.{Standing, Walks};
+ghost use Rattle.refal_writer.specs.SpelledRows.{spelledRow, spelledRows};
 
 fn wide(x: u32) -> usize
     ensures { λ r. ⌜ r ≡ x ⌝ }
@@ -38,12 +40,12 @@ fn kind(tree: &[u32], i: usize) -> u32
 }
 
 // What stands before the children of row i.
-fn open_row(tree: &[u32], src: &[u8], i: usize, st: u32, out: &mut [u8]) -> usize
+fn open_row(tree: &[u32], src: &[u8], i: usize, st: u32, out: &mut [u8]) -> Put
     requires { ⌜ (7 * i + 6 < length (now tree)) × Standing (getD (now tree) (7 * i) 0) (getD (now tree) (7 * i + 1) 0) ⌝ }
-    ensures { λ r. ⌜ Puts (textOf (now (src .entry)) (opening st (rowAt (now (tree .entry)) i))) r (now (out .entry)) (now (out .exit)) × (r ≤ 8589934710) ⌝ }
+    ensures { λ r. ⌜ Puts (textOf (now (src .entry)) (opening st (rowAt (now (tree .entry)) i))) (r .len) (now (out .entry)) (now (out .exit)) × (r .len ≤ 8589934710) × (r .good ≡ spelledRow (now (src .entry)) (now (tree .entry)) i) ⌝ }
 {
     let at = 7 * i;
-    write_opening(
+    open(
         src,
         st,
         tree[at],
@@ -54,8 +56,8 @@ fn open_row(tree: &[u32], src: &[u8], i: usize, st: u32, out: &mut [u8]) -> usiz
     )
 }
 
-// The rows from .. to, the first of which stands in the state `start`. A leaf is written whole before its children, of which
-// it has none.
+// The rows from .. to, the first of which stands in the state `start`: their text, and whether all are spelled as reading
+// gives it. A leaf is written whole before its children, of which it has none.
 pub fn write_rows(
     tree: &[u32],
     src: &[u8],
@@ -63,28 +65,32 @@ pub fn write_rows(
     to: usize,
     start: u32,
     out: &mut [u8],
-) -> usize
+) -> Put
     requires { ⌜ (from ≤ to) × (7 * to ≤ length (now tree)) × (to ≤ 33554432) × Walks (now tree) from to start ⌝ }
-    ensures { λ r. ⌜ Puts (textOf (now (src .entry)) (flatAt (now (tree .entry)) from to start)) r (now (out .entry)) (now (out .exit)) × (r + from * 17179869184 ≤ to * 17179869184) ⌝ }
+    ensures { λ r. ⌜ Puts (textOf (now (src .entry)) (flatAt (now (tree .entry)) from to start)) (r .len) (now (out .entry)) (now (out .exit)) × (r .len + from * 17179869184 ≤ to * 17179869184) × (r .good ≡ spelledRows (now (src .entry)) (now (tree .entry)) from to) ⌝ }
 {
     let mut i = from;
     let mut st = start;
     let mut at = 0;
+    let mut good = true;
     while i < to {
         let k = kind(tree, i);
         let first = i + 1;
         let p = least(at, out.len());
         let a = open_row(tree, src, i, st, &mut out[p..]);
-        let opened = at + a;
+        let opened = at + a.len;
+        let here = good & a.good;
         let leaf = (9 <= k) & (k <= 12);
         if leaf {
             at = opened;
+            good = here;
             i = first;
         } else {
             let end = next(tree, i);
             let q = least(opened, out.len());
             let b = write_rows(tree, src, first, end, inside(k), &mut out[q..]);
-            let filled = opened + b;
+            let filled = opened + b.len;
+            good = here & b.good;
             let s = least(filled, out.len());
             let c = write_closing(src, st, k, &mut out[s..]);
             at = filled + c;
@@ -92,5 +98,5 @@ pub fn write_rows(
             i = end;
         }
     }
-    at
+    Put { len: at, good }
 }

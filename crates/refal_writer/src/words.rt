@@ -9,7 +9,7 @@ ghost use Rattle.refal_lexer.specs.Numbers.{part, numberScan};
 ghost use Rattle.refal_lexer.specs.NumberLaws.{worth, digitStep};
 ghost use Rattle.refal_spelling.specs.Spells.{tokenTo, spells, spellsIndex};
 
-fn is_name_byte(b: u8) -> bool
+pub fn is_name_byte(b: u8) -> bool
     ensures { λ r. ⌜ r ≡ nameByte b ⌝ }
 {
     (((((65 <= b) & (b <= 90)) | ((97 <= b) & (b <= 122))) | ((48 <= b) & (b <= 57))) | (b == 95))
@@ -22,7 +22,7 @@ fn is_digit(b: u8) -> bool
     (48 <= b) & (b <= 57)
 }
 
-fn is_upper(b: u8) -> bool
+pub fn is_upper(b: u8) -> bool
     ensures { λ r. ⌜ r ≡ upper b ⌝ }
 {
     (65 <= b) & (b <= 90)

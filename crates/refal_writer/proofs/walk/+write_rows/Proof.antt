@@ -1,5 +1,6 @@
--- `refal_writer::walk::write_rows` meet their contracts, as one cycle of calls.
+-- `refal_writer::walk::write_rows` meets its contract, as a cycle of calls: the text poured so far with what is left is the whole, and so is the test for refusal 41.
 use Prim.Native.Nat.{ℕ, _+_, _*_, _-_, _≤_, _<_}
+use mathlib.Core.Bool.{Bool, _&&_}
 use mathlib.Core.List.{List}
 use mathlib.Core.Path.{_≡_, refl, subst, _∙_}
 use native.Mathlib.Omega.{arith}
@@ -9,6 +10,7 @@ use Rattle.refal_tree.specs.Walk.{flatAt}
 use Rattle.refal_writer.specs.Puts.{Pours, pours-start, pours-on, pours-end}
 use Rattle.refal_writer.specs.Token.{textOf}
 use Rattle.refal_writer.specs.Leaves.{leaf-rest, leaf-text}
+use Rattle.refal_writer.specs.SpelledRows.{spelledRows, spelled-leaf, spelled-turn, spelled-end}
 use Rattle.refal_writer.specs.Walk.{Walks, walk-low, walk-high, walk-row, walk-kids, walk-rest, turn-text, end-text, widest, leaf-small, filled-small, turn-small, rows-fall, left-falls}
 use borrow.Author.Needs.{needs}
 use Prim.Native.Nat.{ℕ, _<_}
@@ -39,10 +41,10 @@ write-rows-below t =
     and 3 write-rows-kinds.ps (falls 3 write-rows-kinds.ps _<_ μ-write-rows t) write-rows.Pre
 
 abbrev write-rows-Inv-loop : write-rows-lts.InvT-loop
-write-rows-Inv-loop tree src from to start out₀ i₀ st₀ at₀ out i st at = (from ≤ i) × (i ≤ to) × (length out ≡ length out₀) × (at + from * widest ≤ i * widest) × Walks tree i to st × Pours (textOf src (flatAt tree from to start)) (textOf src (flatAt tree i to st)) at out out₀
+write-rows-Inv-loop tree src from to start out₀ i₀ st₀ at₀ good₀ out i st at good = (from ≤ i) × (i ≤ to) × (length out ≡ length out₀) × (at + from * widest ≤ i * widest) × Walks tree i to st × Pours (textOf src (flatAt tree from to start)) (textOf src (flatAt tree i to st)) at out out₀ × (spelledRows src tree from to ≡ good && spelledRows src tree i to)
 
 abbrev write-rows-μ-loop : write-rows-lts.MeasureT-loop
-write-rows-μ-loop tree src from to start out₀ i₀ st₀ at₀ out i st at = to - i
+write-rows-μ-loop tree src from to start out₀ i₀ st₀ at₀ good₀ out i st at good = to - i
 
 write-rows-loop-holds : (t : ℕ) → write-rows-lts.Need-loop-holds (
   kind-reads.Asked,
@@ -62,7 +64,7 @@ write-rows-loop-holds : (t : ℕ) → write-rows-lts.Need-loop-holds (
   after-reads.Asked,
   after-reads.Learnt,
 ) (write-rows-at t) write-rows.Post write-rows-Inv-loop write-rows-μ-loop
-write-rows-loop-holds t c = (omega arith, c .before .before .before .pre .1 .0, refl, omega arith, c .before .before .before .pre .1 .3, pours-start _ _)
+write-rows-loop-holds t c = (omega arith, c .before .before .before .pre .1 .0, refl, omega arith, c .before .before .before .pre .1 .3, pours-start _ _, refl)
 
 write-rows-kind-requires : (t : ℕ) → write-rows-lts.Need-kind-requires (
   kind-reads.Asked,
@@ -246,10 +248,9 @@ write-rows-loop-less : (t : ℕ) → write-rows-lts.Need-loop-less (
   after-reads.Asked,
   after-reads.Learnt,
 ) (write-rows-at t) write-rows.Post write-rows-Inv-loop write-rows-μ-loop
-write-rows-loop-less t c = let a = c .before .before .before .before .before .before .before .before .before .before .before .before .args in
-    let g = c .before .before .before .before .before .before .before .before .loop in
-    let m : g .i < a .to = c .before .before .before .before .before .before .before .loop-test .taken in
-    let k = c .before .before .before .before .before .before .kind in
+write-rows-loop-less t c = let a = c .before .before .before .before .before .before .before .before .before .before .before .before .before .before .args in
+    let g = c .before .before .before .before .before .before .before .before .before .before .loop in
+    let m : g .i < a .to = c .before .before .before .before .before .before .before .before .before .loop-test .taken in
     omega arith
 
 write-rows-loop-again : (t : ℕ) → write-rows-lts.Need-loop-again (
@@ -270,16 +271,17 @@ write-rows-loop-again : (t : ℕ) → write-rows-lts.Need-loop-again (
   after-reads.Asked,
   after-reads.Learnt,
 ) (write-rows-at t) write-rows.Post write-rows-Inv-loop write-rows-μ-loop
-write-rows-loop-again t c = let a = c .before .before .before .before .before .before .before .before .before .before .before .before .args in
-    let g = c .before .before .before .before .before .before .before .before .loop in
-    let m : g .i < a .to = c .before .before .before .before .before .before .before .loop-test .taken in
-    let k = c .before .before .before .before .before .before .kind in
-    let o = c .before .before .before .open-row in
-    let rest = leaf-rest (a .tree .now) (g .i) (a .to) (g .st) (k .result) (k .ensures) (c .if1 .taken) (c .before .before .before .before .before .before .before .before .before .before .before .before .pre .1 .1) m (g .inv .4) in
+write-rows-loop-again t c = let a = c .before .before .before .before .before .before .before .before .before .before .before .before .before .before .args in
+    let g = c .before .before .before .before .before .before .before .before .before .before .loop in
+    let m : g .i < a .to = c .before .before .before .before .before .before .before .before .before .loop-test .taken in
+    let k = c .before .before .before .before .before .before .before .before .kind in
+    let o = c .before .before .before .before .before .open-row in
+    let rest = leaf-rest (a .tree .now) (g .i) (a .to) (g .st) (k .result) (k .ensures) (c .if1 .taken) (c .before .before .before .before .before .before .before .before .before .before .before .before .before .before .pre .1 .1) m (g .inv .4) in
     let T : List ℕ = textOf (a .src .now) (flatAt (a .tree .now) (a .from) (a .to) (a .start)) in
-    let p = subst (λ (r : List ℕ). Pours T r (g .at) (g .out) (a .out .now)) (leaf-text (a .tree .now) (g .i) (a .to) (g .st) (k .result) (k .ensures) (c .if1 .taken) (c .before .before .before .before .before .before .before .before .before .before .before .before .pre .1 .1) m (g .inv .4) (a .src .now)) (g .inv .5) in
-    let p1 = pours-on _ _ _ _ _ _ _ _ _ p (g .inv .2) (c .before .before .before .before .before .least .ensures) (o .ensures .0) in
-    (omega arith, omega arith, c .before .before .out .given .1 ∙ g .inv .2, leaf-small (a .from) (g .i) (g .at) (o .result) (g .inv .3) (o .ensures .1), rest, p1)
+    let p = subst (λ (r : List ℕ). Pours T r (g .at) (g .out) (a .out .now)) (leaf-text (a .tree .now) (g .i) (a .to) (g .st) (k .result) (k .ensures) (c .if1 .taken) (c .before .before .before .before .before .before .before .before .before .before .before .before .before .before .pre .1 .1) m (g .inv .4) (a .src .now)) (g .inv .5) in
+    let p1 = pours-on _ _ _ _ _ _ _ _ _ p (g .inv .2) (c .before .before .before .before .before .before .before .least .ensures) (o .ensures .0) in
+    let s = spelled-leaf (a .src .now) (a .tree .now) _ (g .good) (o .result .good) (g .i) (a .to) (g .inv .6) (o .ensures .2) m (c .before .before .before .before .before .before .before .before .before .before .before .before .before .before .pre .1 .1) in
+    (omega arith, omega arith, c .before .before .before .before .out .given .1 ∙ g .inv .2, leaf-small (a .from) (g .i) (g .at) (o .result .len) (g .inv .3) (o .ensures .1), rest, p1, s)
 
 write-rows-next-requires : (t : ℕ) → write-rows-lts.Need-next-requires (
   kind-reads.Asked,
@@ -419,17 +421,22 @@ write-rows-write-rows-requires : (t : ℕ) → write-rows-lts.Need-write-rows-re
   after-reads.Asked,
   after-reads.Learnt,
 ) (write-rows-at t) write-rows.Post write-rows-Inv-loop write-rows-μ-loop
-write-rows-write-rows-requires t c κs = let a = c .before .before .before .before .before .before .before .before .before .before .before .before .before .before .before .before .args in
-    let g = c .before .before .before .before .before .before .before .before .before .before .before .before .loop in
-    let m : g .i < a .to = c .before .before .before .before .before .before .before .before .before .before .before .loop-test .taken in
-    let k = c .before .before .before .before .before .before .before .before .before .before .kind in
+write-rows-write-rows-requires t c κs = let a = c .before .before .before .before .before .before .before .before .before .before .before .before .before .before .before .before .before .before .args in
+    let g = c .before .before .before .before .before .before .before .before .before .before .before .before .before .before .loop in
+    let m : g .i < a .to = c .before .before .before .before .before .before .before .before .before .before .before .before .before .loop-test .taken in
+    let k = c .before .before .before .before .before .before .before .before .before .before .before .before .kind in
     let x = c .before .before .before .next in
-    let lo = walk-low (a .tree .now) (g .i) (a .to) (g .st) (k .result) (x .result) (k .ensures) (x .ensures) (c .before .before .before .before .before .before .before .before .before .before .before .before .before .before .before .before .pre .1 .1) m (g .inv .4) in
-    let hi = walk-high (a .tree .now) (g .i) (a .to) (g .st) (k .result) (x .result) (k .ensures) (x .ensures) (c .before .before .before .before .before .before .before .before .before .before .before .before .before .before .before .before .pre .1 .1) m (g .inv .4) in
-    let s = walk-kids (a .tree .now) (g .i) (a .to) (g .st) (k .result) (x .result) (k .ensures) (x .ensures) (c .before .before .before .before .before .before .before .before .before .before .before .before .before .before .before .before .pre .1 .1) m (g .inv .4) (c .before .inside .result) (after (g .st) (k .result)) (c .before .inside .ensures) refl in
+    let lo = walk-low (a .tree .now) (g .i) (a .to) (g .st) (k .result) (x .result) (k .ensures) (x .ensures) (c .before .before .before .before .before .before .before .before .before .before .before .before .before .before .before .before .before .before .pre .1 .1) m (g .inv .4) in
+    let hi = walk-high (a .tree .now) (g .i) (a .to) (g .st) (k .result) (x .result) (k .ensures) (x .ensures) (c .before .before .before .before .before .before .before .before .before .before .before .before .before .before .before .before .before .before .pre .1 .1) m (g .inv .4) in
+    let s = walk-kids (a .tree .now) (g .i) (a .to) (g .st) (k .result) (x .result) (k .ensures) (x .ensures) (c .before .before .before .before .before .before .before .before .before .before .before .before .before .before .before .before .before .before .pre .1 .1) m (g .inv .4) (c .before .inside .result) (after (g .st) (k .result)) (c .before .inside .ensures) refl in
     let d : x .result - (g .i + 1) < a .to - a .from = rows-fall (a .from) (g .i) (x .result) (a .to) (g .inv .0) lo hi in
-    let e = c .before .before .before .before .before .before .before .before .before .before .before .before .before .before .before .before .pre .0 in
-    (omega arith, (omega arith, omega arith, omega arith, s))
+    let e = c .before .before .before .before .before .before .before .before .before .before .before .before .before .before .before .before .before .before .pre .0 in
+    let few : a .to ≤ 33554432 = c .before .before .before .before .before .before .before .before .before .before .before .before .before .before .before .before .before .before .pre .1 .2 in
+    let long : 7 * a .to ≤ length (a .tree .now) = c .before .before .before .before .before .before .before .before .before .before .before .before .before .before .before .before .before .before .pre .1 .1 in
+    let n1 : g .i + 1 ≤ x .result = omega (arith, lo) in
+    let n2 : 7 * x .result ≤ length (a .tree .now) = omega (arith, hi, long) in
+    let n3 : x .result ≤ 33554432 = omega (arith, hi, few) in
+    (omega arith, (n1, n2, n3, s))
 
 write-rows-add-filled : (t : ℕ) → write-rows-lts.Need-add-filled (
   kind-reads.Asked,
@@ -449,15 +456,15 @@ write-rows-add-filled : (t : ℕ) → write-rows-lts.Need-add-filled (
   after-reads.Asked,
   after-reads.Learnt,
 ) (write-rows-at t) write-rows.Post write-rows-Inv-loop write-rows-μ-loop
-write-rows-add-filled t c = let a = c .before .before .before .before .before .before .before .before .before .before .before .before .before .before .before .before .before .before .before .args in
-    let g = c .before .before .before .before .before .before .before .before .before .before .before .before .before .before .before .loop in
-    let m : g .i < a .to = c .before .before .before .before .before .before .before .before .before .before .before .before .before .before .loop-test .taken in
-    let k = c .before .before .before .before .before .before .before .before .before .before .before .before .before .kind in
-    let x = c .before .before .before .before .before .before .next in
-    let o = c .before .before .before .before .before .before .before .before .before .before .open-row in
-    let r = c .before .before .write-rows in
-    let f = filled-small (a .from) (g .i) (x .result) (a .to) (g .at) (o .result) (r .result) (g .inv .3) (o .ensures .1) (r .ensures .1) (walk-high (a .tree .now) (g .i) (a .to) (g .st) (k .result) (x .result) (k .ensures) (x .ensures)
-    (c .before .before .before .before .before .before .before .before .before .before .before .before .before .before .before .before .before .before .before .pre .1 .1) m (g .inv .4)) (c .before .before .before .before .before .before .before .before .before .before .before .before .before .before .before .before .before .before .before .pre .1 .2) in
+write-rows-add-filled t c = let a = c .before .before .before .before .before .before .before .before .before .before .before .before .before .before .before .before .before .before .before .before .before .before .args in
+    let g = c .before .before .before .before .before .before .before .before .before .before .before .before .before .before .before .before .before .before .loop in
+    let m : g .i < a .to = c .before .before .before .before .before .before .before .before .before .before .before .before .before .before .before .before .before .loop-test .taken in
+    let k = c .before .before .before .before .before .before .before .before .before .before .before .before .before .before .before .before .kind in
+    let x = c .before .before .before .before .before .before .before .next in
+    let o = c .before .before .before .before .before .before .before .before .before .before .before .before .before .open-row in
+    let r = c .before .before .before .write-rows in
+    let f = filled-small (a .from) (g .i) (x .result) (a .to) (g .at) (o .result .len) (r .result .len) (g .inv .3) (o .ensures .1) (r .ensures .1) (walk-high (a .tree .now) (g .i) (a .to) (g .st) (k .result) (x .result) (k .ensures) (x .ensures)
+    (c .before .before .before .before .before .before .before .before .before .before .before .before .before .before .before .before .before .before .before .before .before .before .pre .1 .1) m (g .inv .4)) (c .before .before .before .before .before .before .before .before .before .before .before .before .before .before .before .before .before .before .before .before .before .before .pre .1 .2) in
     search needs
 
 write-rows-least-requires-3 : (t : ℕ) → write-rows-lts.Need-least-requires-3 (
@@ -578,16 +585,16 @@ write-rows-add-at : (t : ℕ) → write-rows-lts.Need-add-at (
   after-reads.Asked,
   after-reads.Learnt,
 ) (write-rows-at t) write-rows.Post write-rows-Inv-loop write-rows-μ-loop
-write-rows-add-at t c = let a = c .before .before .before .before .before .before .before .before .before .before .before .before .before .before .before .before .before .before .before .before .before .before .before .before .args in
-    let g = c .before .before .before .before .before .before .before .before .before .before .before .before .before .before .before .before .before .before .before .before .loop in
-    let m : g .i < a .to = c .before .before .before .before .before .before .before .before .before .before .before .before .before .before .before .before .before .before .before .loop-test .taken in
-    let k = c .before .before .before .before .before .before .before .before .before .before .before .before .before .before .before .before .before .before .kind in
-    let x = c .before .before .before .before .before .before .before .before .before .before .before .next in
-    let o = c .before .before .before .before .before .before .before .before .before .before .before .before .before .before .before .open-row in
-    let r = c .before .before .before .before .before .before .before .write-rows in
-    let f = filled-small (a .from) (g .i) (x .result) (a .to) (g .at) (o .result) (r .result) (g .inv .3) (o .ensures .1) (r .ensures .1) (walk-high (a .tree .now) (g .i) (a .to) (g .st) (k .result) (x .result) (k .ensures) (x .ensures)
-    (c .before .before .before .before .before .before .before .before .before .before .before .before .before .before .before .before .before .before .before .before .before .before .before .before .pre .1 .1) m (g .inv .4))
-    (c .before .before .before .before .before .before .before .before .before .before .before .before .before .before .before .before .before .before .before .before .before .before .before .before .pre .1 .2) in
+write-rows-add-at t c = let a = c .before .before .before .before .before .before .before .before .before .before .before .before .before .before .before .before .before .before .before .before .before .before .before .before .before .before .before .before .args in
+    let g = c .before .before .before .before .before .before .before .before .before .before .before .before .before .before .before .before .before .before .before .before .before .before .before .before .loop in
+    let m : g .i < a .to = c .before .before .before .before .before .before .before .before .before .before .before .before .before .before .before .before .before .before .before .before .before .before .before .loop-test .taken in
+    let k = c .before .before .before .before .before .before .before .before .before .before .before .before .before .before .before .before .before .before .before .before .before .before .kind in
+    let x = c .before .before .before .before .before .before .before .before .before .before .before .before .before .next in
+    let o = c .before .before .before .before .before .before .before .before .before .before .before .before .before .before .before .before .before .before .before .open-row in
+    let r = c .before .before .before .before .before .before .before .before .before .write-rows in
+    let f = filled-small (a .from) (g .i) (x .result) (a .to) (g .at) (o .result .len) (r .result .len) (g .inv .3) (o .ensures .1) (r .ensures .1) (walk-high (a .tree .now) (g .i) (a .to) (g .st) (k .result) (x .result) (k .ensures) (x .ensures)
+    (c .before .before .before .before .before .before .before .before .before .before .before .before .before .before .before .before .before .before .before .before .before .before .before .before .before .before .before .before .pre .1 .1) m (g .inv .4))
+    (c .before .before .before .before .before .before .before .before .before .before .before .before .before .before .before .before .before .before .before .before .before .before .before .before .before .before .before .before .pre .1 .2) in
     let l = c .before .before .write-closing .ensures .1 in
     search needs
 
@@ -629,13 +636,13 @@ write-rows-loop-less-2 : (t : ℕ) → write-rows-lts.Need-loop-less-2 (
   after-reads.Asked,
   after-reads.Learnt,
 ) (write-rows-at t) write-rows.Post write-rows-Inv-loop write-rows-μ-loop
-write-rows-loop-less-2 t c = let a = c .before .before .before .before .before .before .before .before .before .before .before .before .before .before .before .before .before .before .before .before .before .before .before .before .before .args in
-    let g = c .before .before .before .before .before .before .before .before .before .before .before .before .before .before .before .before .before .before .before .before .before .loop in
-    let m : g .i < a .to = c .before .before .before .before .before .before .before .before .before .before .before .before .before .before .before .before .before .before .before .before .loop-test .taken in
-    let k = c .before .before .before .before .before .before .before .before .before .before .before .before .before .before .before .before .before .before .before .kind in
-    let x = c .before .before .before .before .before .before .before .before .before .before .before .before .next in
-    left-falls (g .i) (x .result) (a .to) (walk-low (a .tree .now) (g .i) (a .to) (g .st) (k .result) (x .result) (k .ensures) (x .ensures) (c .before .before .before .before .before .before .before .before .before .before .before .before .before .before .before .before .before .before .before .before .before .before .before .before .before .pre .1 .1) m (g .inv .4)) (walk-high
-    (a .tree .now) (g .i) (a .to) (g .st) (k .result) (x .result) (k .ensures) (x .ensures) (c .before .before .before .before .before .before .before .before .before .before .before .before .before .before .before .before .before .before .before .before .before .before .before .before .before .pre .1 .1) m (g .inv .4))
+write-rows-loop-less-2 t c = let a = c .before .before .before .before .before .before .before .before .before .before .before .before .before .before .before .before .before .before .before .before .before .before .before .before .before .before .before .before .before .args in
+    let g = c .before .before .before .before .before .before .before .before .before .before .before .before .before .before .before .before .before .before .before .before .before .before .before .before .before .loop in
+    let m : g .i < a .to = c .before .before .before .before .before .before .before .before .before .before .before .before .before .before .before .before .before .before .before .before .before .before .before .before .loop-test .taken in
+    let k = c .before .before .before .before .before .before .before .before .before .before .before .before .before .before .before .before .before .before .before .before .before .before .before .kind in
+    let x = c .before .before .before .before .before .before .before .before .before .before .before .before .before .before .next in
+    left-falls (g .i) (x .result) (a .to) (walk-low (a .tree .now) (g .i) (a .to) (g .st) (k .result) (x .result) (k .ensures) (x .ensures) (c .before .before .before .before .before .before .before .before .before .before .before .before .before .before .before .before .before .before .before .before .before .before .before .before .before .before .before .before .before .pre .1 .1) m (g .inv .4)) (walk-high
+    (a .tree .now) (g .i) (a .to) (g .st) (k .result) (x .result) (k .ensures) (x .ensures) (c .before .before .before .before .before .before .before .before .before .before .before .before .before .before .before .before .before .before .before .before .before .before .before .before .before .before .before .before .before .pre .1 .1) m (g .inv .4))
 
 write-rows-loop-again-2 : (t : ℕ) → write-rows-lts.Need-loop-again-2 (
   kind-reads.Asked,
@@ -655,30 +662,31 @@ write-rows-loop-again-2 : (t : ℕ) → write-rows-lts.Need-loop-again-2 (
   after-reads.Asked,
   after-reads.Learnt,
 ) (write-rows-at t) write-rows.Post write-rows-Inv-loop write-rows-μ-loop
-write-rows-loop-again-2 t c = let a = c .before .before .before .before .before .before .before .before .before .before .before .before .before .before .before .before .before .before .before .before .before .before .before .before .before .args in
-    let g = c .before .before .before .before .before .before .before .before .before .before .before .before .before .before .before .before .before .before .before .before .before .loop in
-    let m : g .i < a .to = c .before .before .before .before .before .before .before .before .before .before .before .before .before .before .before .before .before .before .before .before .loop-test .taken in
-    let k = c .before .before .before .before .before .before .before .before .before .before .before .before .before .before .before .before .before .before .before .kind in
-    let x = c .before .before .before .before .before .before .before .before .before .before .before .before .next in
-    let o = c .before .before .before .before .before .before .before .before .before .before .before .before .before .before .before .before .open-row in
-    let r = c .before .before .before .before .before .before .before .before .write-rows in
+write-rows-loop-again-2 t c = let a = c .before .before .before .before .before .before .before .before .before .before .before .before .before .before .before .before .before .before .before .before .before .before .before .before .before .before .before .before .before .args in
+    let g = c .before .before .before .before .before .before .before .before .before .before .before .before .before .before .before .before .before .before .before .before .before .before .before .before .before .loop in
+    let m : g .i < a .to = c .before .before .before .before .before .before .before .before .before .before .before .before .before .before .before .before .before .before .before .before .before .before .before .before .loop-test .taken in
+    let k = c .before .before .before .before .before .before .before .before .before .before .before .before .before .before .before .before .before .before .before .before .before .before .before .kind in
+    let x = c .before .before .before .before .before .before .before .before .before .before .before .before .before .before .next in
+    let o = c .before .before .before .before .before .before .before .before .before .before .before .before .before .before .before .before .before .before .before .before .open-row in
+    let r = c .before .before .before .before .before .before .before .before .before .before .write-rows in
     let z = c .before .before .before .write-closing in
-    let s = c .before .before .before .before .before .before .before .before .before .before .inside in
+    let s = c .before .before .before .before .before .before .before .before .before .before .before .before .inside in
     let u = c .after in
-    let lo = walk-low (a .tree .now) (g .i) (a .to) (g .st) (k .result) (x .result) (k .ensures) (x .ensures) (c .before .before .before .before .before .before .before .before .before .before .before .before .before .before .before .before .before .before .before .before .before .before .before .before .before .pre .1 .1) m (g .inv .4) in
-    let hi = walk-high (a .tree .now) (g .i) (a .to) (g .st) (k .result) (x .result) (k .ensures) (x .ensures) (c .before .before .before .before .before .before .before .before .before .before .before .before .before .before .before .before .before .before .before .before .before .before .before .before .before .pre .1 .1) m (g .inv .4) in
-    let b = turn-small (a .from) (g .i) (x .result) (a .to) (g .at) (o .result) (r .result) (g .inv .3) (o .ensures .1) (r .ensures .1) hi (c .before .before .before .before .before .before .before .before .before .before .before .before .before .before .before .before .before .before .before .before .before .before .before .before .before .pre .1 .2) (z .result) (z .ensures .1) in
-    let rest = walk-rest (a .tree .now) (g .i) (a .to) (g .st) (k .result) (x .result) (k .ensures) (x .ensures) (c .before .before .before .before .before .before .before .before .before .before .before .before .before .before .before .before .before .before .before .before .before .before .before .before .before .pre .1 .1) m (g .inv .4) (s .result) (u .result) (s .ensures) (u .ensures) in
-    let e = turn-text (a .tree .now) (g .i) (a .to) (g .st) (k .result) (x .result) (k .ensures) (x .ensures) (c .before .before .before .before .before .before .before .before .before .before .before .before .before .before .before .before .before .before .before .before .before .before .before .before .before .pre .1 .1) m (g .inv .4) (s .result) (u .result) (s .ensures) (u .ensures) (a .src .now) in
+    let lo = walk-low (a .tree .now) (g .i) (a .to) (g .st) (k .result) (x .result) (k .ensures) (x .ensures) (c .before .before .before .before .before .before .before .before .before .before .before .before .before .before .before .before .before .before .before .before .before .before .before .before .before .before .before .before .before .pre .1 .1) m (g .inv .4) in
+    let hi = walk-high (a .tree .now) (g .i) (a .to) (g .st) (k .result) (x .result) (k .ensures) (x .ensures) (c .before .before .before .before .before .before .before .before .before .before .before .before .before .before .before .before .before .before .before .before .before .before .before .before .before .before .before .before .before .pre .1 .1) m (g .inv .4) in
+    let b = turn-small (a .from) (g .i) (x .result) (a .to) (g .at) (o .result .len) (r .result .len) (g .inv .3) (o .ensures .1) (r .ensures .1) hi (c .before .before .before .before .before .before .before .before .before .before .before .before .before .before .before .before .before .before .before .before .before .before .before .before .before .before .before .before .before .pre .1 .2) (z .result) (z .ensures .1) in
+    let rest = walk-rest (a .tree .now) (g .i) (a .to) (g .st) (k .result) (x .result) (k .ensures) (x .ensures) (c .before .before .before .before .before .before .before .before .before .before .before .before .before .before .before .before .before .before .before .before .before .before .before .before .before .before .before .before .before .pre .1 .1) m (g .inv .4) (s .result) (u .result) (s .ensures) (u .ensures) in
+    let e = turn-text (a .tree .now) (g .i) (a .to) (g .st) (k .result) (x .result) (k .ensures) (x .ensures) (c .before .before .before .before .before .before .before .before .before .before .before .before .before .before .before .before .before .before .before .before .before .before .before .before .before .before .before .before .before .pre .1 .1) m (g .inv .4) (s .result) (u .result) (s .ensures) (u .ensures) (a .src .now) in
     let T : List ℕ = textOf (a .src .now) (flatAt (a .tree .now) (a .from) (a .to) (a .start)) in
     let p = subst (λ (y : List ℕ). Pours T y (g .at) (g .out) (a .out .now)) e (g .inv .5) in
-    let l1 = c .before .before .before .before .before .before .before .before .before .before .before .before .before .before .before .out .given .1 ∙ g .inv .2 in
-    let l2 = c .before .before .before .before .before .before .before .out2 .given .1 ∙ l1 in
-    let p1 = pours-on _ _ _ _ _ _ _ _ _ p (g .inv .2) (c .before .before .before .before .before .before .before .before .before .before .before .before .before .before .before .before .before .before .least .ensures) (o .ensures .0) in
-    let p2 = pours-on _ _ _ _ _ _ _ _ _ p1 l1 (c .before .before .before .before .before .before .before .before .before .before .before .least2 .ensures) (r .ensures .0) in
+    let l1 = c .before .before .before .before .before .before .before .before .before .before .before .before .before .before .before .before .before .before .before .out .given .1 ∙ g .inv .2 in
+    let l2 = c .before .before .before .before .before .before .before .before .before .out2 .given .1 ∙ l1 in
+    let p1 = pours-on _ _ _ _ _ _ _ _ _ p (g .inv .2) (c .before .before .before .before .before .before .before .before .before .before .before .before .before .before .before .before .before .before .before .before .before .before .least .ensures) (o .ensures .0) in
+    let p2 = pours-on _ _ _ _ _ _ _ _ _ p1 l1 (c .before .before .before .before .before .before .before .before .before .before .before .before .before .least2 .ensures) (r .ensures .0) in
     let p3 = pours-on _ _ _ _ _ _ _ _ _ p2 l2 (c .before .before .before .before .before .least3 .ensures) (z .ensures .0) in
     let f : a .from ≤ x .result = let i = g .inv .0 in omega arith in
-    (f, hi, c .before .before .out3 .given .1 ∙ l2, b, rest, p3)
+    let w = spelled-turn (a .src .now) (a .tree .now) _ (g .good) (o .result .good) (g .i) (a .to) (g .inv .6) (o .ensures .2) m (c .before .before .before .before .before .before .before .before .before .before .before .before .before .before .before .before .before .before .before .before .before .before .before .before .before .before .before .before .before .pre .1 .1) (x .result) (r .result .good) lo hi (r .ensures .2) in
+    (f, hi, c .before .before .out3 .given .1 ∙ l2, b, rest, p3, w)
 
 write-rows-same-length : (t : ℕ) → write-rows-lts.Need-same-length (
   kind-reads.Asked,
@@ -723,7 +731,7 @@ write-rows-returns t c = let a = c .before .before .before .before .before .args
     let e : g .i ≡ a .to = omega arith in
     let T : List ℕ = textOf (a .src .now) (flatAt (a .tree .now) (a .from) (a .to) (a .start)) in
     let p = subst (λ (r : List ℕ). Pours T r (g .at) (g .out) (a .out .now)) (end-text (a .tree .now) (a .src .now) (g .i) (a .to) (g .st) e) (g .inv .5) in
-    (pours-end _ _ _ _ p, omega arith)
+    (pours-end _ _ _ _ p, omega arith, spelled-end (a .src .now) (a .tree .now) _ (g .good) (g .i) (a .to) (g .inv .6) e)
 
 pub +write-rows-spec : {M : Type 1} → statement M
 +write-rows-spec = close μ-write-rows λ t. write-rows-lts.spec (

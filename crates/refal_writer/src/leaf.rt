@@ -1,0 +1,113 @@
+// What stands before a row's children, with the test for refusal 41 on the row: one walk does both.
+use crate::opening::write_opening;
+use crate::spelling::is_char;
+use crate::spelling::row_spelled;
+use crate::token::write_char;
+use crate::window::copy16;
+use crate::window::names16;
+use crate::words::is_upper;
+ghost use mathlib.Core.Path.{_≡_};
+ghost use mathlib.Core.Bool.{true};
+ghost use mathlib.Core.List.{[], _∷_, _++_};
+ghost use Prim.Native.Nat.{_+_, _%_, _≤_, _<_};
+ghost use lib.ListN.{length, take, drop};
+ghost use Rattle.refal_tree.specs.Forest.{row};
+ghost use Rattle.refal_tree.specs.FlattenRows.{opening};
+ghost use Rattle.refal_writer.specs.Puts.{Puts};
+ghost use Rattle.refal_writer.specs.Token.{textOf};
+ghost use Rattle.refal_writer.specs.Walk.{Standing};
+ghost use Rattle.refal_writer.specs.Spellings.{rowSpelled};
+ghost use Rattle.refal_writer.specs.Windows.{Word, ahead};
+
+// How many bytes were put, and whether the text is a spelling.
+pub struct Put {
+    pub len: usize,
+    pub good: bool,
+}
+
+fn low(x: u32) -> u8
+    ensures { λ r. ⌜ r ≡ x % 256 ⌝ }
+{
+    (x % 256) as u8
+}
+
+// The bytes before a leaf's text: a variable's letter and point.
+fn lead(kind: u32) -> usize
+    ensures { λ r. ⌜ r ≡ ahead kind ⌝ }
+{
+    if kind == 12 { 2 } else { 0 }
+}
+
+// The letter and a point, the first n bytes of the text from the place f on, a space.
+fn put_text(text: &[u8], f: usize, letter: u8, n: usize, out: &mut [u8]) -> usize
+    requires { ⌜ (f ≤ 2) × (1 ≤ n) × (n ≤ 16) × (16 ≤ length (now text)) × (19 ≤ length (now out)) ⌝ }
+    ensures { λ r. ⌜ Puts ((take f (letter ∷ 46 ∷ []) ++ take n (now (text .entry))) ++ 32 ∷ []) r (now (out .entry)) (now (out .exit)) × (r ≤ 19) ⌝ }
+{
+    out[0] = letter;
+    out[1] = 46;
+    copy16(text, n, &mut out[f..]);
+    let e = f + n;
+    out[e] = 32;
+    e + 1
+}
+
+// A name or an index of n bytes at the front of the text.
+fn is_word(text: &[u8], kind: u32, n: usize) -> bool
+    requires { ⌜ (16 ≤ length (now text)) × (n ≤ 16) ⌝ }
+    ensures { λ r. ⌜ (r ≡ true → Word (now (text .entry)) kind n) ⌝ }
+{
+    let names = names16(text, n);
+    let first = (kind == 12) | is_upper(text[0]);
+    let few = (1 <= n) & (n <= 15);
+    let other = (kind == 10) | (kind == 11);
+    ((names & first) & few) & !other
+}
+
+// The test for refusal 41, where sixteen bytes stand in the source from the text's start on.
+fn word_spelled(src: &[u8], kind: u32, detail: u32, start: u32, len: u32) -> bool
+    requires { ⌜ (start + 16 ≤ length (now src)) × (len ≤ 16) ⌝ }
+    ensures { λ r. ⌜ r ≡ rowSpelled (now (src .entry)) kind detail start len ⌝ }
+{
+    let s = start as usize;
+    let n = len as usize;
+    if is_word(&src[s..], kind, n) {
+        return true;
+    }
+    row_spelled(src, kind, detail, start, len)
+}
+
+// Before the children of a row, as `write_opening`; a leaf with a short text in fewer steps.
+pub fn open(
+    src: &[u8],
+    st: u32,
+    kind: u32,
+    detail: u32,
+    start: u32,
+    len: u32,
+    out: &mut [u8],
+) -> Put
+    requires { ⌜ Standing kind detail ⌝ }
+    ensures { λ r. ⌜ Puts (textOf (now (src .entry)) (opening st (row kind detail start len 0 0))) (r .len) (now (out .entry)) (now (out .exit)) × (r .len ≤ 8589934710) × (r .good ≡ rowSpelled (now (src .entry)) kind detail start len) ⌝ }
+{
+    if kind == 11 {
+        let k = write_char(detail, out);
+        return Put {
+            len: k,
+            good: is_char(detail),
+        };
+    }
+    let s = start as usize;
+    let n = len as usize;
+    let near = ((1 <= n) & (n <= 16)) & (s + 16 <= src.len());
+    let short = ((9 <= kind) & (kind <= 12)) & (near & (19 <= out.len()));
+    if short {
+        let good = word_spelled(src, kind, detail, start, len);
+        let k = put_text(&src[s..], lead(kind), low(detail), n, out);
+        return Put { len: k, good };
+    }
+    let k = write_opening(src, st, kind, detail, start, len, out);
+    Put {
+        len: k,
+        good: row_spelled(src, kind, detail, start, len),
+    }
+}
