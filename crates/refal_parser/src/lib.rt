@@ -8,6 +8,7 @@ mod answers;
 mod block;
 mod check;
 mod items;
+mod leaves;
 mod nodes;
 mod terms;
 mod tokens;

@@ -1,22 +1,19 @@
 -- `refal_parser::terms::bracket`, `refal_parser::terms::call`, `refal_parser::terms::terms`, `refal_parser::terms::until` meet their contracts: terms, brackets and calls as the machine reads them; the falling number is the depth left.
-use mathlib.Core.Path.{_≡_, refl, sym, ap, subst, _∙_}
-use Prim.Native.Nat.{ℕ, zero, suc, _+_, _-_, _<_, _≤_}
+use mathlib.Core.Path.{_≡_, refl, sym, ap, _∙_}
+use Prim.Native.Nat.{ℕ, suc, _+_, _-_, _<_}
 use native.Mathlib.Omega.{arith}
 use lib.ListN.{length, getD}
-use Rattle.refal_ast.specs.Tokens.{Token}
-use Rattle.refal_ast.specs.Tree.{Terms, t0, tLeaf, tBracket, tCall, symbol, variable, sizeT}
-use Rattle.refal_ast.specs.declared.tree.Term.the-variants.{Symbol as theSymbol, Variable, Bracket, Call, UnknownVariable, NoTerm}
-use Rattle.refal_parser.specs.Machine.{State, within, bracket as inBracket, call as inCall}
-use Rattle.refal_parser.specs.Ready.{Ready, termAt, endBefore}
-use Rattle.refal_parser.specs.Writers.{wT}
-use Rattle.refal_parser.specs.PostTerms.{TermsInv}
-use Rattle.refal_parser.proofs.TokenLaws.{ready-next, end-before}
-use Rattle.refal_parser.proofs.Steps.{is-at, is-no, ready-term, other, leveled, term-step, bracket-deep, bracket-open, call-deep, call-open, call-name, call-nameless}
-use Rattle.refal_parser.specs.Machine.{Step}
+use Rattle.refal_ast.specs.Tree.{Terms, t0, tBracket, tCall, symbol, variable, sizeT}
+use Rattle.refal_ast.specs.declared.tree.Term.the-variants.{NoTerm}
+use Rattle.refal_parser.specs.Machine.{Step, within, bracket as inBracket, call as inCall}
 use Rattle.refal_parser.specs.Ready.{tok, afterFrom, afterTo}
 use Rattle.refal_parser.specs.Post.{after}
+use Rattle.refal_parser.specs.Writers.{wT}
+use Rattle.refal_parser.specs.PostTerms.{TermsInv}
+use Rattle.refal_parser.proofs.TokenLaws.{ready-next}
+use Rattle.refal_parser.proofs.Steps.{is-at, is-no, ready-term, other, leveled, term-step, bracket-deep, bracket-open, call-deep, call-open, call-name, call-nameless}
+use Rattle.refal_parser.proofs.TermLaws.{one-leaf, one-bracket, one-call}
 use borrow.Author.Needs.{needs}
-use Prim.Native.Nat.{ℕ, _<_}
 use borrow.Fn.Kinds.{In}
 use borrow.Fn.PlainCycle.{Measures, is, falls, and}
 use Rattle.refal_parser.proofs.terms.bracket.Reads as bracket
@@ -33,6 +30,7 @@ use Rattle.refal_parser.proofs.terms.until.Kinds as until-kinds
 use Rattle.refal_parser.proofs.terms.+bracket+call+terms+until.Lts-until as until-lts
 use Rattle.refal_parser.proofs.answers.present.Reads as present-reads
 use Rattle.refal_parser.proofs.answers.taken.Reads as taken-reads
+use Rattle.refal_parser.proofs.leaves.leaves.Reads as leaves-reads
 use Rattle.refal_parser.proofs.nodes.put_node.Reads as put-node-reads
 use Rattle.refal_parser.proofs.nodes.put_span.Reads as put-span-reads
 use Rattle.refal_parser.proofs.nodes.put_symbol.Reads as put-symbol-reads
@@ -84,7 +82,7 @@ until-at t = and 2 until-kinds.ps (is 2 until-kinds.ps μ-until t) until.Pre
 abbrev until-below : ℕ → In 2 until-kinds.ps
 until-below t = and 2 until-kinds.ps (falls 2 until-kinds.ps _<_ μ-until t) until.Pre
 
--- src/terms.rt:128:9
+-- src/terms.rt:168:9
 bracket-present-requires : (t : ℕ) → bracket-lts.Need-present-requires (
   present-reads.Asked,
   present-reads.Learnt,
@@ -99,7 +97,7 @@ bracket-present-requires : (t : ℕ) → bracket-lts.Need-present-requires (
 ) (bracket-at t) bracket.Post
 bracket-present-requires t c κs = search needs
 
--- src/terms.rt:128:9
+-- src/terms.rt:168:9
 bracket-returns : (t : ℕ) → bracket-lts.Need-returns (
   present-reads.Asked,
   present-reads.Learnt,
@@ -115,7 +113,7 @@ bracket-returns : (t : ℕ) → bracket-lts.Need-returns (
 bracket-returns t c = let pre₀ = c .before .before .before .before .pre .1 in
     is-no (c .present .ensures) (λ x f. bracket-deep _ _ (pre₀ .0) _ x f (pre₀ .2) (c .before .if1 .taken))
 
--- src/terms.rt:130:16
+-- src/terms.rt:170:16
 bracket-add-body : (t : ℕ) → bracket-lts.Need-add-body (
   present-reads.Asked,
   present-reads.Learnt,
@@ -131,7 +129,7 @@ bracket-add-body : (t : ℕ) → bracket-lts.Need-add-body (
 bracket-add-body t c = let pre₀ = c .before .before .before .pre .1 in
     let R = (ready-term _ _ _ (pre₀ .0) (pre₀ .2) refl) in omega arith
 
--- src/terms.rt:131:17
+-- src/terms.rt:171:17
 bracket-add-first : (t : ℕ) → bracket-lts.Need-add-first (
   present-reads.Asked,
   present-reads.Learnt,
@@ -147,7 +145,7 @@ bracket-add-first : (t : ℕ) → bracket-lts.Need-add-first (
 bracket-add-first t c = let pre₀ = c .before .before .before .pre .1 in
     let R = (ready-term _ _ _ (pre₀ .0) (pre₀ .2) refl) in let h = pre₀ .1 in omega arith
 
--- src/terms.rt:132:46
+-- src/terms.rt:172:46
 bracket-sub-until : (t : ℕ) → bracket-lts.Need-sub-until (
   present-reads.Asked,
   present-reads.Learnt,
@@ -162,7 +160,7 @@ bracket-sub-until : (t : ℕ) → bracket-lts.Need-sub-until (
 ) (bracket-at t) bracket.Post
 bracket-sub-until t c = search needs
 
--- src/terms.rt:132:9
+-- src/terms.rt:172:9
 bracket-until-requires : (t : ℕ) → bracket-lts.Need-until-requires (
   present-reads.Asked,
   present-reads.Learnt,
@@ -178,7 +176,7 @@ bracket-until-requires : (t : ℕ) → bracket-lts.Need-until-requires (
 bracket-until-requires t c κs = let pre₀ = c .before .before .before .before .pre .1 in
     let R = (ready-term _ _ _ (pre₀ .0) (pre₀ .2) refl) in let h = pre₀ .1 in (omega arith, (R, omega arith, omega arith))
 
--- src/terms.rt:133:17
+-- src/terms.rt:173:17
 bracket-enum-known-r : (t : ℕ) → bracket-lts.Need-enum-known-r (
   present-reads.Asked,
   present-reads.Learnt,
@@ -193,7 +191,7 @@ bracket-enum-known-r : (t : ℕ) → bracket-lts.Need-enum-known-r (
 ) (bracket-at t) bracket.Post
 bracket-enum-known-r t c = search needs
 
--- src/terms.rt:134:9
+-- src/terms.rt:174:9
 bracket-enum-told : (t : ℕ) → bracket-lts.Need-enum-told (
   present-reads.Asked,
   present-reads.Learnt,
@@ -208,7 +206,7 @@ bracket-enum-told : (t : ℕ) → bracket-lts.Need-enum-told (
 ) (bracket-at t) bracket.Post
 bracket-enum-told t c = search needs
 
--- src/terms.rt:134:9
+-- src/terms.rt:174:9
 bracket-same-length : (t : ℕ) → bracket-lts.Need-same-length (
   present-reads.Asked,
   present-reads.Learnt,
@@ -223,7 +221,7 @@ bracket-same-length : (t : ℕ) → bracket-lts.Need-same-length (
 ) (bracket-at t) bracket.Post
 bracket-same-length t c = search needs
 
--- src/terms.rt:134:9
+-- src/terms.rt:174:9
 bracket-returns-2 : (t : ℕ) → bracket-lts.Need-returns-2 (
   present-reads.Asked,
   present-reads.Learnt,
@@ -243,7 +241,7 @@ bracket-returns-2 t c = let w = c .before .before .before .before .before .befor
     is-no (c .enum-told .given .1) (λ x f. bracket-open _ _ (pre₀ .0) _ x f (pre₀ .2) (c .before .before .before .before .before .before .if1 .left)
     ∙ c .before .before .before .before .until .ensures .no _ _ _ _ _ (c .enum-told .given .1) (inBracket x f (getD w (at₀ + 4) 0)) (λ (g : Terms) (e : ℕ). within (suc (left₀ - 1)) x (tBracket f (getD w (at₀ + 4) 0) g e)) (λ h t y z. refl))
 
--- src/terms.rt:136:47
+-- src/terms.rt:176:9
 bracket-span-from-requires : (t : ℕ) → bracket-lts.Need-span-from-requires (
   present-reads.Asked,
   present-reads.Learnt,
@@ -259,7 +257,7 @@ bracket-span-from-requires : (t : ℕ) → bracket-lts.Need-span-from-requires (
 bracket-span-from-requires t c κs = let pre₀ = c .before .before .before .before .before .before .before .before .before .before .pre .1 in
     pre₀ .0
 
--- src/terms.rt:136:70
+-- src/terms.rt:177:9
 bracket-end-before-requires : (t : ℕ) → bracket-lts.Need-end-before-requires (
   present-reads.Asked,
   present-reads.Learnt,
@@ -274,7 +272,7 @@ bracket-end-before-requires : (t : ℕ) → bracket-lts.Need-end-before-requires
 ) (bracket-at t) bracket.Post
 bracket-end-before-requires t c κs = let U = c .before .before .before .before .before .before .until .ensures .at _ _ (c .before .before .r .given .1) in let h = U .closed .on in (U .closed .ready, omega arith)
 
--- src/terms.rt:136:5
+-- src/terms.rt:178:5
 bracket-put-span-requires : (t : ℕ) → bracket-lts.Need-put-span-requires (
   present-reads.Asked,
   present-reads.Learnt,
@@ -291,7 +289,7 @@ bracket-put-span-requires t c κs = let pre₀ = c .before .before .before .befo
     let U = c .before .before .before .before .before .before .before .before .until .ensures .at _ _ (c .before .before .before .before .r .given .1) in
     let R = U .closed .ready in let f = U .few in let h = pre₀ .1 in let g = pre₀ .0 in (omega arith, omega arith)
 
--- src/terms.rt:123:1
+-- src/terms.rt:163:1
 bracket-same-length-2 : (t : ℕ) → bracket-lts.Need-same-length-2 (
   present-reads.Asked,
   present-reads.Learnt,
@@ -306,7 +304,7 @@ bracket-same-length-2 : (t : ℕ) → bracket-lts.Need-same-length-2 (
 ) (bracket-at t) bracket.Post
 bracket-same-length-2 t c = search needs
 
--- src/terms.rt:123:1
+-- src/terms.rt:163:1
 bracket-returns-3 : (t : ℕ) → bracket-lts.Need-returns-3 (
   present-reads.Asked,
   present-reads.Learnt,
@@ -339,7 +337,7 @@ bracket-returns-3 t c = let w = c .before .before .before .before .before .befor
           ∙ leveled w j₁ left₀ (λ (d : ℕ). within d x (tBracket f (getD w (at₀ + 4) 0) (U .g) (U .closed .e))) (c .before .before .before .before .before .before .before .before .before .before .before .before .before .if1 .left);
     })
 
--- src/terms.rt:146:9
+-- src/terms.rt:188:9
 call-present-requires : (t : ℕ) → call-lts.Need-present-requires (
   present-reads.Asked,
   present-reads.Learnt,
@@ -362,7 +360,7 @@ call-present-requires : (t : ℕ) → call-lts.Need-present-requires (
 ) (call-at t) call.Post
 call-present-requires t c κs = search needs
 
--- src/terms.rt:146:9
+-- src/terms.rt:188:9
 call-returns : (t : ℕ) → call-lts.Need-returns (
   present-reads.Asked,
   present-reads.Learnt,
@@ -386,7 +384,7 @@ call-returns : (t : ℕ) → call-lts.Need-returns (
 call-returns t c = let pre₀ = c .before .before .before .before .pre .1 in
     is-no (c .present .ensures) (λ x f. call-deep _ _ (pre₀ .0) _ x f (pre₀ .2) (c .before .if1 .taken))
 
--- src/terms.rt:148:16
+-- src/terms.rt:190:16
 call-add-name : (t : ℕ) → call-lts.Need-add-name (
   present-reads.Asked,
   present-reads.Learnt,
@@ -410,7 +408,7 @@ call-add-name : (t : ℕ) → call-lts.Need-add-name (
 call-add-name t c = let pre₀ = c .before .before .before .pre .1 in
     let R = (ready-term _ _ _ (pre₀ .0) (pre₀ .2) refl) in let h = pre₀ .1 in omega arith
 
--- src/terms.rt:149:8
+-- src/terms.rt:191:8
 call-kind-requires : (t : ℕ) → call-lts.Need-kind-requires (
   present-reads.Asked,
   present-reads.Learnt,
@@ -434,7 +432,7 @@ call-kind-requires : (t : ℕ) → call-lts.Need-kind-requires (
 call-kind-requires t c κs = let pre₀ = c .before .before .before .pre .1 in
     (ready-term _ _ _ (pre₀ .0) (pre₀ .2) refl)
 
--- src/terms.rt:150:9
+-- src/terms.rt:192:9
 call-taken-requires : (t : ℕ) → call-lts.Need-taken-requires (
   present-reads.Asked,
   present-reads.Learnt,
@@ -458,7 +456,7 @@ call-taken-requires : (t : ℕ) → call-lts.Need-taken-requires (
 call-taken-requires t c κs = let pre₀ = c .before .before .before .before .before .pre .1 in
     (ready-term _ _ _ (pre₀ .0) (pre₀ .2) refl)
 
--- src/terms.rt:150:9
+-- src/terms.rt:192:9
 call-returns-2 : (t : ℕ) → call-lts.Need-returns-2 (
   present-reads.Asked,
   present-reads.Learnt,
@@ -483,7 +481,7 @@ call-returns-2 t c = let pre₀ = c .before .before .before .before .before .bef
     is-no (c .taken .ensures) (λ x f. call-open _ _ (pre₀ .0) _ x f (pre₀ .2) (c .before .before .before .if1 .left)
     ∙ call-nameless _ _ (ready-term _ _ _ (pre₀ .0) (pre₀ .2) refl) _ x f _ (λ e. c .before .if2 .taken (c .before .before .kind .ensures ∙ e)))
 
--- src/terms.rt:152:16
+-- src/terms.rt:194:16
 call-add-body : (t : ℕ) → call-lts.Need-add-body (
   present-reads.Asked,
   present-reads.Learnt,
@@ -507,7 +505,7 @@ call-add-body : (t : ℕ) → call-lts.Need-add-body (
 call-add-body t c = let pre₀ = c .before .before .before .before .before .pre .1 in
     let R = (ready-term _ _ _ (pre₀ .0) (pre₀ .2) refl) in let h = pre₀ .1 in omega arith
 
--- src/terms.rt:153:17
+-- src/terms.rt:195:17
 call-add-first : (t : ℕ) → call-lts.Need-add-first (
   present-reads.Asked,
   present-reads.Learnt,
@@ -531,7 +529,7 @@ call-add-first : (t : ℕ) → call-lts.Need-add-first (
 call-add-first t c = let pre₀ = c .before .before .before .before .before .pre .1 in
     let R = (ready-term _ _ _ (pre₀ .0) (pre₀ .2) refl) in let h = pre₀ .1 in omega arith
 
--- src/terms.rt:154:46
+-- src/terms.rt:196:46
 call-sub-until : (t : ℕ) → call-lts.Need-sub-until (
   present-reads.Asked,
   present-reads.Learnt,
@@ -554,7 +552,7 @@ call-sub-until : (t : ℕ) → call-lts.Need-sub-until (
 ) (call-at t) call.Post
 call-sub-until t c = search needs
 
--- src/terms.rt:154:9
+-- src/terms.rt:196:9
 call-until-requires : (t : ℕ) → call-lts.Need-until-requires (
   present-reads.Asked,
   present-reads.Learnt,
@@ -582,7 +580,7 @@ call-until-requires t c κs = let w = c .before .before .before .before .before 
     let R = (ready-term _ _ _ (pre₀ .0) (pre₀ .2) refl) in
     let h = pre₀ .1 in (omega arith, (ready-next _ _ R (other _ _ _ k₃ refl), omega arith, omega arith))
 
--- src/terms.rt:155:17
+-- src/terms.rt:197:17
 call-enum-known-r : (t : ℕ) → call-lts.Need-enum-known-r (
   present-reads.Asked,
   present-reads.Learnt,
@@ -605,7 +603,7 @@ call-enum-known-r : (t : ℕ) → call-lts.Need-enum-known-r (
 ) (call-at t) call.Post
 call-enum-known-r t c = search needs
 
--- src/terms.rt:156:9
+-- src/terms.rt:198:9
 call-enum-told : (t : ℕ) → call-lts.Need-enum-told (
   present-reads.Asked,
   present-reads.Learnt,
@@ -628,7 +626,7 @@ call-enum-told : (t : ℕ) → call-lts.Need-enum-told (
 ) (call-at t) call.Post
 call-enum-told t c = search needs
 
--- src/terms.rt:156:9
+-- src/terms.rt:198:9
 call-same-length : (t : ℕ) → call-lts.Need-same-length (
   present-reads.Asked,
   present-reads.Learnt,
@@ -651,7 +649,7 @@ call-same-length : (t : ℕ) → call-lts.Need-same-length (
 ) (call-at t) call.Post
 call-same-length t c = search needs
 
--- src/terms.rt:156:9
+-- src/terms.rt:198:9
 call-returns-3 : (t : ℕ) → call-lts.Need-returns-3 (
   present-reads.Asked,
   present-reads.Learnt,
@@ -681,7 +679,7 @@ call-returns-3 t c = let w = c .before .before .before .before .before .before .
     ∙ call-name _ _ (ready-term _ _ _ (pre₀ .0) (pre₀ .2) refl) _ x f _ k₃
     ∙ c .before .before .before .before .until .ensures .no _ _ _ _ _ (c .enum-told .given .1) (inCall x f (getD w (at₀ + 4) 0) (getD w (at₀ + 6 + 2) 0) (getD w (at₀ + 6 + 3) 0)) (λ (g : Terms) (e : ℕ). within (suc (left₀ - 1)) x (tCall f (getD w (at₀ + 4) 0) (getD w (at₀ + 6 + 2) 0) (getD w (at₀ + 6 + 3) 0) g e)) (λ h t y z. refl))
 
--- src/terms.rt:163:9
+-- src/terms.rt:200:9
 call-text-start-requires : (t : ℕ) → call-lts.Need-text-start-requires (
   present-reads.Asked,
   present-reads.Learnt,
@@ -705,7 +703,7 @@ call-text-start-requires : (t : ℕ) → call-lts.Need-text-start-requires (
 call-text-start-requires t c κs = let pre₀ = c .before .before .before .before .before .before .before .before .before .before .before .before .pre .1 in
     (ready-term _ _ _ (pre₀ .0) (pre₀ .2) refl)
 
--- src/terms.rt:164:9
+-- src/terms.rt:201:9
 call-text-len-requires : (t : ℕ) → call-lts.Need-text-len-requires (
   present-reads.Asked,
   present-reads.Learnt,
@@ -729,7 +727,7 @@ call-text-len-requires : (t : ℕ) → call-lts.Need-text-len-requires (
 call-text-len-requires t c κs = let pre₀ = c .before .before .before .before .before .before .before .before .before .before .before .before .before .pre .1 in
     (ready-term _ _ _ (pre₀ .0) (pre₀ .2) refl)
 
--- src/terms.rt:165:9
+-- src/terms.rt:202:9
 call-span-from-requires : (t : ℕ) → call-lts.Need-span-from-requires (
   present-reads.Asked,
   present-reads.Learnt,
@@ -753,7 +751,7 @@ call-span-from-requires : (t : ℕ) → call-lts.Need-span-from-requires (
 call-span-from-requires t c κs = let pre₀ = c .before .before .before .before .before .before .before .before .before .before .before .before .before .before .pre .1 in
     pre₀ .0
 
--- src/terms.rt:166:9
+-- src/terms.rt:203:9
 call-end-before-requires : (t : ℕ) → call-lts.Need-end-before-requires (
   present-reads.Asked,
   present-reads.Learnt,
@@ -776,7 +774,7 @@ call-end-before-requires : (t : ℕ) → call-lts.Need-end-before-requires (
 ) (call-at t) call.Post
 call-end-before-requires t c κs = let U = c .before .before .before .before .before .before .before .before .until .ensures .at _ _ (c .before .before .before .before .r .given .1) in let h = U .closed .on in (U .closed .ready, omega arith)
 
--- src/terms.rt:158:5
+-- src/terms.rt:204:5
 call-put-node-requires : (t : ℕ) → call-lts.Need-put-node-requires (
   present-reads.Asked,
   present-reads.Learnt,
@@ -801,7 +799,7 @@ call-put-node-requires t c κs = let pre₀ = c .before .before .before .before 
     let U = c .before .before .before .before .before .before .before .before .before .before .until .ensures .at _ _ (c .before .before .before .before .before .before .r .given .1) in
     let R = U .closed .ready in let f = U .few in let h = pre₀ .1 in let g = pre₀ .0 in (omega arith, omega arith)
 
--- src/terms.rt:141:1
+-- src/terms.rt:183:1
 call-same-length-2 : (t : ℕ) → call-lts.Need-same-length-2 (
   present-reads.Asked,
   present-reads.Learnt,
@@ -824,7 +822,7 @@ call-same-length-2 : (t : ℕ) → call-lts.Need-same-length-2 (
 ) (call-at t) call.Post
 call-same-length-2 t c = search needs
 
--- src/terms.rt:141:1
+-- src/terms.rt:183:1
 call-returns-4 : (t : ℕ) → call-lts.Need-returns-4 (
   present-reads.Asked,
   present-reads.Learnt,
@@ -873,8 +871,10 @@ terms-Inv-loop tokens rows₀ at n left i₀ m₀ rows i m = TermsInv tokens row
 abbrev terms-μ-loop : terms-lts.MeasureT-loop
 terms-μ-loop tokens rows₀ at n left i₀ m₀ rows i m = length tokens - i
 
--- src/terms.rt:70:5
+-- src/terms.rt:102:5
 terms-loop-holds : (t : ℕ) → terms-lts.Need-loop-holds (
+  leaves-reads.Asked,
+  leaves-reads.Learnt,
   term-at-reads.Asked,
   term-at-reads.Learnt,
   span-from-reads.Asked,
@@ -896,8 +896,10 @@ unfolding sizeT wT
 terms-loop-holds t c = let pre₀ = c .before .before .pre .1 in
     record { g = t0; ready = pre₀ .0; on = omega arith; few = omega arith; same = refl; rows = refl; count = omega arith; last = refl; means = λ x. refl }
 
--- src/terms.rt:71:13
-terms-term-at-requires : (t : ℕ) → terms-lts.Need-term-at-requires (
+-- src/terms.rt:104:13
+terms-leaves-requires : (t : ℕ) → terms-lts.Need-leaves-requires (
+  leaves-reads.Asked,
+  leaves-reads.Learnt,
   term-at-reads.Asked,
   term-at-reads.Learnt,
   span-from-reads.Asked,
@@ -915,10 +917,35 @@ terms-term-at-requires : (t : ℕ) → terms-lts.Need-term-at-requires (
   taken-reads.Asked,
   taken-reads.Learnt,
 ) (terms-at t) terms.Post terms-Inv-loop terms-μ-loop
-terms-term-at-requires t c κs = c .loop .inv .ready
+terms-leaves-requires t c κs = (c .before .loop .inv .ready, c .before .loop .inv .few)
 
--- src/terms.rt:73:26
+-- src/terms.rt:107:13
+terms-term-at-requires : (t : ℕ) → terms-lts.Need-term-at-requires (
+  leaves-reads.Asked,
+  leaves-reads.Learnt,
+  term-at-reads.Asked,
+  term-at-reads.Learnt,
+  span-from-reads.Asked,
+  span-from-reads.Learnt,
+  span-to-reads.Asked,
+  span-to-reads.Learnt,
+  put-symbol-reads.Asked,
+  put-symbol-reads.Learnt,
+  put-variable-reads.Asked,
+  put-variable-reads.Learnt,
+  bracket-below t,
+  bracket.Post,
+  call-below t,
+  call.Post,
+  taken-reads.Asked,
+  taken-reads.Learnt,
+) (terms-at t) terms.Post terms-Inv-loop terms-μ-loop
+terms-term-at-requires t c κs = c .before .before .leaves .ensures .ready
+
+-- src/terms.rt:109:26
 terms-enum-known-t : (t : ℕ) → terms-lts.Need-enum-known-t (
+  leaves-reads.Asked,
+  leaves-reads.Learnt,
   term-at-reads.Asked,
   term-at-reads.Learnt,
   span-from-reads.Asked,
@@ -938,8 +965,10 @@ terms-enum-known-t : (t : ℕ) → terms-lts.Need-enum-known-t (
 ) (terms-at t) terms.Post terms-Inv-loop terms-μ-loop
 terms-enum-known-t t c = search needs
 
--- src/terms.rt:74:40
+-- src/terms.rt:110:21
 terms-span-from-requires : (t : ℕ) → terms-lts.Need-span-from-requires (
+  leaves-reads.Asked,
+  leaves-reads.Learnt,
   term-at-reads.Asked,
   term-at-reads.Learnt,
   span-from-reads.Asked,
@@ -957,10 +986,12 @@ terms-span-from-requires : (t : ℕ) → terms-lts.Need-span-from-requires (
   taken-reads.Asked,
   taken-reads.Learnt,
 ) (terms-at t) terms.Post terms-Inv-loop terms-μ-loop
-terms-span-from-requires t c κs = c .before .before .before .before .loop .inv .ready
+terms-span-from-requires t c κs = c .before .before .before .before .before .before .leaves .ensures .ready
 
--- src/terms.rt:74:62
+-- src/terms.rt:111:21
 terms-span-to-requires : (t : ℕ) → terms-lts.Need-span-to-requires (
+  leaves-reads.Asked,
+  leaves-reads.Learnt,
   term-at-reads.Asked,
   term-at-reads.Learnt,
   span-from-reads.Asked,
@@ -978,10 +1009,12 @@ terms-span-to-requires : (t : ℕ) → terms-lts.Need-span-to-requires (
   taken-reads.Asked,
   taken-reads.Learnt,
 ) (terms-at t) terms.Post terms-Inv-loop terms-μ-loop
-terms-span-to-requires t c κs = c .before .before .before .before .before .loop .inv .ready
+terms-span-to-requires t c κs = c .before .before .before .before .before .before .before .leaves .ensures .ready
 
--- src/terms.rt:74:17
+-- src/terms.rt:112:17
 terms-put-symbol-requires : (t : ℕ) → terms-lts.Need-put-symbol-requires (
+  leaves-reads.Asked,
+  leaves-reads.Learnt,
   term-at-reads.Asked,
   term-at-reads.Learnt,
   span-from-reads.Asked,
@@ -999,10 +1032,12 @@ terms-put-symbol-requires : (t : ℕ) → terms-lts.Need-put-symbol-requires (
   taken-reads.Asked,
   taken-reads.Learnt,
 ) (terms-at t) terms.Post terms-Inv-loop terms-μ-loop
-terms-put-symbol-requires t c κs = let I = c .before .before .before .before .before .before .before .loop .inv in let R = I .ready in let h = I .few in omega arith
+terms-put-symbol-requires t c κs = let L = c .before .before .before .before .before .before .before .before .before .leaves .ensures in let R = L .ready in let h = L .few in omega arith
 
--- src/terms.rt:75:17
+-- src/terms.rt:113:17
 terms-add-i : (t : ℕ) → terms-lts.Need-add-i (
+  leaves-reads.Asked,
+  leaves-reads.Learnt,
   term-at-reads.Asked,
   term-at-reads.Learnt,
   span-from-reads.Asked,
@@ -1020,10 +1055,12 @@ terms-add-i : (t : ℕ) → terms-lts.Need-add-i (
   taken-reads.Asked,
   taken-reads.Learnt,
 ) (terms-at t) terms.Post terms-Inv-loop terms-μ-loop
-terms-add-i t c = let I = c .before .before .before .before .before .before .before .before .before .before .loop .inv in let R = I .ready in let h = I .few in omega arith
+terms-add-i t c = let L = c .before .before .before .before .before .before .before .before .before .before .before .before .leaves .ensures in let R = L .ready in let h = L .few in omega arith
 
--- src/terms.rt:76:17
+-- src/terms.rt:114:17
 terms-add-m : (t : ℕ) → terms-lts.Need-add-m (
+  leaves-reads.Asked,
+  leaves-reads.Learnt,
   term-at-reads.Asked,
   term-at-reads.Learnt,
   span-from-reads.Asked,
@@ -1041,10 +1078,12 @@ terms-add-m : (t : ℕ) → terms-lts.Need-add-m (
   taken-reads.Asked,
   taken-reads.Learnt,
 ) (terms-at t) terms.Post terms-Inv-loop terms-μ-loop
-terms-add-m t c = let I = c .before .before .before .before .before .before .before .before .before .before .loop .inv in let R = I .ready in let h = I .few in omega arith
+terms-add-m t c = let L = c .before .before .before .before .before .before .before .before .before .before .before .before .leaves .ensures in let R = L .ready in let h = L .few in omega arith
 
--- src/terms.rt:70:5
+-- src/terms.rt:102:5
 terms-loop-less : (t : ℕ) → terms-lts.Need-loop-less (
+  leaves-reads.Asked,
+  leaves-reads.Learnt,
   term-at-reads.Asked,
   term-at-reads.Learnt,
   span-from-reads.Asked,
@@ -1062,10 +1101,12 @@ terms-loop-less : (t : ℕ) → terms-lts.Need-loop-less (
   taken-reads.Asked,
   taken-reads.Learnt,
 ) (terms-at t) terms.Post terms-Inv-loop terms-μ-loop
-terms-loop-less t c = let I = c .before .before .before .before .before .before .before .before .before .before .loop .inv in let R = I .ready in omega arith
+terms-loop-less t c = let L = c .before .before .before .before .before .before .before .before .before .before .before .before .leaves .ensures in let R = L .ready in let h = L .on in omega arith
 
--- src/terms.rt:70:5
+-- src/terms.rt:102:5
 terms-loop-again : (t : ℕ) → terms-lts.Need-loop-again (
+  leaves-reads.Asked,
+  leaves-reads.Learnt,
   term-at-reads.Asked,
   term-at-reads.Learnt,
   span-from-reads.Asked,
@@ -1083,24 +1124,13 @@ terms-loop-again : (t : ℕ) → terms-lts.Need-loop-again (
   taken-reads.Asked,
   taken-reads.Learnt,
 ) (terms-at t) terms.Post terms-Inv-loop terms-μ-loop
-unfolding sizeT wT
-terms-loop-again t c = let w = c .before .before .before .before .before .before .before .before .before .before .before .before .before .args .tokens .now in
-    let i₀ = c .before .before .before .before .before .before .before .before .before .before .loop .i in
-    let I = c .before .before .before .before .before .before .before .before .before .before .loop .inv in
-    record {
-      g = tLeaf (I .g) (symbol (c .before .before .before .before .before .before .before .t .given .0 .0)) (getD w (i₀ + 4) 0) (getD w (i₀ + 5) 0);
-      ready = ready-term _ _ _ (I .ready) (sym (c .before .before .before .before .before .before .before .before .before .term-at .ensures) ∙ c .before .before .before .before .before .before .before .t .given .1) refl;
-      on = let h = I .on in omega arith;
-      few = let h = I .few in omega arith;
-      same = c .before .before .put-symbol .kept .0 ∙ I .same;
-      rows = let h = I .rows in let k = I .count in cc;
-      count = let k = I .count in omega arith;
-      last = end-before w i₀;
-      means = λ x. I .means x ∙ term-step _ _ (I .ready) _ x (I .g) _ (sym (c .before .before .before .before .before .before .before .before .before .term-at .ensures) ∙ c .before .before .before .before .before .before .before .t .given .1);
-    }
+terms-loop-again t c = one-leaf (symbol (c .before .before .before .before .before .before .before .t .given .0 .0)) (sym (c .before .before .before .before .before .before .before .before .before .term-at .ensures) ∙ c .before .before .before .before .before .before .before .t .given .1) (c .before .before .before .before .before .span-from .ensures) (c .before .before .before .before .span-to .ensures) (c .before .before .put-symbol .kept .0)
+    (c .before .before .put-symbol .ensures) (c .before .before .before .before .before .before .before .before .before .before .before .before .leaves .ensures .more _ _ _ _ (c .before .before .before .before .before .before .before .before .before .before .before .before .before .before .loop .inv))
 
--- src/terms.rt:78:30
+-- src/terms.rt:116:30
 terms-enum-known-t-2 : (t : ℕ) → terms-lts.Need-enum-known-t-2 (
+  leaves-reads.Asked,
+  leaves-reads.Learnt,
   term-at-reads.Asked,
   term-at-reads.Learnt,
   span-from-reads.Asked,
@@ -1120,8 +1150,10 @@ terms-enum-known-t-2 : (t : ℕ) → terms-lts.Need-enum-known-t-2 (
 ) (terms-at t) terms.Post terms-Inv-loop terms-μ-loop
 terms-enum-known-t-2 t c = search needs
 
--- src/terms.rt:79:57
+-- src/terms.rt:117:21
 terms-span-from-requires-2 : (t : ℕ) → terms-lts.Need-span-from-requires-2 (
+  leaves-reads.Asked,
+  leaves-reads.Learnt,
   term-at-reads.Asked,
   term-at-reads.Learnt,
   span-from-reads.Asked,
@@ -1139,10 +1171,12 @@ terms-span-from-requires-2 : (t : ℕ) → terms-lts.Need-span-from-requires-2 (
   taken-reads.Asked,
   taken-reads.Learnt,
 ) (terms-at t) terms.Post terms-Inv-loop terms-μ-loop
-terms-span-from-requires-2 t c κs = c .before .before .before .before .loop .inv .ready
+terms-span-from-requires-2 t c κs = c .before .before .before .before .before .before .leaves .ensures .ready
 
--- src/terms.rt:79:79
+-- src/terms.rt:118:21
 terms-span-to-requires-2 : (t : ℕ) → terms-lts.Need-span-to-requires-2 (
+  leaves-reads.Asked,
+  leaves-reads.Learnt,
   term-at-reads.Asked,
   term-at-reads.Learnt,
   span-from-reads.Asked,
@@ -1160,10 +1194,12 @@ terms-span-to-requires-2 : (t : ℕ) → terms-lts.Need-span-to-requires-2 (
   taken-reads.Asked,
   taken-reads.Learnt,
 ) (terms-at t) terms.Post terms-Inv-loop terms-μ-loop
-terms-span-to-requires-2 t c κs = c .before .before .before .before .before .loop .inv .ready
+terms-span-to-requires-2 t c κs = c .before .before .before .before .before .before .before .leaves .ensures .ready
 
--- src/terms.rt:79:17
+-- src/terms.rt:119:17
 terms-put-variable-requires : (t : ℕ) → terms-lts.Need-put-variable-requires (
+  leaves-reads.Asked,
+  leaves-reads.Learnt,
   term-at-reads.Asked,
   term-at-reads.Learnt,
   span-from-reads.Asked,
@@ -1181,10 +1217,12 @@ terms-put-variable-requires : (t : ℕ) → terms-lts.Need-put-variable-requires
   taken-reads.Asked,
   taken-reads.Learnt,
 ) (terms-at t) terms.Post terms-Inv-loop terms-μ-loop
-terms-put-variable-requires t c κs = let I = c .before .before .before .before .before .before .before .loop .inv in let R = I .ready in let h = I .few in omega arith
+terms-put-variable-requires t c κs = let L = c .before .before .before .before .before .before .before .before .before .leaves .ensures in let R = L .ready in let h = L .few in omega arith
 
--- src/terms.rt:80:17
+-- src/terms.rt:120:17
 terms-add-i-2 : (t : ℕ) → terms-lts.Need-add-i-2 (
+  leaves-reads.Asked,
+  leaves-reads.Learnt,
   term-at-reads.Asked,
   term-at-reads.Learnt,
   span-from-reads.Asked,
@@ -1202,10 +1240,12 @@ terms-add-i-2 : (t : ℕ) → terms-lts.Need-add-i-2 (
   taken-reads.Asked,
   taken-reads.Learnt,
 ) (terms-at t) terms.Post terms-Inv-loop terms-μ-loop
-terms-add-i-2 t c = let I = c .before .before .before .before .before .before .before .before .before .before .loop .inv in let R = I .ready in let h = I .few in omega arith
+terms-add-i-2 t c = let L = c .before .before .before .before .before .before .before .before .before .before .before .before .leaves .ensures in let R = L .ready in let h = L .few in omega arith
 
--- src/terms.rt:81:17
+-- src/terms.rt:121:17
 terms-add-m-2 : (t : ℕ) → terms-lts.Need-add-m-2 (
+  leaves-reads.Asked,
+  leaves-reads.Learnt,
   term-at-reads.Asked,
   term-at-reads.Learnt,
   span-from-reads.Asked,
@@ -1223,10 +1263,12 @@ terms-add-m-2 : (t : ℕ) → terms-lts.Need-add-m-2 (
   taken-reads.Asked,
   taken-reads.Learnt,
 ) (terms-at t) terms.Post terms-Inv-loop terms-μ-loop
-terms-add-m-2 t c = let I = c .before .before .before .before .before .before .before .before .before .before .loop .inv in let R = I .ready in let h = I .few in omega arith
+terms-add-m-2 t c = let L = c .before .before .before .before .before .before .before .before .before .before .before .before .leaves .ensures in let R = L .ready in let h = L .few in omega arith
 
--- src/terms.rt:70:5
+-- src/terms.rt:102:5
 terms-loop-less-2 : (t : ℕ) → terms-lts.Need-loop-less-2 (
+  leaves-reads.Asked,
+  leaves-reads.Learnt,
   term-at-reads.Asked,
   term-at-reads.Learnt,
   span-from-reads.Asked,
@@ -1244,10 +1286,12 @@ terms-loop-less-2 : (t : ℕ) → terms-lts.Need-loop-less-2 (
   taken-reads.Asked,
   taken-reads.Learnt,
 ) (terms-at t) terms.Post terms-Inv-loop terms-μ-loop
-terms-loop-less-2 t c = let I = c .before .before .before .before .before .before .before .before .before .before .loop .inv in let R = I .ready in omega arith
+terms-loop-less-2 t c = let L = c .before .before .before .before .before .before .before .before .before .before .before .before .leaves .ensures in let R = L .ready in let h = L .on in omega arith
 
--- src/terms.rt:70:5
+-- src/terms.rt:102:5
 terms-loop-again-2 : (t : ℕ) → terms-lts.Need-loop-again-2 (
+  leaves-reads.Asked,
+  leaves-reads.Learnt,
   term-at-reads.Asked,
   term-at-reads.Learnt,
   span-from-reads.Asked,
@@ -1265,24 +1309,13 @@ terms-loop-again-2 : (t : ℕ) → terms-lts.Need-loop-again-2 (
   taken-reads.Asked,
   taken-reads.Learnt,
 ) (terms-at t) terms.Post terms-Inv-loop terms-μ-loop
-unfolding sizeT wT
-terms-loop-again-2 t c = let w = c .before .before .before .before .before .before .before .before .before .before .before .before .before .args .tokens .now in
-    let i₀ = c .before .before .before .before .before .before .before .before .before .before .loop .i in
-    let I = c .before .before .before .before .before .before .before .before .before .before .loop .inv in
-    record {
-      g = tLeaf (I .g) (variable (c .before .before .before .before .before .before .before .t2 .given .0 .0) (c .before .before .before .before .before .before .before .t2 .given .0 .1 .0) (c .before .before .before .before .before .before .before .t2 .given .0 .1 .1 .0)) (getD w (i₀ + 4) 0) (getD w (i₀ + 5) 0);
-      ready = ready-term _ _ _ (I .ready) (sym (c .before .before .before .before .before .before .before .before .before .term-at .ensures) ∙ c .before .before .before .before .before .before .before .t2 .given .1) refl;
-      on = let h = I .on in omega arith;
-      few = let h = I .few in omega arith;
-      same = c .before .before .put-variable .kept .0 ∙ I .same;
-      rows = let h = I .rows in let k = I .count in cc;
-      count = let k = I .count in omega arith;
-      last = end-before w i₀;
-      means = λ x. I .means x ∙ term-step _ _ (I .ready) _ x (I .g) _ (sym (c .before .before .before .before .before .before .before .before .before .term-at .ensures) ∙ c .before .before .before .before .before .before .before .t2 .given .1);
-    }
+terms-loop-again-2 t c = one-leaf (variable (c .before .before .before .before .before .before .before .t2 .given .0 .0) (c .before .before .before .before .before .before .before .t2 .given .0 .1 .0) (c .before .before .before .before .before .before .before .t2 .given .0 .1 .1 .0)) (sym (c .before .before .before .before .before .before .before .before .before .term-at .ensures) ∙ c .before .before .before .before .before .before .before .t2 .given .1) (c .before .before .before .before .before .span-from2 .ensures)
+    (c .before .before .before .before .span-to2 .ensures) (c .before .before .put-variable .kept .0) (c .before .before .put-variable .ensures) (c .before .before .before .before .before .before .before .before .before .before .before .before .leaves .ensures .more _ _ _ _ (c .before .before .before .before .before .before .before .before .before .before .before .before .before .before .loop .inv))
 
--- src/terms.rt:84:41
+-- src/terms.rt:124:41
 terms-enum-told : (t : ℕ) → terms-lts.Need-enum-told (
+  leaves-reads.Asked,
+  leaves-reads.Learnt,
   term-at-reads.Asked,
   term-at-reads.Learnt,
   span-from-reads.Asked,
@@ -1302,8 +1335,10 @@ terms-enum-told : (t : ℕ) → terms-lts.Need-enum-told (
 ) (terms-at t) terms.Post terms-Inv-loop terms-μ-loop
 terms-enum-told t c = search needs
 
--- src/terms.rt:84:21
+-- src/terms.rt:124:21
 terms-bracket-requires : (t : ℕ) → terms-lts.Need-bracket-requires (
+  leaves-reads.Asked,
+  leaves-reads.Learnt,
   term-at-reads.Asked,
   term-at-reads.Learnt,
   span-from-reads.Asked,
@@ -1321,10 +1356,12 @@ terms-bracket-requires : (t : ℕ) → terms-lts.Need-bracket-requires (
   taken-reads.Asked,
   taken-reads.Learnt,
 ) (terms-at t) terms.Post terms-Inv-loop terms-μ-loop
-terms-bracket-requires t c κs = let I = c .before .before .before .before .loop .inv in (omega arith, (I .ready, I .few, (sym (c .before .before .before .term-at .ensures) ∙ c .before .enum-told .given .1)))
+terms-bracket-requires t c κs = let I = c .before .before .before .before .before .before .leaves .ensures .more _ _ _ _ (c .before .before .before .before .before .before .before .before .loop .inv) in (omega arith, (I .ready, I .few, (sym (c .before .before .before .term-at .ensures) ∙ c .before .enum-told .given .1)))
 
--- src/terms.rt:85:29
+-- src/terms.rt:125:29
 terms-enum-known-r : (t : ℕ) → terms-lts.Need-enum-known-r (
+  leaves-reads.Asked,
+  leaves-reads.Learnt,
   term-at-reads.Asked,
   term-at-reads.Learnt,
   span-from-reads.Asked,
@@ -1344,8 +1381,10 @@ terms-enum-known-r : (t : ℕ) → terms-lts.Need-enum-known-r (
 ) (terms-at t) terms.Post terms-Inv-loop terms-μ-loop
 terms-enum-known-r t c = search needs
 
--- src/terms.rt:86:21
+-- src/terms.rt:126:21
 terms-enum-told-2 : (t : ℕ) → terms-lts.Need-enum-told-2 (
+  leaves-reads.Asked,
+  leaves-reads.Learnt,
   term-at-reads.Asked,
   term-at-reads.Learnt,
   span-from-reads.Asked,
@@ -1365,8 +1404,10 @@ terms-enum-told-2 : (t : ℕ) → terms-lts.Need-enum-told-2 (
 ) (terms-at t) terms.Post terms-Inv-loop terms-μ-loop
 terms-enum-told-2 t c = search needs
 
--- src/terms.rt:86:21
+-- src/terms.rt:126:21
 terms-same-length : (t : ℕ) → terms-lts.Need-same-length (
+  leaves-reads.Asked,
+  leaves-reads.Learnt,
   term-at-reads.Asked,
   term-at-reads.Learnt,
   span-from-reads.Asked,
@@ -1386,8 +1427,10 @@ terms-same-length : (t : ℕ) → terms-lts.Need-same-length (
 ) (terms-at t) terms.Post terms-Inv-loop terms-μ-loop
 terms-same-length t c = search needs
 
--- src/terms.rt:86:21
+-- src/terms.rt:126:21
 terms-returns : (t : ℕ) → terms-lts.Need-returns (
+  leaves-reads.Asked,
+  leaves-reads.Learnt,
   term-at-reads.Asked,
   term-at-reads.Learnt,
   span-from-reads.Asked,
@@ -1405,11 +1448,13 @@ terms-returns : (t : ℕ) → terms-lts.Need-returns (
   taken-reads.Asked,
   taken-reads.Learnt,
 ) (terms-at t) terms.Post terms-Inv-loop terms-μ-loop
-terms-returns t c = let I = c .before .before .before .before .before .before .before .before .before .loop .inv in
+terms-returns t c = let I = c .before .before .before .before .before .before .before .before .before .before .before .leaves .ensures .more _ _ _ _ (c .before .before .before .before .before .before .before .before .before .before .before .before .before .loop .inv) in
     is-no (c .enum-told2 .given .1) (λ x. I .means x ∙ c .before .before .before .before .bracket .ensures .no _ _ _ _ _ (c .enum-told2 .given .1) x (I .g))
 
--- src/terms.rt:70:5
+-- src/terms.rt:102:5
 terms-loop-less-3 : (t : ℕ) → terms-lts.Need-loop-less-3 (
+  leaves-reads.Asked,
+  leaves-reads.Learnt,
   term-at-reads.Asked,
   term-at-reads.Learnt,
   span-from-reads.Asked,
@@ -1427,10 +1472,12 @@ terms-loop-less-3 : (t : ℕ) → terms-lts.Need-loop-less-3 (
   taken-reads.Asked,
   taken-reads.Learnt,
 ) (terms-at t) terms.Post terms-Inv-loop terms-μ-loop
-terms-loop-less-3 t c = let I = c .before .before .before .before .before .before .before .before .before .before .loop .inv in let b = c .before .before .before .before .before .bracket .ensures .at _ _ (c .before .r .given .1) in let R = b .ready in let h = b .on in omega arith
+terms-loop-less-3 t c = let L = c .before .before .before .before .before .before .before .before .before .before .before .before .leaves .ensures in let o = L .on in let b = c .before .before .before .before .before .bracket .ensures .at _ _ (c .before .r .given .1) in let R = b .ready in let h = b .on in omega arith
 
--- src/terms.rt:70:5
+-- src/terms.rt:102:5
 terms-loop-again-3 : (t : ℕ) → terms-lts.Need-loop-again-3 (
+  leaves-reads.Asked,
+  leaves-reads.Learnt,
   term-at-reads.Asked,
   term-at-reads.Learnt,
   span-from-reads.Asked,
@@ -1448,25 +1495,12 @@ terms-loop-again-3 : (t : ℕ) → terms-lts.Need-loop-again-3 (
   taken-reads.Asked,
   taken-reads.Learnt,
 ) (terms-at t) terms.Post terms-Inv-loop terms-μ-loop
-unfolding sizeT wT
-terms-loop-again-3 t c = let w = c .before .before .before .before .before .before .before .before .before .before .before .before .before .args .tokens .now in
-    let i₀ = c .before .before .before .before .before .before .before .before .before .before .loop .i in
-    let I = c .before .before .before .before .before .before .before .before .before .before .loop .inv in
-    let b = c .before .before .before .before .before .bracket .ensures .at _ _ (c .before .r .given .1) in
-    record {
-      g = tBracket (I .g) (getD w (i₀ + 4) 0) (b .g) (b .e);
-      ready = b .ready;
-      on = let h = b .on in let k = I .on in omega arith;
-      few = let h = b .few in omega arith;
-      same = c .before .before .before .before .before .bracket .kept .1 .0 ∙ I .same;
-      rows = let h = b .rows in let e = b .count in let k = I .rows in let l = I .count in cc;
-      count = let e = b .count in let l = I .count in omega arith;
-      last = b .last;
-      means = λ x. I .means x ∙ b .means x (I .g);
-    }
+terms-loop-again-3 t c = one-bracket (c .before .before .before .before .before .bracket .kept .1 .0) (c .before .before .before .before .before .bracket .ensures .at _ _ (c .before .r .given .1)) (c .before .before .before .before .before .before .before .before .before .before .before .before .leaves .ensures .more _ _ _ _ (c .before .before .before .before .before .before .before .before .before .before .before .before .before .before .loop .inv))
 
--- src/terms.rt:92:39
+-- src/terms.rt:132:39
 terms-enum-told-3 : (t : ℕ) → terms-lts.Need-enum-told-3 (
+  leaves-reads.Asked,
+  leaves-reads.Learnt,
   term-at-reads.Asked,
   term-at-reads.Learnt,
   span-from-reads.Asked,
@@ -1486,8 +1520,10 @@ terms-enum-told-3 : (t : ℕ) → terms-lts.Need-enum-told-3 (
 ) (terms-at t) terms.Post terms-Inv-loop terms-μ-loop
 terms-enum-told-3 t c = search needs
 
--- src/terms.rt:92:21
+-- src/terms.rt:132:21
 terms-call-requires : (t : ℕ) → terms-lts.Need-call-requires (
+  leaves-reads.Asked,
+  leaves-reads.Learnt,
   term-at-reads.Asked,
   term-at-reads.Learnt,
   span-from-reads.Asked,
@@ -1505,10 +1541,12 @@ terms-call-requires : (t : ℕ) → terms-lts.Need-call-requires (
   taken-reads.Asked,
   taken-reads.Learnt,
 ) (terms-at t) terms.Post terms-Inv-loop terms-μ-loop
-terms-call-requires t c κs = let I = c .before .before .before .before .loop .inv in (omega arith, (I .ready, I .few, (sym (c .before .before .before .term-at .ensures) ∙ c .before .enum-told3 .given .1)))
+terms-call-requires t c κs = let I = c .before .before .before .before .before .before .leaves .ensures .more _ _ _ _ (c .before .before .before .before .before .before .before .before .loop .inv) in (omega arith, (I .ready, I .few, (sym (c .before .before .before .term-at .ensures) ∙ c .before .enum-told3 .given .1)))
 
--- src/terms.rt:93:29
+-- src/terms.rt:133:29
 terms-enum-known-r2 : (t : ℕ) → terms-lts.Need-enum-known-r2 (
+  leaves-reads.Asked,
+  leaves-reads.Learnt,
   term-at-reads.Asked,
   term-at-reads.Learnt,
   span-from-reads.Asked,
@@ -1528,8 +1566,10 @@ terms-enum-known-r2 : (t : ℕ) → terms-lts.Need-enum-known-r2 (
 ) (terms-at t) terms.Post terms-Inv-loop terms-μ-loop
 terms-enum-known-r2 t c = search needs
 
--- src/terms.rt:94:21
+-- src/terms.rt:134:21
 terms-enum-told-4 : (t : ℕ) → terms-lts.Need-enum-told-4 (
+  leaves-reads.Asked,
+  leaves-reads.Learnt,
   term-at-reads.Asked,
   term-at-reads.Learnt,
   span-from-reads.Asked,
@@ -1549,8 +1589,10 @@ terms-enum-told-4 : (t : ℕ) → terms-lts.Need-enum-told-4 (
 ) (terms-at t) terms.Post terms-Inv-loop terms-μ-loop
 terms-enum-told-4 t c = search needs
 
--- src/terms.rt:94:21
+-- src/terms.rt:134:21
 terms-same-length-2 : (t : ℕ) → terms-lts.Need-same-length-2 (
+  leaves-reads.Asked,
+  leaves-reads.Learnt,
   term-at-reads.Asked,
   term-at-reads.Learnt,
   span-from-reads.Asked,
@@ -1570,8 +1612,10 @@ terms-same-length-2 : (t : ℕ) → terms-lts.Need-same-length-2 (
 ) (terms-at t) terms.Post terms-Inv-loop terms-μ-loop
 terms-same-length-2 t c = search needs
 
--- src/terms.rt:94:21
+-- src/terms.rt:134:21
 terms-returns-2 : (t : ℕ) → terms-lts.Need-returns-2 (
+  leaves-reads.Asked,
+  leaves-reads.Learnt,
   term-at-reads.Asked,
   term-at-reads.Learnt,
   span-from-reads.Asked,
@@ -1589,11 +1633,13 @@ terms-returns-2 : (t : ℕ) → terms-lts.Need-returns-2 (
   taken-reads.Asked,
   taken-reads.Learnt,
 ) (terms-at t) terms.Post terms-Inv-loop terms-μ-loop
-terms-returns-2 t c = let I = c .before .before .before .before .before .before .before .before .before .loop .inv in
+terms-returns-2 t c = let I = c .before .before .before .before .before .before .before .before .before .before .before .leaves .ensures .more _ _ _ _ (c .before .before .before .before .before .before .before .before .before .before .before .before .before .loop .inv) in
     is-no (c .enum-told4 .given .1) (λ x. I .means x ∙ c .before .before .before .before .call .ensures .no _ _ _ _ _ (c .enum-told4 .given .1) x (I .g))
 
--- src/terms.rt:70:5
+-- src/terms.rt:102:5
 terms-loop-less-4 : (t : ℕ) → terms-lts.Need-loop-less-4 (
+  leaves-reads.Asked,
+  leaves-reads.Learnt,
   term-at-reads.Asked,
   term-at-reads.Learnt,
   span-from-reads.Asked,
@@ -1611,10 +1657,12 @@ terms-loop-less-4 : (t : ℕ) → terms-lts.Need-loop-less-4 (
   taken-reads.Asked,
   taken-reads.Learnt,
 ) (terms-at t) terms.Post terms-Inv-loop terms-μ-loop
-terms-loop-less-4 t c = let I = c .before .before .before .before .before .before .before .before .before .before .loop .inv in let b = c .before .before .before .before .before .call .ensures .at _ _ (c .before .r2 .given .1) in let R = b .ready in let h = b .on in omega arith
+terms-loop-less-4 t c = let L = c .before .before .before .before .before .before .before .before .before .before .before .before .leaves .ensures in let o = L .on in let b = c .before .before .before .before .before .call .ensures .at _ _ (c .before .r2 .given .1) in let R = b .ready in let h = b .on in omega arith
 
--- src/terms.rt:70:5
+-- src/terms.rt:102:5
 terms-loop-again-4 : (t : ℕ) → terms-lts.Need-loop-again-4 (
+  leaves-reads.Asked,
+  leaves-reads.Learnt,
   term-at-reads.Asked,
   term-at-reads.Learnt,
   span-from-reads.Asked,
@@ -1632,25 +1680,12 @@ terms-loop-again-4 : (t : ℕ) → terms-lts.Need-loop-again-4 (
   taken-reads.Asked,
   taken-reads.Learnt,
 ) (terms-at t) terms.Post terms-Inv-loop terms-μ-loop
-unfolding sizeT wT
-terms-loop-again-4 t c = let w = c .before .before .before .before .before .before .before .before .before .before .before .before .before .args .tokens .now in
-    let i₀ = c .before .before .before .before .before .before .before .before .before .before .loop .i in
-    let I = c .before .before .before .before .before .before .before .before .before .before .loop .inv in
-    let b = c .before .before .before .before .before .call .ensures .at _ _ (c .before .r2 .given .1) in
-    record {
-      g = tCall (I .g) (getD w (i₀ + 4) 0) (getD w (i₀ + 6 + 2) 0) (getD w (i₀ + 6 + 3) 0) (b .g) (b .e);
-      ready = b .ready;
-      on = let h = b .on in let k = I .on in omega arith;
-      few = let h = b .few in omega arith;
-      same = c .before .before .before .before .before .call .kept .1 .0 ∙ I .same;
-      rows = let h = b .rows in let e = b .count in let k = I .rows in let l = I .count in cc;
-      count = let e = b .count in let l = I .count in omega arith;
-      last = b .last;
-      means = λ x. I .means x ∙ b .means x (I .g);
-    }
+terms-loop-again-4 t c = one-call (c .before .before .before .before .before .call .kept .1 .0) (c .before .before .before .before .before .call .ensures .at _ _ (c .before .r2 .given .1)) (c .before .before .before .before .before .before .before .before .before .before .before .before .leaves .ensures .more _ _ _ _ (c .before .before .before .before .before .before .before .before .before .before .before .before .before .before .loop .inv))
 
--- src/terms.rt:100:17
+-- src/terms.rt:140:17
 terms-enum-told-5 : (t : ℕ) → terms-lts.Need-enum-told-5 (
+  leaves-reads.Asked,
+  leaves-reads.Learnt,
   term-at-reads.Asked,
   term-at-reads.Learnt,
   span-from-reads.Asked,
@@ -1670,8 +1705,10 @@ terms-enum-told-5 : (t : ℕ) → terms-lts.Need-enum-told-5 (
 ) (terms-at t) terms.Post terms-Inv-loop terms-μ-loop
 terms-enum-told-5 t c = search needs
 
--- src/terms.rt:100:17
+-- src/terms.rt:140:17
 terms-taken-requires : (t : ℕ) → terms-lts.Need-taken-requires (
+  leaves-reads.Asked,
+  leaves-reads.Learnt,
   term-at-reads.Asked,
   term-at-reads.Learnt,
   span-from-reads.Asked,
@@ -1689,10 +1726,12 @@ terms-taken-requires : (t : ℕ) → terms-lts.Need-taken-requires (
   taken-reads.Asked,
   taken-reads.Learnt,
 ) (terms-at t) terms.Post terms-Inv-loop terms-μ-loop
-terms-taken-requires t c κs = c .before .before .before .loop .inv .ready
+terms-taken-requires t c κs = c .before .before .before .before .before .leaves .ensures .ready
 
--- src/terms.rt:100:17
+-- src/terms.rt:140:17
 terms-same-length-3 : (t : ℕ) → terms-lts.Need-same-length-3 (
+  leaves-reads.Asked,
+  leaves-reads.Learnt,
   term-at-reads.Asked,
   term-at-reads.Learnt,
   span-from-reads.Asked,
@@ -1712,8 +1751,10 @@ terms-same-length-3 : (t : ℕ) → terms-lts.Need-same-length-3 (
 ) (terms-at t) terms.Post terms-Inv-loop terms-μ-loop
 terms-same-length-3 t c = search needs
 
--- src/terms.rt:100:17
+-- src/terms.rt:140:17
 terms-returns-3 : (t : ℕ) → terms-lts.Need-returns-3 (
+  leaves-reads.Asked,
+  leaves-reads.Learnt,
   term-at-reads.Asked,
   term-at-reads.Learnt,
   span-from-reads.Asked,
@@ -1731,11 +1772,13 @@ terms-returns-3 : (t : ℕ) → terms-lts.Need-returns-3 (
   taken-reads.Asked,
   taken-reads.Learnt,
 ) (terms-at t) terms.Post terms-Inv-loop terms-μ-loop
-terms-returns-3 t c = let I = c .before .before .before .before .loop .inv in
+terms-returns-3 t c = let I = c .before .before .before .before .before .before .leaves .ensures .more _ _ _ _ (c .before .before .before .before .before .before .before .before .loop .inv) in
     is-no (c .taken .ensures) (λ x. I .means x ∙ term-step _ _ (I .ready) _ x (I .g) _ (sym (c .before .before .before .term-at .ensures) ∙ c .before .enum-told5 .given .1))
 
--- src/terms.rt:103:17
+-- src/terms.rt:143:17
 terms-enum-told-6 : (t : ℕ) → terms-lts.Need-enum-told-6 (
+  leaves-reads.Asked,
+  leaves-reads.Learnt,
   term-at-reads.Asked,
   term-at-reads.Learnt,
   span-from-reads.Asked,
@@ -1755,8 +1798,10 @@ terms-enum-told-6 : (t : ℕ) → terms-lts.Need-enum-told-6 (
 ) (terms-at t) terms.Post terms-Inv-loop terms-μ-loop
 terms-enum-told-6 t c = search needs
 
--- src/terms.rt:64:1
+-- src/terms.rt:96:1
 terms-same-length-4 : (t : ℕ) → terms-lts.Need-same-length-4 (
+  leaves-reads.Asked,
+  leaves-reads.Learnt,
   term-at-reads.Asked,
   term-at-reads.Learnt,
   span-from-reads.Asked,
@@ -1776,8 +1821,10 @@ terms-same-length-4 : (t : ℕ) → terms-lts.Need-same-length-4 (
 ) (terms-at t) terms.Post terms-Inv-loop terms-μ-loop
 terms-same-length-4 t c = search needs
 
--- src/terms.rt:64:1
+-- src/terms.rt:96:1
 terms-returns-4 : (t : ℕ) → terms-lts.Need-returns-4 (
+  leaves-reads.Asked,
+  leaves-reads.Learnt,
   term-at-reads.Asked,
   term-at-reads.Learnt,
   span-from-reads.Asked,
@@ -1795,7 +1842,7 @@ terms-returns-4 : (t : ℕ) → terms-lts.Need-returns-4 (
   taken-reads.Asked,
   taken-reads.Learnt,
 ) (terms-at t) terms.Post terms-Inv-loop terms-μ-loop
-terms-returns-4 t c = let I = c .before .before .before .loop .inv in
+terms-returns-4 t c = let I = c .before .before .before .before .before .leaves .ensures .more _ _ _ _ (c .before .before .before .before .before .before .before .loop .inv) in
     is-at refl (record {
       g = I .g;
       ready = I .ready;
@@ -1808,7 +1855,7 @@ terms-returns-4 t c = let I = c .before .before .before .loop .inv in
       means = I .means;
     })
 
--- src/terms.rt:115:9
+-- src/terms.rt:155:9
 until-terms-requires : (t : ℕ) → until-lts.Need-terms-requires (
   terms-below t,
   terms.Post,
@@ -1818,7 +1865,7 @@ until-terms-requires : (t : ℕ) → until-lts.Need-terms-requires (
 until-terms-requires t c κs = let pre₀ = c .before .before .before .pre .1 in
     (omega arith, (pre₀ .0, pre₀ .1))
 
--- src/terms.rt:116:17
+-- src/terms.rt:156:17
 until-enum-known-r : (t : ℕ) → until-lts.Need-enum-known-r (
   terms-below t,
   terms.Post,
@@ -1827,7 +1874,7 @@ until-enum-known-r : (t : ℕ) → until-lts.Need-enum-known-r (
 ) (until-at t) until.Post
 until-enum-known-r t c = search needs
 
--- src/terms.rt:117:9
+-- src/terms.rt:157:9
 until-enum-told : (t : ℕ) → until-lts.Need-enum-told (
   terms-below t,
   terms.Post,
@@ -1836,7 +1883,7 @@ until-enum-told : (t : ℕ) → until-lts.Need-enum-told (
 ) (until-at t) until.Post
 until-enum-told t c = search needs
 
--- src/terms.rt:117:9
+-- src/terms.rt:157:9
 until-same-length : (t : ℕ) → until-lts.Need-same-length (
   terms-below t,
   terms.Post,
@@ -1845,7 +1892,7 @@ until-same-length : (t : ℕ) → until-lts.Need-same-length (
 ) (until-at t) until.Post
 until-same-length t c = search needs
 
--- src/terms.rt:117:9
+-- src/terms.rt:157:9
 until-returns : (t : ℕ) → until-lts.Need-returns (
   terms-below t,
   terms.Post,
@@ -1854,7 +1901,7 @@ until-returns : (t : ℕ) → until-lts.Need-returns (
 ) (until-at t) until.Post
 until-returns t c = is-no (c .enum-told .given .1) (λ x st h. c .before .before .before .before .terms .ensures .no _ _ _ _ _ (c .enum-told .given .1) x)
 
--- src/terms.rt:119:5
+-- src/terms.rt:159:5
 until-closes-requires : (t : ℕ) → until-lts.Need-closes-requires (
   terms-below t,
   terms.Post,
@@ -1864,7 +1911,7 @@ until-closes-requires : (t : ℕ) → until-lts.Need-closes-requires (
 until-closes-requires t c κs = let pre₀ = c .before .before .before .before .before .before .before .before .before .pre .1 in
     let T = c .before .before .before .before .before .terms .ensures .at _ _ (c .before .r .given .1) in (T .ready, pre₀ .2)
 
--- src/terms.rt:111:1
+-- src/terms.rt:151:1
 until-same-length-2 : (t : ℕ) → until-lts.Need-same-length-2 (
   terms-below t,
   terms.Post,
@@ -1873,7 +1920,7 @@ until-same-length-2 : (t : ℕ) → until-lts.Need-same-length-2 (
 ) (until-at t) until.Post
 until-same-length-2 t c = search needs
 
--- src/terms.rt:111:1
+-- src/terms.rt:151:1
 until-returns-2 : (t : ℕ) → until-lts.Need-returns-2 (
   terms-below t,
   terms.Post,
@@ -1907,18 +1954,7 @@ until-returns-2 t c = let w = c .before .before .before .before .before .before 
     }
 
 pub +bracket+call+terms+until-spec : {M : Type 1} → statement M
-+bracket+call+terms+until-spec = close μ-bracket μ-call μ-terms μ-until (λ t. bracket-lts.spec (
-  present-reads.Asked,
-  present-reads.Learnt,
-  until-below t,
-  until.Post,
-  span-from-reads.Asked,
-  span-from-reads.Learnt,
-  end-before-reads.Asked,
-  end-before-reads.Learnt,
-  put-span-reads.Asked,
-  put-span-reads.Learnt,
-)
++bracket+call+terms+until-spec = close μ-bracket μ-call μ-terms μ-until (λ t. bracket-lts.spec (present-reads.Asked, present-reads.Learnt, until-below t, until.Post, span-from-reads.Asked, span-from-reads.Learnt, end-before-reads.Asked, end-before-reads.Learnt, put-span-reads.Asked, put-span-reads.Learnt)
     (bracket-at t)
     bracket.Post
     (bracket-present-requires t)
@@ -1980,6 +2016,8 @@ pub +bracket+call+terms+until-spec : {M : Type 1} → statement M
     (call-same-length-2 t)
     (call-returns-4 t))
     (λ t. terms-lts.spec (
+      leaves-reads.Asked,
+      leaves-reads.Learnt,
       term-at-reads.Asked,
       term-at-reads.Learnt,
       span-from-reads.Asked,
@@ -2002,6 +2040,7 @@ pub +bracket+call+terms+until-spec : {M : Type 1} → statement M
     terms-Inv-loop
     terms-μ-loop
     (terms-loop-holds t)
+    (terms-leaves-requires t)
     (terms-term-at-requires t)
     (terms-enum-known-t t)
     (terms-span-from-requires t)
