@@ -433,10 +433,9 @@ write-rows-write-rows-requires t c κs = let a = c .before .before .before .befo
     let e = c .before .before .before .before .before .before .before .before .before .before .before .before .before .before .before .before .before .before .pre .0 in
     let few : a .to ≤ 33554432 = c .before .before .before .before .before .before .before .before .before .before .before .before .before .before .before .before .before .before .pre .1 .2 in
     let long : 7 * a .to ≤ length (a .tree .now) = c .before .before .before .before .before .before .before .before .before .before .before .before .before .before .before .before .before .before .pre .1 .1 in
-    let n1 : g .i + 1 ≤ x .result = omega (arith, lo) in
     let n2 : 7 * x .result ≤ length (a .tree .now) = omega (arith, hi, long) in
     let n3 : x .result ≤ 33554432 = omega (arith, hi, few) in
-    (omega arith, (n1, n2, n3, s))
+    (omega arith, (omega (arith, lo), n2, n3, s))
 
 write-rows-add-filled : (t : ℕ) → write-rows-lts.Need-add-filled (
   kind-reads.Asked,
