@@ -17,7 +17,7 @@ ghost use Rattle.refal_writer.specs.Puts.{Puts};
 ghost use Rattle.refal_writer.specs.Token.{textOf};
 ghost use Rattle.refal_writer.specs.Walk.{Standing};
 ghost use Rattle.refal_writer.specs.Spellings.{rowSpelled};
-ghost use Rattle.refal_writer.specs.Windows.{Word, ahead};
+ghost use Rattle.refal_writer.specs.Windows.{Edge, Word, ahead};
 
 // How many bytes were put, and whether the text is a spelling.
 pub struct Put {
@@ -39,24 +39,24 @@ fn lead(kind: u32) -> usize
 }
 
 // The letter and a point, the first n bytes of the text from the place f on, a space.
-fn put_text(text: &[u8], f: usize, letter: u8, n: usize, out: &mut [u8]) -> usize
-    requires { ⌜ (f ≤ 2) × (1 ≤ n) × (n ≤ 16) × (16 ≤ length (now text)) × (19 ≤ length (now out)) ⌝ }
+fn put_text(edge: &[u8], text: &[u8], f: usize, letter: u8, n: usize, out: &mut [u8]) -> usize
+    requires { ⌜ (f ≤ 2) × (1 ≤ n) × (n ≤ 16) × (16 ≤ length (now text)) × (19 ≤ length (now out)) × Edge (now edge) ⌝ }
     ensures { λ r. ⌜ Puts ((take f (letter ∷ 46 ∷ []) ++ take n (now (text .entry))) ++ 32 ∷ []) r (now (out .entry)) (now (out .exit)) × (r ≤ 19) ⌝ }
 {
     out[0] = letter;
     out[1] = 46;
-    copy16(text, n, &mut out[f..]);
+    copy16(edge, text, n, &mut out[f..]);
     let e = f + n;
     out[e] = 32;
     e + 1
 }
 
 // A name or an index of n bytes at the front of the text.
-fn is_word(text: &[u8], kind: u32, n: usize) -> bool
-    requires { ⌜ (16 ≤ length (now text)) × (n ≤ 16) ⌝ }
+fn is_word(edge: &[u8], text: &[u8], kind: u32, n: usize) -> bool
+    requires { ⌜ (16 ≤ length (now text)) × (n ≤ 16) × Edge (now edge) ⌝ }
     ensures { λ r. ⌜ (r ≡ true → Word (now (text .entry)) kind n) ⌝ }
 {
-    let names = names16(text, n);
+    let names = names16(edge, text, n);
     let first = (kind == 12) | is_upper(text[0]);
     let few = (1 <= n) & (n <= 15);
     let other = (kind == 10) | (kind == 11);
@@ -64,13 +64,13 @@ fn is_word(text: &[u8], kind: u32, n: usize) -> bool
 }
 
 // The test for refusal 41, where sixteen bytes stand in the source from the text's start on.
-fn word_spelled(src: &[u8], kind: u32, detail: u32, start: u32, len: u32) -> bool
-    requires { ⌜ (start + 16 ≤ length (now src)) × (len ≤ 16) ⌝ }
+fn word_spelled(edge: &[u8], src: &[u8], kind: u32, detail: u32, start: u32, len: u32) -> bool
+    requires { ⌜ (start + 16 ≤ length (now src)) × (len ≤ 16) × Edge (now edge) ⌝ }
     ensures { λ r. ⌜ r ≡ rowSpelled (now (src .entry)) kind detail start len ⌝ }
 {
     let s = start as usize;
     let n = len as usize;
-    if is_word(&src[s..], kind, n) {
+    if is_word(edge, &src[s..], kind, n) {
         return true;
     }
     row_spelled(src, kind, detail, start, len)
@@ -84,9 +84,10 @@ pub fn open(
     detail: u32,
     start: u32,
     len: u32,
+    edge: &[u8],
     out: &mut [u8],
 ) -> Put
-    requires { ⌜ Standing kind detail ⌝ }
+    requires { ⌜ Standing kind detail × Edge (now edge) ⌝ }
     ensures { λ r. ⌜ Puts (textOf (now (src .entry)) (opening st (row kind detail start len 0 0))) (r .len) (now (out .entry)) (now (out .exit)) × (r .len ≤ 8589934710) × (r .good ≡ rowSpelled (now (src .entry)) kind detail start len) ⌝ }
 {
     if kind == 11 {
@@ -101,8 +102,8 @@ pub fn open(
     let near = ((1 <= n) & (n <= 16)) & (s + 16 <= src.len());
     let short = ((9 <= kind) & (kind <= 12)) & (near & (19 <= out.len()));
     if short {
-        let good = word_spelled(src, kind, detail, start, len);
-        let k = put_text(&src[s..], lead(kind), low(detail), n, out);
+        let good = word_spelled(edge, src, kind, detail, start, len);
+        let k = put_text(edge, &src[s..], lead(kind), low(detail), n, out);
         return Put { len: k, good };
     }
     let k = write_opening(src, st, kind, detail, start, len, out);

@@ -39,7 +39,8 @@ pub fn write(tree: &[u32], src: &[u8], out: &mut [u8]) -> Answer
     }
     let room = out.len();
     let rows = tree.len() / 7;
-    let all = walk::write_rows(tree, src, 0, rows, 1, out);
+    let edge = b"11111111111111110000000000000000";
+    let all = walk::write_rows(tree, src, 0, rows, 1, edge, out);
     if !all.good {
         refal_rows::clear_bytes(out);
         return refused(41, 0);

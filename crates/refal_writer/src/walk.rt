@@ -15,6 +15,7 @@ ghost use Rattle.refal_writer.specs.Token.{textOf};
 ghost use Rattle.refal_tree.specs.Walk.{flatAt};
 ghost use Rattle.refal_writer.specs.Walk.{Standing, Walks};
 ghost use Rattle.refal_writer.specs.SpelledRows.{spelledRow, spelledRows};
+ghost use Rattle.refal_writer.specs.Windows.{Edge};
 
 fn wide(x: u32) -> usize
     ensures { λ r. ⌜ r ≡ x ⌝ }
@@ -40,8 +41,8 @@ fn kind(tree: &[u32], i: usize) -> u32
 }
 
 // What stands before the children of row i.
-fn open_row(tree: &[u32], src: &[u8], i: usize, st: u32, out: &mut [u8]) -> Put
-    requires { ⌜ (7 * i + 6 < length (now tree)) × Standing (getD (now tree) (7 * i) 0) (getD (now tree) (7 * i + 1) 0) ⌝ }
+fn open_row(tree: &[u32], src: &[u8], i: usize, st: u32, edge: &[u8], out: &mut [u8]) -> Put
+    requires { ⌜ (7 * i + 6 < length (now tree)) × Standing (getD (now tree) (7 * i) 0) (getD (now tree) (7 * i + 1) 0) × Edge (now edge) ⌝ }
     ensures { λ r. ⌜ Puts (textOf (now (src .entry)) (opening st (rowAt (now (tree .entry)) i))) (r .len) (now (out .entry)) (now (out .exit)) × (r .len ≤ 8589934710) × (r .good ≡ spelledRow (now (src .entry)) (now (tree .entry)) i) ⌝ }
 {
     let at = 7 * i;
@@ -52,6 +53,7 @@ fn open_row(tree: &[u32], src: &[u8], i: usize, st: u32, out: &mut [u8]) -> Put
         tree[at + 1],
         tree[at + 2],
         tree[at + 3],
+        edge,
         out,
     )
 }
@@ -64,9 +66,10 @@ pub fn write_rows(
     from: usize,
     to: usize,
     start: u32,
+    edge: &[u8],
     out: &mut [u8],
 ) -> Put
-    requires { ⌜ (from ≤ to) × (7 * to ≤ length (now tree)) × (to ≤ 33554432) × Walks (now tree) from to start ⌝ }
+    requires { ⌜ (from ≤ to) × (7 * to ≤ length (now tree)) × (to ≤ 33554432) × Walks (now tree) from to start × Edge (now edge) ⌝ }
     ensures { λ r. ⌜ Puts (textOf (now (src .entry)) (flatAt (now (tree .entry)) from to start)) (r .len) (now (out .entry)) (now (out .exit)) × (r .len + from * 17179869184 ≤ to * 17179869184) × (r .good ≡ spelledRows (now (src .entry)) (now (tree .entry)) from to) ⌝ }
 {
     let mut i = from;
@@ -77,7 +80,7 @@ pub fn write_rows(
         let k = kind(tree, i);
         let first = i + 1;
         let p = least(at, out.len());
-        let a = open_row(tree, src, i, st, &mut out[p..]);
+        let a = open_row(tree, src, i, st, edge, &mut out[p..]);
         let opened = at + a.len;
         let here = good & a.good;
         let leaf = (9 <= k) & (k <= 12);
@@ -88,7 +91,7 @@ pub fn write_rows(
         } else {
             let end = next(tree, i);
             let q = least(opened, out.len());
-            let b = write_rows(tree, src, first, end, inside(k), &mut out[q..]);
+            let b = write_rows(tree, src, first, end, inside(k), edge, &mut out[q..]);
             let filled = opened + b.len;
             good = here & b.good;
             let s = least(filled, out.len());

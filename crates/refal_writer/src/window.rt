@@ -26,7 +26,8 @@ fn pick(t: bool, a: u8, b: u8) -> u8
     if t { a } else { b }
 }
 
-fn copy_by(edge: &[u8], src: &[u8], n: usize, out: &mut [u8])
+// The first n bytes of src, copied to the front of out: the bytes after them are put back as they were.
+pub fn copy16(edge: &[u8], src: &[u8], n: usize, out: &mut [u8])
     requires { ⌜ (16 ≤ length (now src)) × (16 ≤ length (now out)) × (n ≤ 16) × Edge (now edge) ⌝ }
     ensures { λ _. ⌜ now (out .exit) ≡ take n (now (src .entry)) ++ drop n (now (out .entry)) ⌝ }
 {
@@ -43,15 +44,8 @@ fn copy_by(edge: &[u8], src: &[u8], n: usize, out: &mut [u8])
     }
 }
 
-// The first n bytes of src, copied to the front of out: the bytes after them are put back as they were.
-pub fn copy16(src: &[u8], n: usize, out: &mut [u8])
-    requires { ⌜ (16 ≤ length (now src)) × (16 ≤ length (now out)) × (n ≤ 16) ⌝ }
-    ensures { λ _. ⌜ now (out .exit) ≡ take n (now (src .entry)) ++ drop n (now (out .entry)) ⌝ }
-{
-    copy_by(b"11111111111111110000000000000000", src, n, out);
-}
-
-fn names_by(edge: &[u8], word: &[u8], n: usize) -> bool
+// Whether the first n bytes are bytes of names.
+pub fn names16(edge: &[u8], word: &[u8], n: usize) -> bool
     requires { ⌜ (16 ≤ length (now word)) × (n ≤ 16) × Edge (now edge) ⌝ }
     ensures { λ r. ⌜ (r ≡ true → AllNames (now (word .entry)) n) ⌝ }
 {
@@ -62,12 +56,4 @@ fn names_by(edge: &[u8], word: &[u8], n: usize) -> bool
         i += 1;
     }
     good
-}
-
-// Whether the first n bytes are bytes of names.
-pub fn names16(word: &[u8], n: usize) -> bool
-    requires { ⌜ (16 ≤ length (now word)) × (n ≤ 16) ⌝ }
-    ensures { λ r. ⌜ (r ≡ true → AllNames (now (word .entry)) n) ⌝ }
-{
-    names_by(b"11111111111111110000000000000000", word, n)
 }

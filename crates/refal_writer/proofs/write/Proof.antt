@@ -3,6 +3,7 @@ use native.Mathlib.Omega.{arith}
 use Prim.Native.Nat.{ℕ}
 use mathlib.Core.Path.{ap, sym, _∙_}
 use lib.ListN.{replicate}
+use Rattle.refal_writer.specs.Windows.{edge, edge-rule}
 use borrow.Author.Tests.{not-true, not-false}
 use Rattle.refal_writer.specs.Puts.{puts-as}
 use Rattle.refal_writer.specs.WriteLaws.{lawful-few, lawful-walks, written-is, all-spelled, unlawful, misspelled, too-long, done}
@@ -34,9 +35,10 @@ returns c = let a = c .before .before .before .before .before .before .before .b
     (c .refused .ensures ∙ d .answer, d .bytes)
 
 write-rows-requires : tie.Need-write-rows-requires
-write-rows-requires c κs = let w = c .before .before .before .before .before .before .args .tree .now in
-    let h = sym (c .before .before .lawful .ensures) ∙ not-false _ (c .before .if1 .left) in
-    (omega arith, omega arith, lawful-few w (c .before .before .before .before .before .before .args .src .now) h, lawful-walks w (c .before .before .before .before .before .before .args .src .now) h)
+unfolding edge
+write-rows-requires c κs = let w = c .before .before .before .before .before .before .before .before .args .tree .now in
+    let h = sym (c .before .before .before .before .lawful .ensures) ∙ not-false _ (c .before .before .before .if1 .left) in
+    (omega arith, omega arith, lawful-few w (c .before .before .before .before .before .before .before .before .args .src .now) h, lawful-walks w (c .before .before .before .before .before .before .before .before .args .src .now) h, edge-rule)
 
 clear-bytes-requires-2 : tie.Need-clear-bytes-requires-2
 clear-bytes-requires-2 c κs = search needs
@@ -48,18 +50,18 @@ same-length-2 : tie.Need-same-length-2
 same-length-2 c = search needs
 
 returns-2 : tie.Need-returns-2
-returns-2 c = let a = c .before .before .before .before .before .before .before .before .before .before .before .before .before .before .before .before .args in
-    let h = sym (c .before .before .before .before .before .before .before .before .before .before .before .before .lawful .ensures) ∙ not-false _ (c .before .before .before .before .before .before .before .before .before .before .before .if1 .left) in
+returns-2 c = let a = c .before .before .before .before .before .before .before .before .before .before .before .before .before .before .before .before .before .before .args in
+    let h = sym (c .before .before .before .before .before .before .before .before .before .before .before .before .before .before .lawful .ensures) ∙ not-false _ (c .before .before .before .before .before .before .before .before .before .before .before .before .before .if1 .left) in
     let s = sym (all-spelled (a .tree .now) (a .src .now) h) ∙ sym (c .before .before .before .before .before .before .before .before .before .write-rows .ensures .2) ∙ not-true _ (c .before .before .before .before .before .if2 .taken) in
-    let d = misspelled (a .tree .now) (a .src .now) (a .out .now) _ h s (c .before .before .before .clear-bytes2 .ensures ∙ ap (λ (k : ℕ). replicate k 0) (c .before .before .before .before .before .before .before .before .before .write-rows .kept .1 .1 .1 .1 .1 .0)) in
+    let d = misspelled (a .tree .now) (a .src .now) (a .out .now) _ h s (c .before .before .before .clear-bytes2 .ensures ∙ ap (λ (k : ℕ). replicate k 0) (c .before .before .before .before .before .before .before .before .before .write-rows .kept .1 .1 .1 .1 .1 .1 .0)) in
     (c .refused2 .ensures ∙ d .answer, d .bytes)
 
 same-length-3 : tie.Need-same-length-3
 same-length-3 c = search needs
 
 returns-3 : tie.Need-returns-3
-returns-3 c = let a = c .before .before .before .before .before .before .before .before .before .before .before .before .args in
-    let h = sym (c .before .before .before .before .before .before .before .before .lawful .ensures) ∙ not-false _ (c .before .before .before .before .before .before .before .if1 .left) in
+returns-3 c = let a = c .before .before .before .before .before .before .before .before .before .before .before .before .before .before .args in
+    let h = sym (c .before .before .before .before .before .before .before .before .before .before .lawful .ensures) ∙ not-false _ (c .before .before .before .before .before .before .before .before .before .if1 .left) in
     let s = sym (all-spelled (a .tree .now) (a .src .now) h) ∙ sym (c .before .before .before .before .before .write-rows .ensures .2) ∙ not-false _ (c .before .if2 .left) in
     let e = written-is (a .tree .now) (a .src .now) h in
     let p = puts-as _ _ e (c .before .before .before .before .before .write-rows .ensures .0) in
@@ -76,12 +78,12 @@ same-length-4 : tie.Need-same-length-4
 same-length-4 c = search needs
 
 returns-4 : tie.Need-returns-4
-returns-4 c = let a = c .before .before .before .before .before .before .before .before .before .before .before .before .before .before .before .before .before .args in
-    let h = sym (c .before .before .before .before .before .before .before .before .before .before .before .before .before .lawful .ensures) ∙ not-false _ (c .before .before .before .before .before .before .before .before .before .before .before .before .if1 .left) in
+returns-4 c = let a = c .before .before .before .before .before .before .before .before .before .before .before .before .before .before .before .before .before .before .before .args in
+    let h = sym (c .before .before .before .before .before .before .before .before .before .before .before .before .before .before .before .lawful .ensures) ∙ not-false _ (c .before .before .before .before .before .before .before .before .before .before .before .before .before .before .if1 .left) in
     let s = sym (all-spelled (a .tree .now) (a .src .now) h) ∙ sym (c .before .before .before .before .before .before .before .before .before .before .write-rows .ensures .2) ∙ not-false _ (c .before .before .before .before .before .before .if2 .left) in
     let e = written-is (a .tree .now) (a .src .now) h in
     let p = puts-as _ _ e (c .before .before .before .before .before .before .before .before .before .before .write-rows .ensures .0) in
-    let d = too-long (a .tree .now) (a .src .now) (a .out .now) _ (c .before .before .before .before .before .before .before .before .before .before .write-rows .result .len) h s (p .count) (c .before .before .before .before .before .if3 .left) (c .before .before .before .clear-bytes3 .ensures ∙ ap (λ (k : ℕ). replicate k 0) (c .before .before .before .before .before .before .before .before .before .before .write-rows .kept .1 .1 .1 .1 .1 .0)) in
+    let d = too-long (a .tree .now) (a .src .now) (a .out .now) _ (c .before .before .before .before .before .before .before .before .before .before .write-rows .result .len) h s (p .count) (c .before .before .before .before .before .if3 .left) (c .before .before .before .clear-bytes3 .ensures ∙ ap (λ (k : ℕ). replicate k 0) (c .before .before .before .before .before .before .before .before .before .before .write-rows .kept .1 .1 .1 .1 .1 .1 .0)) in
     (c .refused3 .ensures ∙ d .answer, d .bytes)
 
 pub write-spec : {M : Type 1} → statement M

@@ -18,7 +18,7 @@ is-upper-requires : tie.Need-is-upper-requires
 is-upper-requires c κs = search needs
 
 returns : tie.Need-returns
-returns c = word-of (c .before .before .before .before .args .text .now) (c .before .before .before .before .args .kind) (c .before .before .before .before .args .n) (c .before .before .names16 .result) (c .is-upper .result) (c .before .before .names16 .ensures) (c .is-upper .ensures)
+returns c = word-of (c .before .before .before .before .before .args .text .now) (c .before .before .before .before .before .args .kind) (c .before .before .before .before .before .args .n) (c .before .before .names16 .result) (c .is-upper .result) (c .before .before .names16 .ensures) (c .is-upper .ensures)
 
 pub is-word-spec : {M : Type 1} → statement M
 is-word-spec =

@@ -19,10 +19,10 @@ part-is-word-end : tie.Need-part-is-word-end
 part-is-word-end c = search needs
 
 is-word-requires : tie.Need-is-word-requires
-is-word-requires c κs = (rest-room (c .before .before .args .src .now) (c .before .before .args .start) (c .before .before .pre .0), c .before .before .pre .1)
+is-word-requires c κs = (rest-room (c .before .before .before .args .src .now) (c .before .before .before .args .start) (c .before .before .before .pre .0), c .before .before .before .pre .1, c .before .before .before .pre .2)
 
 returns : tie.Need-returns
-returns c = let a = c .before .before .before .before .args in
+returns c = let a = c .before .before .before .before .before .args in
     word-spelled (a .src .now) (a .kind) (a .detail) (a .start) (a .len) (omega arith) (rest-word (a .src .now) (a .start) (a .kind) (a .len) (c .before .is-word .ensures (c .if1 .taken)))
 
 row-spelled-requires : tie.Need-row-spelled-requires

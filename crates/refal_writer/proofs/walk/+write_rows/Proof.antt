@@ -29,22 +29,22 @@ use Rattle.refal_writer.proofs.walk.open_row.Reads as open-row-reads
 use Rattle.refal_writer.proofs.walk.+write_rows.{statement}
 use Rattle.refal_writer.proofs.walk.+write_rows.Tie.{close}
 
-abbrev μ-write-rows : Measures 3 write-rows-kinds.ps ℕ
+abbrev μ-write-rows : Measures 4 write-rows-kinds.ps ℕ
 μ-write-rows κs a = a .1 .1 .1 .0 - a .1 .1 .0
 
-abbrev write-rows-at : ℕ → In 3 write-rows-kinds.ps
+abbrev write-rows-at : ℕ → In 4 write-rows-kinds.ps
 write-rows-at t =
-    and 3 write-rows-kinds.ps (is 3 write-rows-kinds.ps μ-write-rows t) write-rows.Pre
+    and 4 write-rows-kinds.ps (is 4 write-rows-kinds.ps μ-write-rows t) write-rows.Pre
 
-abbrev write-rows-below : ℕ → In 3 write-rows-kinds.ps
+abbrev write-rows-below : ℕ → In 4 write-rows-kinds.ps
 write-rows-below t =
-    and 3 write-rows-kinds.ps (falls 3 write-rows-kinds.ps _<_ μ-write-rows t) write-rows.Pre
+    and 4 write-rows-kinds.ps (falls 4 write-rows-kinds.ps _<_ μ-write-rows t) write-rows.Pre
 
 abbrev write-rows-Inv-loop : write-rows-lts.InvT-loop
-write-rows-Inv-loop tree src from to start out₀ i₀ st₀ at₀ good₀ out i st at good = (from ≤ i) × (i ≤ to) × (length out ≡ length out₀) × (at + from * widest ≤ i * widest) × Walks tree i to st × Pours (textOf src (flatAt tree from to start)) (textOf src (flatAt tree i to st)) at out out₀ × (spelledRows src tree from to ≡ good && spelledRows src tree i to)
+write-rows-Inv-loop tree src from to start edge out₀ i₀ st₀ at₀ good₀ out i st at good = (from ≤ i) × (i ≤ to) × (length out ≡ length out₀) × (at + from * widest ≤ i * widest) × Walks tree i to st × Pours (textOf src (flatAt tree from to start)) (textOf src (flatAt tree i to st)) at out out₀ × (spelledRows src tree from to ≡ good && spelledRows src tree i to)
 
 abbrev write-rows-μ-loop : write-rows-lts.MeasureT-loop
-write-rows-μ-loop tree src from to start out₀ i₀ st₀ at₀ good₀ out i st at good = to - i
+write-rows-μ-loop tree src from to start edge out₀ i₀ st₀ at₀ good₀ out i st at good = to - i
 
 write-rows-loop-holds : (t : ℕ) → write-rows-lts.Need-loop-holds (
   kind-reads.Asked,
@@ -64,7 +64,7 @@ write-rows-loop-holds : (t : ℕ) → write-rows-lts.Need-loop-holds (
   after-reads.Asked,
   after-reads.Learnt,
 ) (write-rows-at t) write-rows.Post write-rows-Inv-loop write-rows-μ-loop
-write-rows-loop-holds t c = (omega arith, c .before .before .before .pre .1 .0, refl, omega arith, c .before .before .before .pre .1 .3, pours-start _ _, refl)
+write-rows-loop-holds t c = (omega arith, c .before .before .before .before .pre .1 .0, refl, omega arith, c .before .before .before .before .pre .1 .3, pours-start _ _, refl)
 
 write-rows-kind-requires : (t : ℕ) → write-rows-lts.Need-kind-requires (
   kind-reads.Asked,
@@ -204,11 +204,11 @@ write-rows-open-row-requires : (t : ℕ) → write-rows-lts.Need-open-row-requir
   after-reads.Asked,
   after-reads.Learnt,
 ) (write-rows-at t) write-rows.Post write-rows-Inv-loop write-rows-μ-loop
-write-rows-open-row-requires t c κs = let a = c .before .before .before .before .before .before .before .before .args in
+write-rows-open-row-requires t c κs = let a = c .before .before .before .before .before .before .before .before .before .args in
     let g = c .before .before .before .before .loop in
     let m : g .i < a .to = c .before .before .before .loop-test .taken in
     let k = c .before .before .kind in
-    (omega arith, walk-row (a .tree .now) (g .i) (a .to) (g .st) (k .result) _ (k .ensures) refl (c .before .before .before .before .before .before .before .before .pre .1 .1) m (g .inv .4))
+    (omega arith, walk-row (a .tree .now) (g .i) (a .to) (g .st) (k .result) _ (k .ensures) refl (c .before .before .before .before .before .before .before .before .before .pre .1 .1) m (g .inv .4), c .before .before .before .before .before .before .before .before .before .pre .1 .4)
 
 write-rows-add-opened : (t : ℕ) → write-rows-lts.Need-add-opened (
   kind-reads.Asked,
@@ -248,7 +248,7 @@ write-rows-loop-less : (t : ℕ) → write-rows-lts.Need-loop-less (
   after-reads.Asked,
   after-reads.Learnt,
 ) (write-rows-at t) write-rows.Post write-rows-Inv-loop write-rows-μ-loop
-write-rows-loop-less t c = let a = c .before .before .before .before .before .before .before .before .before .before .before .before .before .before .args in
+write-rows-loop-less t c = let a = c .before .before .before .before .before .before .before .before .before .before .before .before .before .before .before .args in
     let g = c .before .before .before .before .before .before .before .before .before .before .loop in
     let m : g .i < a .to = c .before .before .before .before .before .before .before .before .before .loop-test .taken in
     omega arith
@@ -271,16 +271,16 @@ write-rows-loop-again : (t : ℕ) → write-rows-lts.Need-loop-again (
   after-reads.Asked,
   after-reads.Learnt,
 ) (write-rows-at t) write-rows.Post write-rows-Inv-loop write-rows-μ-loop
-write-rows-loop-again t c = let a = c .before .before .before .before .before .before .before .before .before .before .before .before .before .before .args in
+write-rows-loop-again t c = let a = c .before .before .before .before .before .before .before .before .before .before .before .before .before .before .before .args in
     let g = c .before .before .before .before .before .before .before .before .before .before .loop in
     let m : g .i < a .to = c .before .before .before .before .before .before .before .before .before .loop-test .taken in
     let k = c .before .before .before .before .before .before .before .before .kind in
     let o = c .before .before .before .before .before .open-row in
-    let rest = leaf-rest (a .tree .now) (g .i) (a .to) (g .st) (k .result) (k .ensures) (c .if1 .taken) (c .before .before .before .before .before .before .before .before .before .before .before .before .before .before .pre .1 .1) m (g .inv .4) in
+    let rest = leaf-rest (a .tree .now) (g .i) (a .to) (g .st) (k .result) (k .ensures) (c .if1 .taken) (c .before .before .before .before .before .before .before .before .before .before .before .before .before .before .before .pre .1 .1) m (g .inv .4) in
     let T : List ℕ = textOf (a .src .now) (flatAt (a .tree .now) (a .from) (a .to) (a .start)) in
-    let p = subst (λ (r : List ℕ). Pours T r (g .at) (g .out) (a .out .now)) (leaf-text (a .tree .now) (g .i) (a .to) (g .st) (k .result) (k .ensures) (c .if1 .taken) (c .before .before .before .before .before .before .before .before .before .before .before .before .before .before .pre .1 .1) m (g .inv .4) (a .src .now)) (g .inv .5) in
+    let p = subst (λ (r : List ℕ). Pours T r (g .at) (g .out) (a .out .now)) (leaf-text (a .tree .now) (g .i) (a .to) (g .st) (k .result) (k .ensures) (c .if1 .taken) (c .before .before .before .before .before .before .before .before .before .before .before .before .before .before .before .pre .1 .1) m (g .inv .4) (a .src .now)) (g .inv .5) in
     let p1 = pours-on _ _ _ _ _ _ _ _ _ p (g .inv .2) (c .before .before .before .before .before .before .before .least .ensures) (o .ensures .0) in
-    let s = spelled-leaf (a .src .now) (a .tree .now) _ (g .good) (o .result .good) (g .i) (a .to) (g .inv .6) (o .ensures .2) m (c .before .before .before .before .before .before .before .before .before .before .before .before .before .before .pre .1 .1) in
+    let s = spelled-leaf (a .src .now) (a .tree .now) _ (g .good) (o .result .good) (g .i) (a .to) (g .inv .6) (o .ensures .2) m (c .before .before .before .before .before .before .before .before .before .before .before .before .before .before .before .pre .1 .1) in
     (omega arith, omega arith, c .before .before .before .before .out .given .1 ∙ g .inv .2, leaf-small (a .from) (g .i) (g .at) (o .result .len) (g .inv .3) (o .ensures .1), rest, p1, s)
 
 write-rows-next-requires : (t : ℕ) → write-rows-lts.Need-next-requires (
@@ -421,21 +421,21 @@ write-rows-write-rows-requires : (t : ℕ) → write-rows-lts.Need-write-rows-re
   after-reads.Asked,
   after-reads.Learnt,
 ) (write-rows-at t) write-rows.Post write-rows-Inv-loop write-rows-μ-loop
-write-rows-write-rows-requires t c κs = let a = c .before .before .before .before .before .before .before .before .before .before .before .before .before .before .before .before .before .before .args in
+write-rows-write-rows-requires t c κs = let a = c .before .before .before .before .before .before .before .before .before .before .before .before .before .before .before .before .before .before .before .args in
     let g = c .before .before .before .before .before .before .before .before .before .before .before .before .before .before .loop in
     let m : g .i < a .to = c .before .before .before .before .before .before .before .before .before .before .before .before .before .loop-test .taken in
     let k = c .before .before .before .before .before .before .before .before .before .before .before .before .kind in
     let x = c .before .before .before .next in
-    let lo = walk-low (a .tree .now) (g .i) (a .to) (g .st) (k .result) (x .result) (k .ensures) (x .ensures) (c .before .before .before .before .before .before .before .before .before .before .before .before .before .before .before .before .before .before .pre .1 .1) m (g .inv .4) in
-    let hi = walk-high (a .tree .now) (g .i) (a .to) (g .st) (k .result) (x .result) (k .ensures) (x .ensures) (c .before .before .before .before .before .before .before .before .before .before .before .before .before .before .before .before .before .before .pre .1 .1) m (g .inv .4) in
-    let s = walk-kids (a .tree .now) (g .i) (a .to) (g .st) (k .result) (x .result) (k .ensures) (x .ensures) (c .before .before .before .before .before .before .before .before .before .before .before .before .before .before .before .before .before .before .pre .1 .1) m (g .inv .4) (c .before .inside .result) (after (g .st) (k .result)) (c .before .inside .ensures) refl in
+    let lo = walk-low (a .tree .now) (g .i) (a .to) (g .st) (k .result) (x .result) (k .ensures) (x .ensures) (c .before .before .before .before .before .before .before .before .before .before .before .before .before .before .before .before .before .before .before .pre .1 .1) m (g .inv .4) in
+    let hi = walk-high (a .tree .now) (g .i) (a .to) (g .st) (k .result) (x .result) (k .ensures) (x .ensures) (c .before .before .before .before .before .before .before .before .before .before .before .before .before .before .before .before .before .before .before .pre .1 .1) m (g .inv .4) in
+    let s = walk-kids (a .tree .now) (g .i) (a .to) (g .st) (k .result) (x .result) (k .ensures) (x .ensures) (c .before .before .before .before .before .before .before .before .before .before .before .before .before .before .before .before .before .before .before .pre .1 .1) m (g .inv .4) (c .before .inside .result) (after (g .st) (k .result)) (c .before .inside .ensures) refl in
     let d : x .result - (g .i + 1) < a .to - a .from = rows-fall (a .from) (g .i) (x .result) (a .to) (g .inv .0) lo hi in
-    let e = c .before .before .before .before .before .before .before .before .before .before .before .before .before .before .before .before .before .before .pre .0 in
-    let few : a .to ≤ 33554432 = c .before .before .before .before .before .before .before .before .before .before .before .before .before .before .before .before .before .before .pre .1 .2 in
-    let long : 7 * a .to ≤ length (a .tree .now) = c .before .before .before .before .before .before .before .before .before .before .before .before .before .before .before .before .before .before .pre .1 .1 in
+    let e = c .before .before .before .before .before .before .before .before .before .before .before .before .before .before .before .before .before .before .before .pre .0 in
+    let few : a .to ≤ 33554432 = c .before .before .before .before .before .before .before .before .before .before .before .before .before .before .before .before .before .before .before .pre .1 .2 in
+    let long : 7 * a .to ≤ length (a .tree .now) = c .before .before .before .before .before .before .before .before .before .before .before .before .before .before .before .before .before .before .before .pre .1 .1 in
     let n2 : 7 * x .result ≤ length (a .tree .now) = omega (arith, hi, long) in
     let n3 : x .result ≤ 33554432 = omega (arith, hi, few) in
-    (omega arith, (omega (arith, lo), n2, n3, s))
+    (omega arith, (omega (arith, lo), n2, n3, s, c .before .before .before .before .before .before .before .before .before .before .before .before .before .before .before .before .before .before .before .pre .1 .4))
 
 write-rows-add-filled : (t : ℕ) → write-rows-lts.Need-add-filled (
   kind-reads.Asked,
@@ -455,7 +455,7 @@ write-rows-add-filled : (t : ℕ) → write-rows-lts.Need-add-filled (
   after-reads.Asked,
   after-reads.Learnt,
 ) (write-rows-at t) write-rows.Post write-rows-Inv-loop write-rows-μ-loop
-write-rows-add-filled t c = let a = c .before .before .before .before .before .before .before .before .before .before .before .before .before .before .before .before .before .before .before .before .before .before .args in
+write-rows-add-filled t c = let a = c .before .before .before .before .before .before .before .before .before .before .before .before .before .before .before .before .before .before .before .before .before .before .before .args in
     let g = c .before .before .before .before .before .before .before .before .before .before .before .before .before .before .before .before .before .before .loop in
     let m : g .i < a .to = c .before .before .before .before .before .before .before .before .before .before .before .before .before .before .before .before .before .loop-test .taken in
     let k = c .before .before .before .before .before .before .before .before .before .before .before .before .before .before .before .before .kind in
@@ -463,7 +463,7 @@ write-rows-add-filled t c = let a = c .before .before .before .before .before .b
     let o = c .before .before .before .before .before .before .before .before .before .before .before .before .before .open-row in
     let r = c .before .before .before .write-rows in
     let f = filled-small (a .from) (g .i) (x .result) (a .to) (g .at) (o .result .len) (r .result .len) (g .inv .3) (o .ensures .1) (r .ensures .1) (walk-high (a .tree .now) (g .i) (a .to) (g .st) (k .result) (x .result) (k .ensures) (x .ensures)
-    (c .before .before .before .before .before .before .before .before .before .before .before .before .before .before .before .before .before .before .before .before .before .before .pre .1 .1) m (g .inv .4)) (c .before .before .before .before .before .before .before .before .before .before .before .before .before .before .before .before .before .before .before .before .before .before .pre .1 .2) in
+    (c .before .before .before .before .before .before .before .before .before .before .before .before .before .before .before .before .before .before .before .before .before .before .before .pre .1 .1) m (g .inv .4)) (c .before .before .before .before .before .before .before .before .before .before .before .before .before .before .before .before .before .before .before .before .before .before .before .pre .1 .2) in
     search needs
 
 write-rows-least-requires-3 : (t : ℕ) → write-rows-lts.Need-least-requires-3 (
@@ -584,7 +584,7 @@ write-rows-add-at : (t : ℕ) → write-rows-lts.Need-add-at (
   after-reads.Asked,
   after-reads.Learnt,
 ) (write-rows-at t) write-rows.Post write-rows-Inv-loop write-rows-μ-loop
-write-rows-add-at t c = let a = c .before .before .before .before .before .before .before .before .before .before .before .before .before .before .before .before .before .before .before .before .before .before .before .before .before .before .before .before .args in
+write-rows-add-at t c = let a = c .before .before .before .before .before .before .before .before .before .before .before .before .before .before .before .before .before .before .before .before .before .before .before .before .before .before .before .before .before .args in
     let g = c .before .before .before .before .before .before .before .before .before .before .before .before .before .before .before .before .before .before .before .before .before .before .before .before .loop in
     let m : g .i < a .to = c .before .before .before .before .before .before .before .before .before .before .before .before .before .before .before .before .before .before .before .before .before .before .before .loop-test .taken in
     let k = c .before .before .before .before .before .before .before .before .before .before .before .before .before .before .before .before .before .before .before .before .before .before .kind in
@@ -592,8 +592,8 @@ write-rows-add-at t c = let a = c .before .before .before .before .before .befor
     let o = c .before .before .before .before .before .before .before .before .before .before .before .before .before .before .before .before .before .before .before .open-row in
     let r = c .before .before .before .before .before .before .before .before .before .write-rows in
     let f = filled-small (a .from) (g .i) (x .result) (a .to) (g .at) (o .result .len) (r .result .len) (g .inv .3) (o .ensures .1) (r .ensures .1) (walk-high (a .tree .now) (g .i) (a .to) (g .st) (k .result) (x .result) (k .ensures) (x .ensures)
-    (c .before .before .before .before .before .before .before .before .before .before .before .before .before .before .before .before .before .before .before .before .before .before .before .before .before .before .before .before .pre .1 .1) m (g .inv .4))
-    (c .before .before .before .before .before .before .before .before .before .before .before .before .before .before .before .before .before .before .before .before .before .before .before .before .before .before .before .before .pre .1 .2) in
+    (c .before .before .before .before .before .before .before .before .before .before .before .before .before .before .before .before .before .before .before .before .before .before .before .before .before .before .before .before .before .pre .1 .1) m (g .inv .4))
+    (c .before .before .before .before .before .before .before .before .before .before .before .before .before .before .before .before .before .before .before .before .before .before .before .before .before .before .before .before .before .pre .1 .2) in
     let l = c .before .before .write-closing .ensures .1 in
     search needs
 
@@ -635,13 +635,13 @@ write-rows-loop-less-2 : (t : ℕ) → write-rows-lts.Need-loop-less-2 (
   after-reads.Asked,
   after-reads.Learnt,
 ) (write-rows-at t) write-rows.Post write-rows-Inv-loop write-rows-μ-loop
-write-rows-loop-less-2 t c = let a = c .before .before .before .before .before .before .before .before .before .before .before .before .before .before .before .before .before .before .before .before .before .before .before .before .before .before .before .before .before .args in
+write-rows-loop-less-2 t c = let a = c .before .before .before .before .before .before .before .before .before .before .before .before .before .before .before .before .before .before .before .before .before .before .before .before .before .before .before .before .before .before .args in
     let g = c .before .before .before .before .before .before .before .before .before .before .before .before .before .before .before .before .before .before .before .before .before .before .before .before .before .loop in
     let m : g .i < a .to = c .before .before .before .before .before .before .before .before .before .before .before .before .before .before .before .before .before .before .before .before .before .before .before .before .loop-test .taken in
     let k = c .before .before .before .before .before .before .before .before .before .before .before .before .before .before .before .before .before .before .before .before .before .before .before .kind in
     let x = c .before .before .before .before .before .before .before .before .before .before .before .before .before .before .next in
-    left-falls (g .i) (x .result) (a .to) (walk-low (a .tree .now) (g .i) (a .to) (g .st) (k .result) (x .result) (k .ensures) (x .ensures) (c .before .before .before .before .before .before .before .before .before .before .before .before .before .before .before .before .before .before .before .before .before .before .before .before .before .before .before .before .before .pre .1 .1) m (g .inv .4)) (walk-high
-    (a .tree .now) (g .i) (a .to) (g .st) (k .result) (x .result) (k .ensures) (x .ensures) (c .before .before .before .before .before .before .before .before .before .before .before .before .before .before .before .before .before .before .before .before .before .before .before .before .before .before .before .before .before .pre .1 .1) m (g .inv .4))
+    left-falls (g .i) (x .result) (a .to) (walk-low (a .tree .now) (g .i) (a .to) (g .st) (k .result) (x .result) (k .ensures) (x .ensures) (c .before .before .before .before .before .before .before .before .before .before .before .before .before .before .before .before .before .before .before .before .before .before .before .before .before .before .before .before .before .before .pre .1 .1) m (g .inv .4)) (walk-high
+    (a .tree .now) (g .i) (a .to) (g .st) (k .result) (x .result) (k .ensures) (x .ensures) (c .before .before .before .before .before .before .before .before .before .before .before .before .before .before .before .before .before .before .before .before .before .before .before .before .before .before .before .before .before .before .pre .1 .1) m (g .inv .4))
 
 write-rows-loop-again-2 : (t : ℕ) → write-rows-lts.Need-loop-again-2 (
   kind-reads.Asked,
@@ -661,7 +661,7 @@ write-rows-loop-again-2 : (t : ℕ) → write-rows-lts.Need-loop-again-2 (
   after-reads.Asked,
   after-reads.Learnt,
 ) (write-rows-at t) write-rows.Post write-rows-Inv-loop write-rows-μ-loop
-write-rows-loop-again-2 t c = let a = c .before .before .before .before .before .before .before .before .before .before .before .before .before .before .before .before .before .before .before .before .before .before .before .before .before .before .before .before .before .args in
+write-rows-loop-again-2 t c = let a = c .before .before .before .before .before .before .before .before .before .before .before .before .before .before .before .before .before .before .before .before .before .before .before .before .before .before .before .before .before .before .args in
     let g = c .before .before .before .before .before .before .before .before .before .before .before .before .before .before .before .before .before .before .before .before .before .before .before .before .before .loop in
     let m : g .i < a .to = c .before .before .before .before .before .before .before .before .before .before .before .before .before .before .before .before .before .before .before .before .before .before .before .before .loop-test .taken in
     let k = c .before .before .before .before .before .before .before .before .before .before .before .before .before .before .before .before .before .before .before .before .before .before .before .kind in
@@ -671,11 +671,11 @@ write-rows-loop-again-2 t c = let a = c .before .before .before .before .before 
     let z = c .before .before .before .write-closing in
     let s = c .before .before .before .before .before .before .before .before .before .before .before .before .inside in
     let u = c .after in
-    let lo = walk-low (a .tree .now) (g .i) (a .to) (g .st) (k .result) (x .result) (k .ensures) (x .ensures) (c .before .before .before .before .before .before .before .before .before .before .before .before .before .before .before .before .before .before .before .before .before .before .before .before .before .before .before .before .before .pre .1 .1) m (g .inv .4) in
-    let hi = walk-high (a .tree .now) (g .i) (a .to) (g .st) (k .result) (x .result) (k .ensures) (x .ensures) (c .before .before .before .before .before .before .before .before .before .before .before .before .before .before .before .before .before .before .before .before .before .before .before .before .before .before .before .before .before .pre .1 .1) m (g .inv .4) in
-    let b = turn-small (a .from) (g .i) (x .result) (a .to) (g .at) (o .result .len) (r .result .len) (g .inv .3) (o .ensures .1) (r .ensures .1) hi (c .before .before .before .before .before .before .before .before .before .before .before .before .before .before .before .before .before .before .before .before .before .before .before .before .before .before .before .before .before .pre .1 .2) (z .result) (z .ensures .1) in
-    let rest = walk-rest (a .tree .now) (g .i) (a .to) (g .st) (k .result) (x .result) (k .ensures) (x .ensures) (c .before .before .before .before .before .before .before .before .before .before .before .before .before .before .before .before .before .before .before .before .before .before .before .before .before .before .before .before .before .pre .1 .1) m (g .inv .4) (s .result) (u .result) (s .ensures) (u .ensures) in
-    let e = turn-text (a .tree .now) (g .i) (a .to) (g .st) (k .result) (x .result) (k .ensures) (x .ensures) (c .before .before .before .before .before .before .before .before .before .before .before .before .before .before .before .before .before .before .before .before .before .before .before .before .before .before .before .before .before .pre .1 .1) m (g .inv .4) (s .result) (u .result) (s .ensures) (u .ensures) (a .src .now) in
+    let lo = walk-low (a .tree .now) (g .i) (a .to) (g .st) (k .result) (x .result) (k .ensures) (x .ensures) (c .before .before .before .before .before .before .before .before .before .before .before .before .before .before .before .before .before .before .before .before .before .before .before .before .before .before .before .before .before .before .pre .1 .1) m (g .inv .4) in
+    let hi = walk-high (a .tree .now) (g .i) (a .to) (g .st) (k .result) (x .result) (k .ensures) (x .ensures) (c .before .before .before .before .before .before .before .before .before .before .before .before .before .before .before .before .before .before .before .before .before .before .before .before .before .before .before .before .before .before .pre .1 .1) m (g .inv .4) in
+    let b = turn-small (a .from) (g .i) (x .result) (a .to) (g .at) (o .result .len) (r .result .len) (g .inv .3) (o .ensures .1) (r .ensures .1) hi (c .before .before .before .before .before .before .before .before .before .before .before .before .before .before .before .before .before .before .before .before .before .before .before .before .before .before .before .before .before .before .pre .1 .2) (z .result) (z .ensures .1) in
+    let rest = walk-rest (a .tree .now) (g .i) (a .to) (g .st) (k .result) (x .result) (k .ensures) (x .ensures) (c .before .before .before .before .before .before .before .before .before .before .before .before .before .before .before .before .before .before .before .before .before .before .before .before .before .before .before .before .before .before .pre .1 .1) m (g .inv .4) (s .result) (u .result) (s .ensures) (u .ensures) in
+    let e = turn-text (a .tree .now) (g .i) (a .to) (g .st) (k .result) (x .result) (k .ensures) (x .ensures) (c .before .before .before .before .before .before .before .before .before .before .before .before .before .before .before .before .before .before .before .before .before .before .before .before .before .before .before .before .before .before .pre .1 .1) m (g .inv .4) (s .result) (u .result) (s .ensures) (u .ensures) (a .src .now) in
     let T : List ℕ = textOf (a .src .now) (flatAt (a .tree .now) (a .from) (a .to) (a .start)) in
     let p = subst (λ (y : List ℕ). Pours T y (g .at) (g .out) (a .out .now)) e (g .inv .5) in
     let l1 = c .before .before .before .before .before .before .before .before .before .before .before .before .before .before .before .before .before .before .before .out .given .1 ∙ g .inv .2 in
@@ -684,7 +684,7 @@ write-rows-loop-again-2 t c = let a = c .before .before .before .before .before 
     let p2 = pours-on _ _ _ _ _ _ _ _ _ p1 l1 (c .before .before .before .before .before .before .before .before .before .before .before .before .before .least2 .ensures) (r .ensures .0) in
     let p3 = pours-on _ _ _ _ _ _ _ _ _ p2 l2 (c .before .before .before .before .before .least3 .ensures) (z .ensures .0) in
     let f : a .from ≤ x .result = let i = g .inv .0 in omega arith in
-    let w = spelled-turn (a .src .now) (a .tree .now) _ (g .good) (o .result .good) (g .i) (a .to) (g .inv .6) (o .ensures .2) m (c .before .before .before .before .before .before .before .before .before .before .before .before .before .before .before .before .before .before .before .before .before .before .before .before .before .before .before .before .before .pre .1 .1) (x .result) (r .result .good) lo hi (r .ensures .2) in
+    let w = spelled-turn (a .src .now) (a .tree .now) _ (g .good) (o .result .good) (g .i) (a .to) (g .inv .6) (o .ensures .2) m (c .before .before .before .before .before .before .before .before .before .before .before .before .before .before .before .before .before .before .before .before .before .before .before .before .before .before .before .before .before .before .pre .1 .1) (x .result) (r .result .good) lo hi (r .ensures .2) in
     (f, hi, c .before .before .out3 .given .1 ∙ l2, b, rest, p3, w)
 
 write-rows-same-length : (t : ℕ) → write-rows-lts.Need-same-length (
@@ -725,7 +725,7 @@ write-rows-returns : (t : ℕ) → write-rows-lts.Need-returns (
   after-reads.Asked,
   after-reads.Learnt,
 ) (write-rows-at t) write-rows.Post write-rows-Inv-loop write-rows-μ-loop
-write-rows-returns t c = let a = c .before .before .before .before .before .args in
+write-rows-returns t c = let a = c .before .before .before .before .before .before .args in
     let g = c .before .loop in
     let e : g .i ≡ a .to = omega arith in
     let T : List ℕ = textOf (a .src .now) (flatAt (a .tree .now) (a .from) (a .to) (a .start)) in

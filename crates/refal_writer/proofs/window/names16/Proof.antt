@@ -1,22 +1,61 @@
--- `refal_writer::window::names16` meets its contract: the table's rule, computed at each entry.
+-- `refal_writer::window::names16` meets its contract: the first n bytes are tested, one by one.
+use Prim.Native.Nat.{ℕ, _+_, _-_, _≤_, _<_}
 use native.Mathlib.Omega.{arith}
-use Rattle.refal_writer.specs.Windows.{edge, edge-rule}
+use mathlib.Core.Bool.{true}
+use mathlib.Core.Path.{_≡_}
+use lib.ListN.{getD}
+use Rattle.refal_lexer.specs.Classes.{nameByte}
+use Rattle.refal_writer.specs.Windows.{names-turn}
 use borrow.Author.Needs.{needs}
 use Rattle.refal_writer.proofs.window.names16.Statement.{statement}
 use Rattle.refal_writer.proofs.window.names16.Tie as tie
 use Rattle.refal_writer.proofs.window.names16.Reads as reads
 use Rattle.refal_writer.proofs.window.names16.Lts as lts
-use Rattle.refal_writer.proofs.window.names_by.Reads as names-by-reads
+use Rattle.refal_writer.proofs.window.within.Reads as within-reads
+use Rattle.refal_writer.proofs.words.is_name_byte.Reads as is-name-byte-reads
 
-slice-aggregate-names-by : tie.Need-slice-aggregate-names-by
-slice-aggregate-names-by c = search needs
+abbrev Inv-loop : tie.InvT-loop
+Inv-loop edge word n good₀ i₀ good i = (i ≤ 16) × (good ≡ true → (j : ℕ) → j < i → j < n → nameByte (getD word j 0) ≡ true)
 
-names-by-requires : tie.Need-names-by-requires
-unfolding edge
-names-by-requires c κs = (c .before .before .pre .0, c .before .before .pre .1, edge-rule)
+abbrev μ-loop : tie.MeasureT-loop
+μ-loop edge word n good₀ i₀ good i = 16 - i
 
-returns : tie.Need-returns
-returns c = search needs
+loop-holds : tie.Need-loop-holds Inv-loop μ-loop
+loop-holds c = (omega arith, λ g j h l. absurd (omega arith))
+
+within-requires : tie.Need-within-requires Inv-loop μ-loop
+within-requires c κs = (omega arith, c .before .before .before .before .pre .1, c .before .before .before .before .pre .2)
+
+shared-slice-read-is-name-byte : tie.Need-shared-slice-read-is-name-byte Inv-loop μ-loop
+shared-slice-read-is-name-byte c = search needs
+
+is-name-byte-requires : tie.Need-is-name-byte-requires Inv-loop μ-loop
+is-name-byte-requires c κs = search needs
+
+add-i : tie.Need-add-i Inv-loop μ-loop
+add-i c = search needs
+
+loop-less : tie.Need-loop-less Inv-loop μ-loop
+loop-less c = search needs
+
+loop-again : tie.Need-loop-again Inv-loop μ-loop
+loop-again c = let g = c .before .before .before .before .loop in
+    (omega arith, names-turn (c .before .before .before .before .before .before .before .args .word .now) (g .i) (c .before .before .before .before .before .before .before .args .n) (g .good) (c .before .before .within .result) (c .is-name-byte .result) (g .inv .1) (c .before .before .within .ensures) (c .is-name-byte .ensures))
+
+returns : tie.Need-returns Inv-loop μ-loop
+returns c = λ g j l. c .before .loop .inv .1 g j (omega arith) l
 
 pub names16-spec : {M : Type 1} → statement M
-names16-spec = tie.close (tie.spec slice-aggregate-names-by names-by-requires returns)
+names16-spec =
+    tie.close
+    (tie.spec
+    Inv-loop
+    μ-loop
+    loop-holds
+    within-requires
+    shared-slice-read-is-name-byte
+    is-name-byte-requires
+    add-i
+    loop-less
+    loop-again
+    returns)
