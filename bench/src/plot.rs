@@ -34,7 +34,7 @@ pub fn svg(measured: &[Measured]) -> Option<String> {
             m.reading.plus(m.parsing).original
         }),
         line("proved", "#1f6f5c", 0.0, |m| m.reading.plus(m.parsing).ours),
-        line("mark", "#7a7a7a", 11.0, |m| m.reading.plus(m.parsing).mark),
+        line("mark", "#7a7a7a", 15.0, |m| m.reading.plus(m.parsing).mark),
     ];
     let all = || lines.iter().flat_map(|line| line.points.iter());
     let low_x = all().map(|point| point.0).reduce(f64::min)?;
