@@ -1,6 +1,6 @@
 //! Times the original, the proved library and the mark in one run, and prints tables.
 
-use bench::measure::{Effort, Measured, measure};
+use bench::measure::{Effort, Measured, measure, reading};
 use bench::memory::{Counting, original_peak};
 use bench::{plot, table};
 use oracle::generate::delivery::{HOSTILE, delivery, hostile};
@@ -16,10 +16,12 @@ const HELP: &str = "\
 bench: times the original, the proved library and an unverified mark in one run
 
   bench [--quick] [--deliveries] [--seed N] [--svg FILE]
+  bench --growth
 
   --quick      deliveries of 64 KiB and 1 MiB, hostile files of 1 MiB, few repetitions
   --deliveries no hostile files
   --seed N     the seed of the deliveries (default 1)
+  --growth     only the library's reading of hostile files of 1, 4 and 16 MiB
   --svg FILE   writes a plot of the time over the size of a delivery
 
 Everything lent is made and touched before it is timed, and each is called once untimed before each
@@ -42,6 +44,10 @@ fn main() -> ExitCode {
                 Some(number) => seed = number,
                 None => return usage(),
             },
+            "--growth" => {
+                print!("{}", table::growth(&growth()));
+                return ExitCode::SUCCESS;
+            }
             "--svg" => svg = words.next(),
             "--help" => {
                 print!("{HELP}");
@@ -111,6 +117,23 @@ fn main() -> ExitCode {
         }
     }
     ExitCode::SUCCESS
+}
+
+/// The library's seconds of reading each hostile file, and comments that are opened and never closed, by size.
+fn growth() -> Vec<(String, Vec<(usize, f64)>)> {
+    let sizes = [1 << 20, 4 << 20, MAX_SOURCE];
+    let names = HOSTILE.iter().copied().chain(["open-comments"]);
+    let timed = names.map(|name| {
+        let times = sizes.iter().map(|&size| {
+            let src = match name {
+                "open-comments" => "/*".repeat(size / 2),
+                _ => hostile(name, size),
+            };
+            (src.len(), reading(src.as_bytes()))
+        });
+        (name.to_string(), times.collect())
+    });
+    timed.collect()
 }
 
 fn usage() -> ExitCode {

@@ -142,6 +142,16 @@ pub fn measure(name: &str, src: &str, effort: Effort) -> Measured {
     }
 }
 
+/// The library's seconds for reading, median of five, whether it accepts the source or refuses it.
+pub fn reading(src: &[u8]) -> f64 {
+    let mut rows = vec![1u32; 6 * (src.len() + 1)];
+    let mut times = Vec::new();
+    for _ in 0..5 {
+        times.push(time(|| Library.read(black_box(src), &mut rows)).0);
+    }
+    median(times).unwrap_or_default()
+}
+
 /// None where the text would be too long.
 fn writing(src: &str, tree: &[u32], effort: Effort) -> Option<Writing> {
     let answer = Library.write(tree, src.as_bytes(), &mut []);

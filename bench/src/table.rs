@@ -93,6 +93,23 @@ pub fn writing(measured: &[Measured]) -> String {
     text
 }
 
+/// Nanoseconds a byte at each size: about the same where the time is linear.
+pub fn growth(rows: &[(String, Vec<(usize, f64)>)]) -> String {
+    let mut text = String::from(
+        "## Growth of reading\n\n\
+         | input | 1 MiB, ns a byte | 4 MiB, ns a byte | 16 MiB, ns a byte |\n\
+         |---|---|---|---|\n",
+    );
+    for (name, times) in rows {
+        let cells: Vec<String> = times
+            .iter()
+            .map(|(bytes, time)| format!("{:.2}", time / *bytes as f64 * 1e9))
+            .collect();
+        text.push_str(&format!("| {name} | {} |\n", cells.join(" | ")));
+    }
+    text
+}
+
 /// Peak memory: what the original holds, and the rows lent to the library.
 pub fn memory(rows: &[(&Measured, Option<usize>)]) -> String {
     let mut text = String::from(
