@@ -37,11 +37,11 @@ leaf-inside _ leaf10 = refl
 leaf-inside _ leaf11 = refl
 leaf-inside _ leaf12 = refl
 
-after-leaf : (k : ℕ) → LeafKind k → after atTerms k ≡ atTerms
-after-leaf _ leaf9 = refl
-after-leaf _ leaf10 = refl
-after-leaf _ leaf11 = refl
-after-leaf _ leaf12 = refl
+pub leaf-after : (k : ℕ) → LeafKind k → after atTerms k ≡ atTerms
+leaf-after _ leaf9 = refl
+leaf-after _ leaf10 = refl
+leaf-after _ leaf11 = refl
+leaf-after _ leaf12 = refl
 
 -- ---- the test of a leaf: its kind, its fields, its next row
 
@@ -73,20 +73,24 @@ module _ (w : List ℕ) (i j : ℕ) (long : 7 * j ≤ length w) (more : i < j) (
   own : leafOk (getD w (7 * i) 0) (getD w (7 * i + 1) 0) (getD w (7 * i + 2) 0) (getD w (7 * i + 3) 0) ≡ true
   own = and-left _ (eqb (nextAt w i) (i + 1)) h
 
-  is-leaf : LeafKind (kindAt w i)
-  is-leaf =
+  pub leaf-kind-at : LeafKind (kindAt w i)
+  leaf-kind-at =
       let k : ℕ = kindAt w i in
       let r = and-left (leb 9 k && leb k 12) (leafFields k (getD w (7 * i + 1) 0) (getD w (7 * i + 2) 0) (getD w (7 * i + 3) 0)) own in
       leaf-kind k (range-lo 9 k 12 r) (range-hi 9 k 12 r)
 
-  next-is : i + 1 ≡ nextAt w i
-  next-is = sym (eqb-true _ _ (and-right (leafOk (getD w (7 * i) 0) (getD w (7 * i + 1) 0) (getD w (7 * i + 2) 0) (getD w (7 * i + 3) 0)) _ h))
+  pub leaf-next : i + 1 ≡ nextAt w i
+  leaf-next = sym (eqb-true _ _ (and-right (leafOk (getD w (7 * i) 0) (getD w (7 * i + 1) 0) (getD w (7 * i + 2) 0) (getD w (7 * i + 3) 0)) _ h))
+
+  pub leaf-row : (left : ℕ) → rowOk atTerms left (rowAt w i) ≡ true
+  leaf-row left =
+      let k : ℕ = kindAt w i in
+      row-ok k (getD w (7 * i + 1) 0) (getD w (7 * i + 2) 0) (getD w (7 * i + 3) 0) (getD w (7 * i + 4) 0) (getD w (7 * i + 5) 0) left leaf-kind-at (and-right (leb 9 k && leb k 12) _ own)
 
   pub leaf-passed : (left : ℕ) → okAt w i j atTerms left ≡ okAt w (i + 1) j atTerms left
   leaf-passed left =
       let k : ℕ = kindAt w i in
-      let f = and-right (leb 9 k && leb k 12) _ own in
-      go-on w i j atTerms left k (i + 1) refl next-is long (omega arith) (omega arith)
-      (row-ok k (getD w (7 * i + 1) 0) (getD w (7 * i + 2) 0) (getD w (7 * i + 3) 0) (getD w (7 * i + 4) 0) (getD w (7 * i + 5) 0) left is-leaf f)
-      (ok-end w (i + 1) (i + 1) (inside k) (below atTerms k left) refl ∙ ap ends (leaf-inside k is-leaf))
-      ∙ ap (λ (s : ℕ). okAt w (i + 1) j s left) (after-leaf k is-leaf)
+      go-on w i j atTerms left k (i + 1) refl leaf-next long (omega arith) (omega arith)
+      (leaf-row left)
+      (ok-end w (i + 1) (i + 1) (inside k) (below atTerms k left) refl ∙ ap ends (leaf-inside k leaf-kind-at))
+      ∙ ap (λ (s : ℕ). okAt w (i + 1) j s left) (leaf-after k leaf-kind-at)

@@ -16,7 +16,6 @@ use Rattle.refal_tree.specs.States.{atItems, ends, inside, after, below}
 use Rattle.refal_tree.specs.Rules.{rowOk, okG}
 use Rattle.refal_tree.specs.Typed.{toForest}
 use Rattle.refal_tree.specs.TypedWords.{enc-tree}
-use Rattle.refal_tree.specs.TypedRules.{ok-program}
 use Rattle.refal_tree.specs.Views.{never}
 use Rattle.refal_tree.specs.Lawful.{treeOf, IsTree, of-tree}
 use Rattle.refal_tree.specs.FlattenRows.{opening, closing, flattenG, flatten-tree}
@@ -77,10 +76,6 @@ flat-end w i j st e = ap (flatIn st) (forest-end w i j e)
 pub forest-tree : (left : ℕ) (w : List ℕ) (t : Program) → treeOf left w ≡ some t → forestOf w 0 ≡ some (toForest t)
 forest-tree left w t e =
     ap (λ (l : List ℕ). forestOf l 0) (of-tree left w t e .words ∙ sym (enc-tree t 0)) ∙ forest-enc (toForest t) 0
-
-pub ok-tree-rows : (left : ℕ) (w : List ℕ) (t : Program) (n : ℕ) → treeOf left w ≡ some t → length w ≡ 7 * n → okAt w 0 n atItems left ≡ true
-ok-tree-rows left w t n e l =
-    ap (okIn atItems left) (forest-all w n l ∙ forest-tree left w t e) ∙ ok-program t left (of-tree left w t e .deep)
 
 pub flat-tree-rows : (left : ℕ) (w : List ℕ) (t : Program) (n : ℕ) → treeOf left w ≡ some t → length w ≡ 7 * n → flatAt w 0 n atItems ≡ flattenP t
 flat-tree-rows left w t n e l = ap (flatIn atItems) (forest-all w n l ∙ forest-tree left w t e) ∙ flatten-tree t

@@ -30,7 +30,7 @@ fn wide(x: u32) -> usize
 }
 
 // Whether row i is a leaf, and lawful.
-fn is_leaf(tree: &[u32], i: usize) -> bool
+pub fn is_leaf(tree: &[u32], i: usize) -> bool
     requires { ⌜ 7 * i + 6 < length (now tree) ⌝ }
     ensures { λ r. ⌜ r ≡ leafAt (now (tree .entry)) i ⌝ }
 {

@@ -1,12 +1,13 @@
 // Trees of rows: whether words are the rows of a lawful tree.
 mod fields;
-mod leaves;
+pub mod leaves;
 pub mod states;
 
 ghost use mathlib.Core.Path.{_≡_};
 ghost use Prim.Native.Nat.{ℕ, _+_, _*_, _-_, _≤_, _<_};
 ghost use lib.ListN.{length, getD};
 ghost use Rattle.refal_tree.specs.States.{lower as oneLess, below as levels};
+ghost use Rattle.refal_tree.specs.Forest.{row};
 ghost use Rattle.refal_tree.specs.Rules.{rowOk};
 ghost use Rattle.refal_tree.specs.Ranges.{rowAt, okAt};
 ghost use Rattle.refal_tree.specs.Lawful.{lawful as isLawful};
@@ -50,7 +51,7 @@ fn lower(n: usize) -> usize
 }
 
 // The levels left inside a row of the kind k. An ending block does not count for the terms of its own argument.
-fn below(st: u32, k: u32, left: usize) -> usize
+pub fn below(st: u32, k: u32, left: usize) -> usize
     requires { ⌜ left ≤ 4294967296 ⌝ }
     ensures { λ r. ⌜ r ≡ levels st k left ⌝ }
 {
@@ -63,22 +64,34 @@ fn below(st: u32, k: u32, left: usize) -> usize
     left
 }
 
-// Whether row i may stand in the state st where so many levels are left.
-fn row_ok(tree: &[u32], i: usize, st: u32, left: usize) -> bool
+// Whether a row of these words may stand in the state st where so many levels are left.
+fn fits(st: u32, left: usize, k: u32, d: u32, s: u32, l: u32, a: u32, b: u32) -> bool
+    ensures { λ r. ⌜ r ≡ rowOk st left (row k d s l a b) ⌝ }
+{
+    let good = fields::fields_ok(k, d, s, l, a, b);
+    (states::stands(st, k) & states::room(k, left)) & good
+}
+
+// The same of row i. Terms and sentences are most of the rows with children: for them the kind is known where the rules
+// are looked up, which then cost little.
+pub fn row_ok(tree: &[u32], i: usize, st: u32, left: usize) -> bool
     requires { ⌜ 7 * i + 6 < length (now tree) ⌝ }
     ensures { λ r. ⌜ r ≡ rowOk st left (rowAt (now (tree .entry)) i) ⌝ }
 {
     let at = 7 * i;
     let k = tree[at];
-    let good = fields::fields_ok(
-        k,
-        tree[at + 1],
-        tree[at + 2],
-        tree[at + 3],
-        tree[at + 4],
-        tree[at + 5],
-    );
-    (states::stands(st, k) & states::room(k, left)) & good
+    let d = tree[at + 1];
+    let s = tree[at + 2];
+    let l = tree[at + 3];
+    let a = tree[at + 4];
+    let b = tree[at + 5];
+    if k == 6 {
+        return fits(st, left, 6, d, s, l, a, b);
+    }
+    if k == 4 {
+        return fits(st, left, 4, d, s, l, a, b);
+    }
+    fits(st, left, k, d, s, l, a, b)
 }
 
 // Whether the rows from .. to are children that keep the rules, from the state `start` on: each row, and below it the

@@ -1,16 +1,22 @@
 -- Definitions: Spellings (the test for refusal 41), Write (what `write` answers and leaves).
--- Laws of writers of bytes: Puts. Of tokens: Token, TextPuts. Of the walk over rows: Walk, Leaves. Of words and rows: WordLaws,
--- SpellingLaws, SpelledRows (along the walk), Windows (sixteen bytes at a time). Of `write`: WriteLaws.
+-- Laws of writers of bytes: Puts (at the front of a slice), Adds (from a place on). Of tokens: Token, TextPuts. Of words and rows:
+-- WordLaws, SpellingLaws, Windows (sixteen bytes at a time), SpelledRows (row by row), Chars (plain characters), Terms (the tests of
+-- terms). Of the walk that checks and writes: Walk, Going, TermTurns, RowTurns. Of `write`: WriteLaws.
 pub mod Kinds
 pub mod Spellings
 pub mod Write
 pub mod Puts
+pub mod Adds
 pub mod Token
 pub mod TextPuts
-pub mod Walk
-pub mod Leaves
 pub mod WordLaws
 pub mod SpellingLaws
-pub mod WriteLaws
 pub mod Windows
 pub mod SpelledRows
+pub mod Walk
+pub mod Terms
+pub mod Going
+pub mod Chars
+pub mod TermTurns
+pub mod RowTurns
+pub mod WriteLaws

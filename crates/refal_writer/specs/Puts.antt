@@ -116,9 +116,6 @@ pub record Pours (t rest : List ℕ) (at : ℕ) (o o₀ : List ℕ) : Type 0 whe
   pub count : at + length rest ≡ length t
   pub bytes : at ≤ length o₀ → o ≡ take at t ++ drop at o₀
 
-pub pours-start : (t o : List ℕ) → Pours t t 0 o o
-pours-start t o = record { rest-is = refl; count = zero-add _; bytes = λ h. refl }
-
 pub pours-end : (t o o₀ : List ℕ) (at : ℕ) → Pours t [] at o o₀ → Puts t at o₀ o
 pours-end t o o₀ at p =
     let e : at ≡ length t = omega (arith, p .count) in

@@ -16,11 +16,11 @@ spelledRow src w i = rowSpelled src (getD w (7 * i) 0) (getD w (7 * i + 1) 0) (g
 abbrev pub spelledRows : List ℕ → List ℕ → ℕ → ℕ → Bool
 spelledRows src w i j = allSpelled src (rowsAt w i j)
 
-and-assoc : (a b c : Bool) → (a && b) && c ≡ a && (b && c)
+pub and-assoc : (a b c : Bool) → (a && b) && c ≡ a && (b && c)
 and-assoc true b c = refl
 and-assoc false b c = refl
 
-and-true : (a : Bool) → a && true ≡ a
+pub and-true : (a : Bool) → a && true ≡ a
 and-true true = refl
 and-true false = refl
 
@@ -50,18 +50,24 @@ module _ (src w : List ℕ) where
       ∙ sym (and-assoc (spelledRow src w i) (spelledRows src w (i + 1) x) (spelledRows src w x j))
       ∙ sym (ap (λ (t : Bool). t && spelledRows src w x j) (own i x a lx))
 
-  -- a turn: all that was seen so far, and what is left, make the test of the whole, S
-  module _ (S good g : Bool) (i j : ℕ) (inv : S ≡ good && spelledRows src w i j) (here : g ≡ spelledRow src w i) (more : i < j) (long : 7 * j ≤ length w) where
-    pub spelled-leaf : S ≡ (good && g) && spelledRows src w (i + 1) j
-    spelled-leaf =
-        inv ∙ ap (λ (t : Bool). good && t) (own i j more long ∙ ap (λ (t : Bool). t && spelledRows src w (i + 1) j) (sym here))
-        ∙ sym (and-assoc good g (spelledRows src w (i + 1) j))
-
-    pub spelled-turn : (x : ℕ) (b : Bool) → i < x → x ≤ j → b ≡ spelledRows src w (i + 1) x → S ≡ ((good && g) && b) && spelledRows src w x j
-    spelled-turn x b lo hi e =
-        let z : i + 1 + (x - (i + 1)) ≡ x = omega arith in
-        spelled-leaf ∙ ap (λ (t : Bool). (good && g) && t) (join (x - (i + 1)) (i + 1) x j z hi long ∙ ap (λ (t : Bool). t && spelledRows src w x j) (sym e))
-        ∙ sym (and-assoc (good && g) b (spelledRows src w x j))
-
+  -- all that was seen so far, and what is left, make the test of the whole, S
   pub spelled-end : (S good : Bool) (i j : ℕ) → S ≡ good && spelledRows src w i j → i ≡ j → good ≡ S
   spelled-end S good i j inv e = sym (inv ∙ ap (λ (t : Bool). good && t) (none i j e) ∙ and-true good)
+
+  -- past rows i to x at once
+  pub spelled-on : (S good g : Bool) (i x j : ℕ) → S ≡ good && spelledRows src w i j → g ≡ spelledRows src w i x → i < x → x ≤ j → 7 * j ≤ length w
+      → S ≡ (good && g) && spelledRows src w x j
+  spelled-on S good g i x j inv e lo hi long =
+      let z : i + (x - i) ≡ x = omega arith in
+      inv ∙ ap (λ (t : Bool). good && t) (join (x - i) i x j z hi long ∙ ap (λ (t : Bool). t && spelledRows src w x j) (sym e))
+      ∙ sym (and-assoc good g (spelledRows src w x j))
+
+  -- a row and its children
+  pub spelled-node : (g h : Bool) (i x : ℕ) → g ≡ spelledRow src w i → h ≡ spelledRows src w (i + 1) x → i < x → 7 * x ≤ length w → g && h ≡ spelledRows src w i x
+  spelled-node g h i x e f lo long =
+      ap (λ (t : Bool). t && h) e ∙ ap (λ (t : Bool). spelledRow src w i && t) f ∙ sym (own i x lo long)
+
+  -- a row that has none
+  pub spelled-one : (g : Bool) (i : ℕ) → g ≡ spelledRow src w i → 7 * (i + 1) ≤ length w → g ≡ spelledRows src w i (i + 1)
+  spelled-one g i e long =
+      sym (and-true g) ∙ spelled-node g true i (i + 1) e (sym (none (i + 1) (i + 1) refl)) (omega arith) long

@@ -13,17 +13,18 @@ use borrow.Rule.Slice.PartMut.{putMid}
 use Rattle.refal_rows.specs.Tests.{table-is, copy-turn, and-left, and-right, range-lo, range-hi}
 use Rattle.refal_text.specs.Pick.{pick}
 use Rattle.refal_text.specs.Span.{span}
+use Rattle.refal_ast.specs.Kinds.{tokLAngle}
+use Rattle.refal_ast.specs.Flatten.{mark, nameOf}
 use Rattle.refal_tree.specs.Rules.{usesText}
 use Rattle.refal_tree.specs.Forest.{row}
 use Rattle.refal_tree.specs.FlattenRows.{opening}
-use Rattle.refal_tree.specs.Leaves.{LeafKind, leaf9, leaf10, leaf11, leaf12, leaf-kind}
 use Rattle.refal_spelling.specs.Spell.{quoted, dotted, textAt}
 use Rattle.refal_lexer.specs.Classes.{nameByte, upper}
 use Rattle.refal_spelling.specs.Spells.{spells, spellsIndex}
 use Rattle.refal_writer.specs.Puts.{Puts, two-set, set-behind, lent-rest, back-rest}
 use Rattle.refal_writer.specs.Spellings.{textSpelled, rowSpelled}
 use Rattle.refal_writer.specs.SpellingLaws.{text-index, text-name, row-text, row-plain}
-use Rattle.refal_writer.specs.Token.{textOf, name-text, number-text, variable-text, char-text}
+use Rattle.refal_writer.specs.Token.{Mark, textOf, text-of-append, name-text, number-text, variable-text, char-text, mark-text}
 use Rattle.refal_writer.specs.WordLaws.{index-same, name-same}
 
 -- ---- the table
@@ -94,45 +95,45 @@ module _ (s o : List ℕ) (n : ℕ) (ls : n ≤ length s) (lo : n ≤ length o) 
       ∙ ap (λ (x : List ℕ). take 16 T ++ x) (sym (ap (λ (j : ℕ). drop j T) (sym k) ∙ drop-append-add (take n s) (drop n o) (16 - n) ∙ drop-drop (16 - n) n o ∙ ap (λ (j : ℕ). drop j o) f))
       ∙ take-append-drop 16 T
 
--- ---- a letter and a point, then a text from the place f on, then a space
-module _ (o o₁ text : List ℕ) (f n letter : ℕ) (e₁ : o₁ ≡ set (set o 0 letter) 1 46) (hf : f ≤ 2) (h1 : 1 ≤ n) (h16 : n ≤ 16) (lt : 16 ≤ length text) (lo : 19 ≤ length o) where
+-- ---- the bytes a and b, then a text from the place f on, then a space
+module _ (o o₁ text : List ℕ) (f n a b : ℕ) (e₁ : o₁ ≡ set (set o 0 a) 1 b) (hf : f ≤ 2) (h1 : 1 ≤ n) (h16 : n ≤ 16) (lt : 16 ≤ length text) (lo : 19 ≤ length o) where
   same-long : length o₁ ≡ length o
-  same-long = ap length e₁ ∙ length-set (set o 0 letter) 1 46 ∙ length-set o 0 letter
+  same-long = ap length e₁ ∙ length-set (set o 0 a) 1 b ∙ length-set o 0 a
 
-  front : take f o₁ ≡ take f (letter ∷ 46 ∷ [])
-  front = ap (take f) (e₁ ∙ two-set o letter 46 (omega arith)) ∙ take-append-le f (letter ∷ 46 ∷ []) (drop 2 o) hf
+  front : take f o₁ ≡ take f (a ∷ b ∷ [])
+  front = ap (take f) (e₁ ∙ two-set o a b (omega arith)) ∙ take-append-le f (a ∷ b ∷ []) (drop 2 o) hf
 
   rest : drop (f + n + 1) o₁ ≡ drop (f + n + 1) o
-  rest = ap (drop (f + n + 1)) e₁ ∙ drop-set-lt (f + n + 1) (set o 0 letter) 1 46 (omega arith) ∙ drop-set-lt (f + n + 1) o 0 letter (omega arith)
+  rest = ap (drop (f + n + 1)) e₁ ∙ drop-set-lt (f + n + 1) (set o 0 a) 1 b (omega arith) ∙ drop-set-lt (f + n + 1) o 0 a (omega arith)
 
   front-long : length (take f o₁ ++ take n text) ≡ f + n
   front-long =
-      let a = length-append (take f o₁) (take n text) in
-      let b = length-take-le n text (omega arith) in
-      let d : length (take f o₁) ≡ f = length-take-le f o₁ (let q = same-long in omega arith) in
+      let x = length-append (take f o₁) (take n text) in
+      let y = length-take-le n text (omega arith) in
+      let z : length (take f o₁) ≡ f = length-take-le f o₁ (let q = same-long in omega arith) in
       omega arith
 
   pub lent-room : 16 ≤ length (take (length o₁ - f) (drop f o₁))
   lent-room = rw (lent-rest o₁ f, length-drop f o₁) (let q = same-long in omega arith)
 
-  pub letter-puts : (p : List ℕ) → p ≡ take n text ++ drop n (take (length o₁ - f) (drop f o₁))
-      → Puts ((take f (letter ∷ 46 ∷ []) ++ take n text) ++ 32 ∷ []) (f + n + 1) o (set (putMid f (length o₁ - f) o₁ p) (f + n) 32)
-  letter-puts p e =
-      let u : take f o₁ ++ take n text ≡ take f (letter ∷ 46 ∷ []) ++ take n text = ap (λ (x : List ℕ). x ++ take n text) front in
+  pub ahead-puts : (p : List ℕ) → p ≡ take n text ++ drop n (take (length o₁ - f) (drop f o₁))
+      → Puts ((take f (a ∷ b ∷ []) ++ take n text) ++ 32 ∷ []) (f + n + 1) o (set (putMid f (length o₁ - f) o₁ p) (f + n) 32)
+  ahead-puts p e =
+      let u : take f o₁ ++ take n text ≡ take f (a ∷ b ∷ []) ++ take n text = ap (λ (x : List ℕ). x ++ take n text) front in
       let q : putMid f (length o₁ - f) o₁ p ≡ (take f o₁ ++ take n text) ++ drop (f + n) o₁ =
       back-rest o₁ p f
       ∙ ap (λ (x : List ℕ). take f o₁ ++ x) (e ∙ ap (λ (x : List ℕ). take n text ++ x) (ap (drop n) (lent-rest o₁ f) ∙ drop-drop n f o₁))
       ∙ sym (append-assoc (take f o₁) (take n text) (drop (f + n) o₁)) in
       let l : f + n < length o₁ = let z = same-long in omega arith in
       record {
-        count = let a = front-long in let b = length-append (take f o₁ ++ take n text) (32 ∷ []) in
+        count = let x = front-long in let y = length-append (take f o₁ ++ take n text) (32 ∷ []) in
             let g : f + n + 1 ≡ length ((take f o₁ ++ take n text) ++ 32 ∷ []) = omega arith in
             g ∙ ap (λ (x : List ℕ). length (x ++ 32 ∷ [])) u;
         bytes = λ _.
             ap (λ (x : List ℕ). set x (f + n) 32) q
             ∙ set-behind (take f o₁ ++ take n text) o₁ (f + n) 32 front-long l
             ∙ ap (λ (x : List ℕ). (x ++ 32 ∷ []) ++ drop (f + n + 1) o₁) u
-            ∙ ap (λ (x : List ℕ). ((take f (letter ∷ 46 ∷ []) ++ take n text) ++ 32 ∷ []) ++ x) rest;
+            ∙ ap (λ (x : List ℕ). ((take f (a ∷ b ∷ []) ++ take n text) ++ 32 ∷ []) ++ x) rest;
       }
 
 -- ---- words
@@ -260,50 +261,85 @@ module _ (src : List ℕ) (k d s l : ℕ) (within : s + l ≤ length src) (W : W
       go true e = sym text-ok ∙ row-text src k s l d no-char e
       go false e = row-plain src k s l d no-char e
 
--- ---- what stands before a leaf's text: a variable's letter and point
+-- ---- what stands before a text: a variable's letter and point, a call's `<` and space
 abbrev pub ahead : ℕ → ℕ
-ahead kind = pick (eqb kind 12) 2 0
+ahead kind = pick (eqb kind 12 || eqb kind 14) 2 0
+
+abbrev pub firstByte : ℕ → ℕ → ℕ
+firstByte kind detail = pick (eqb kind 14) 60 (detail % 256)
+
+abbrev pub secondByte : ℕ → ℕ
+secondByte kind = pick (eqb kind 12) 46 32
 
 pub ahead-few : (kind : ℕ) → ahead kind ≤ 2
-ahead-few kind = go (eqb kind 12)
+ahead-few kind = go (eqb kind 12 || eqb kind 14)
   where
     go : (t : Bool) → pick t 2 0 ≤ 2
     go true = omega arith
     go false = omega arith
 
--- the text of a leaf that is no Char, put with the letter and the point ahead of a variable
+-- the kinds of terms that are written with a text: Identifier, Number, Variable, Call
+data TextKind : ℕ → Type 0 where
+  text9 : TextKind 9
+  text10 : TextKind 10
+  text12 : TextKind 12
+  text14 : TextKind 14
+
+text-kind : (k : ℕ) → 9 ≤ k → k ≤ 14 → (k ≡ 11 → ⊥) → (k ≡ 13 → ⊥) → TextKind k
+text-kind k l h n m = go (decLe k 9) (decLe k 10) (decLe k 12)
+  where
+    go : Dec (k ≤ 9) → Dec (k ≤ 10) → Dec (k ≤ 12) → TextKind k
+    go (yes a) b c = let e : 9 ≡ k = omega arith in subst TextKind e text9
+    go (no a) (yes b) c = let e : 10 ≡ k = omega arith in subst TextKind e text10
+    go (no a) (no b) (yes c) = let e : 12 ≡ k = omega arith in subst TextKind e text12
+    go (no a) (no b) (no c) = let e : 14 ≡ k = omega arith in subst TextKind e text14
+
+-- the text of a term before its children
 module _ (src : List ℕ) (st d s l : ℕ) where
-  leaf-text-of : (k : ℕ) → LeafKind k → (k ≡ 11 → ⊥) → (k ≡ 12 → d < 256)
-      → (take (ahead k) (d % 256 ∷ 46 ∷ []) ++ take l (drop s src)) ++ 32 ∷ [] ≡ textOf src (opening st (row k d s l 0 0))
-  leaf-text-of _ leaf9 n h = name-text 3 0 (take l (drop s src)) refl
-  leaf-text-of _ leaf10 n h = number-text 5 0 (take l (drop s src)) refl
-  leaf-text-of _ leaf11 n h = absurd (n refl)
-  leaf-text-of _ leaf12 n h =
+  call-text : 60 ∷ 32 ∷ (take l (drop s src) ++ 32 ∷ []) ≡ textOf src (mark tokLAngle ∷ nameOf s l ∷ [])
+  call-text =
+      let w : List ℕ = take l (drop s src) in
+      let m : Mark 11 = record { few = omega arith; no-name = λ e. omega arith; no-variable = λ e. omega arith; no-number = λ e. omega arith; no-char = λ e. omega arith } in
+      ap (λ (x : List ℕ). x ++ (w ++ 32 ∷ [])) (mark-text 11 0 (textAt src 0 0) m (λ e. omega arith) (λ e. omega arith))
+      ∙ ap (λ (x : List ℕ). textOf src (mark tokLAngle ∷ []) ++ x) (name-text 3 0 w refl)
+      ∙ sym (text-of-append src (mark tokLAngle ∷ []) (nameOf s l ∷ []))
+
+  term-text-of : (k : ℕ) → TextKind k → (k ≡ 12 → d < 256)
+      → (take (ahead k) (firstByte k d ∷ secondByte k ∷ []) ++ take l (drop s src)) ++ 32 ∷ [] ≡ textOf src (opening st (row k d s l 0 0))
+  term-text-of _ text9 h = name-text 3 0 (take l (drop s src)) refl
+  term-text-of _ text10 h = number-text 5 0 (take l (drop s src)) refl
+  term-text-of _ text12 h =
       let b : d < 256 = h refl in
       let e : d % 256 ≡ d = omega arith in
       ap (λ (x : ℕ). dotted x (take l (drop s src)) ++ 32 ∷ []) e ∙ variable-text 4 d (take l (drop s src)) refl
+  term-text-of _ text14 h = call-text
 
-  pub leaf-text-is : (k f x : ℕ) (t : List ℕ) → f ≡ ahead k → x ≡ d % 256 → t ≡ drop s src → leb 9 k && leb k 12 ≡ true → (k ≡ 11 → ⊥) → (k ≡ 12 → d < 256)
-      → (take f (x ∷ 46 ∷ []) ++ take l t) ++ 32 ∷ [] ≡ textOf src (opening st (row k d s l 0 0))
-  leaf-text-is k f x t ef ex et r n h =
-      ap (λ (y : ℕ). (take y (x ∷ 46 ∷ []) ++ take l t) ++ 32 ∷ []) ef
-      ∙ ap (λ (y : ℕ). (take (ahead k) (y ∷ 46 ∷ []) ++ take l t) ++ 32 ∷ []) ex
-      ∙ ap (λ (y : List ℕ). (take (ahead k) (d % 256 ∷ 46 ∷ []) ++ take l y) ++ 32 ∷ []) et
-      ∙ leaf-text-of k (leaf-kind k (range-lo 9 k 12 r) (range-hi 9 k 12 r)) n h
+  pub term-text-is : (k f x y : ℕ) (t : List ℕ) → f ≡ ahead k → x ≡ firstByte k d → y ≡ secondByte k → t ≡ drop s src
+      → 9 ≤ k → k ≤ 14 → (k ≡ 11 → ⊥) → (k ≡ 13 → ⊥) → (k ≡ 12 → d < 256)
+      → (take f (x ∷ y ∷ []) ++ take l t) ++ 32 ∷ [] ≡ textOf src (opening st (row k d s l 0 0))
+  term-text-is k f x y t ef ex ey et lo hi n m h =
+      ap (λ (z : ℕ). (take z (x ∷ y ∷ []) ++ take l t) ++ 32 ∷ []) ef
+      ∙ ap (λ (z : ℕ). (take (ahead k) (z ∷ y ∷ []) ++ take l t) ++ 32 ∷ []) ex
+      ∙ ap (λ (z : ℕ). (take (ahead k) (firstByte k d ∷ z ∷ []) ++ take l t) ++ 32 ∷ []) ey
+      ∙ ap (λ (z : List ℕ). (take (ahead k) (firstByte k d ∷ secondByte k ∷ []) ++ take l z) ++ 32 ∷ []) et
+      ∙ term-text-of k (text-kind k lo hi n m) h
 
   pub char-text-is : (k : ℕ) → k ≡ 11 → quoted d ++ 32 ∷ [] ≡ textOf src (opening st (row k d s l 0 0))
   char-text-is k e = char-text 6 d (textAt src 0 0) refl ∙ sym (ap (λ (x : ℕ). textOf src (opening st (row x d s l 0 0))) e)
 
+  pub bracket-text-is : (k : ℕ) → k ≡ 13 → 40 ∷ 32 ∷ [] ≡ textOf src (opening st (row k d s l 0 0))
+  bracket-text-is k e =
+      let m : Mark 9 = record { few = omega arith; no-name = λ e. omega arith; no-variable = λ e. omega arith; no-number = λ e. omega arith; no-char = λ e. omega arith } in
+      mark-text 9 0 (textAt src 0 0) m (λ e. omega arith) (λ e. omega arith) ∙ sym (ap (λ (x : ℕ). textOf src (opening st (row x d s l 0 0))) e)
+
+  -- a bracket has no text to test
+  pub bracket-spelled : (k : ℕ) → k ≡ 13 → true ≡ rowSpelled src k d s l
+  bracket-spelled k e = row-plain src k s l d (λ n. omega arith) (ap usesText e)
+
 -- ---- the tests before the short way
-module _ (k n s l o : ℕ) (h : (leb 9 k && leb k 12) && (((leb 1 n && leb n 16) && leb (s + 16) l) && leb 19 o) ≡ true) where
-  abbrev near : Bool
-  near = (leb 1 n && leb n 16) && leb (s + 16) l
-
-  pub short-leaf : leb 9 k && leb k 12 ≡ true
-  short-leaf = and-left (leb 9 k && leb k 12) (near && leb 19 o) h
-
+module _ (n s l o : ℕ) (h : ((leb 1 n && leb n 16) && leb (s + 16) l) && leb 19 o ≡ true) where
   short-near : (leb 1 n && leb n 16) && leb (s + 16) l ≡ true
-  short-near = and-left near (leb 19 o) (and-right (leb 9 k && leb k 12) (near && leb 19 o) h)
+  short-near = and-left ((leb 1 n && leb n 16) && leb (s + 16) l) (leb 19 o) h
 
   pub short-some : 1 ≤ n
   short-some = range-lo 1 n 16 (and-left (leb 1 n && leb n 16) (leb (s + 16) l) short-near)
@@ -315,4 +351,4 @@ module _ (k n s l o : ℕ) (h : (leb 9 k && leb k 12) && (((leb 1 n && leb n 16)
   short-in = leb-true (s + 16) l (and-right (leb 1 n && leb n 16) (leb (s + 16) l) short-near)
 
   pub short-room : 19 ≤ o
-  short-room = leb-true 19 o (and-right near (leb 19 o) (and-right (leb 9 k && leb k 12) (near && leb 19 o) h))
+  short-room = leb-true 19 o (and-right ((leb 1 n && leb n 16) && leb (s + 16) l) (leb 19 o) h)

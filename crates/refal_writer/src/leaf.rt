@@ -1,4 +1,5 @@
-// What stands before a row's children, with the test for refusal 41 on the row: one walk does both.
+// What stands before a term's children, with the test for refusal 41 on the row: one walk does both.
+use crate::bytes::put2;
 use crate::opening::write_opening;
 use crate::spelling::is_char;
 use crate::spelling::row_spelled;
@@ -17,7 +18,7 @@ ghost use Rattle.refal_writer.specs.Puts.{Puts};
 ghost use Rattle.refal_writer.specs.Token.{textOf};
 ghost use Rattle.refal_writer.specs.Walk.{Standing};
 ghost use Rattle.refal_writer.specs.Spellings.{rowSpelled};
-ghost use Rattle.refal_writer.specs.Windows.{Edge, Word, ahead};
+ghost use Rattle.refal_writer.specs.Windows.{Edge, Word, ahead, firstByte, secondByte};
 
 // How many bytes were put, and whether the text is a spelling.
 pub struct Put {
@@ -25,26 +26,38 @@ pub struct Put {
     pub good: bool,
 }
 
-fn low(x: u32) -> u8
+pub fn low(x: u32) -> u8
     ensures { λ r. ⌜ r ≡ x % 256 ⌝ }
 {
     (x % 256) as u8
 }
 
-// The bytes before a leaf's text: a variable's letter and point.
+// The count of the bytes before a text, and the bytes: a variable's letter and point, a call's `<` and space.
 fn lead(kind: u32) -> usize
     ensures { λ r. ⌜ r ≡ ahead kind ⌝ }
 {
-    if kind == 12 { 2 } else { 0 }
+    if (kind == 12) | (kind == 14) { 2 } else { 0 }
 }
 
-// The letter and a point, the first n bytes of the text from the place f on, a space.
-fn put_text(edge: &[u8], text: &[u8], f: usize, letter: u8, n: usize, out: &mut [u8]) -> usize
-    requires { ⌜ (f ≤ 2) × (1 ≤ n) × (n ≤ 16) × (16 ≤ length (now text)) × (19 ≤ length (now out)) × Edge (now edge) ⌝ }
-    ensures { λ r. ⌜ Puts ((take f (letter ∷ 46 ∷ []) ++ take n (now (text .entry))) ++ 32 ∷ []) r (now (out .entry)) (now (out .exit)) × (r ≤ 19) ⌝ }
+fn first(kind: u32, detail: u32) -> u8
+    ensures { λ r. ⌜ r ≡ firstByte kind detail ⌝ }
 {
-    out[0] = letter;
-    out[1] = 46;
+    if kind == 14 { 60 } else { low(detail) }
+}
+
+fn second(kind: u32) -> u8
+    ensures { λ r. ⌜ r ≡ secondByte kind ⌝ }
+{
+    if kind == 12 { 46 } else { 32 }
+}
+
+// The first f of the bytes a and b, the first n bytes of the text, a space.
+fn put_text(edge: &[u8], text: &[u8], f: usize, a: u8, b: u8, n: usize, out: &mut [u8]) -> usize
+    requires { ⌜ (f ≤ 2) × (1 ≤ n) × (n ≤ 16) × (16 ≤ length (now text)) × (19 ≤ length (now out)) × Edge (now edge) ⌝ }
+    ensures { λ r. ⌜ Puts ((take f (a ∷ b ∷ []) ++ take n (now (text .entry))) ++ 32 ∷ []) r (now (out .entry)) (now (out .exit)) × (r ≤ 19) ⌝ }
+{
+    out[0] = a;
+    out[1] = b;
     copy16(edge, text, n, &mut out[f..]);
     let e = f + n;
     out[e] = 32;
@@ -76,10 +89,9 @@ fn word_spelled(edge: &[u8], src: &[u8], kind: u32, detail: u32, start: u32, len
     row_spelled(src, kind, detail, start, len)
 }
 
-// Before the children of a row, as `write_opening`; a leaf with a short text in fewer steps.
+// Before the children of a term: a leaf whole, `(`, or `<` and the name; a short text in few steps.
 pub fn open(
     src: &[u8],
-    st: u32,
     kind: u32,
     detail: u32,
     start: u32,
@@ -87,9 +99,13 @@ pub fn open(
     edge: &[u8],
     out: &mut [u8],
 ) -> Put
-    requires { ⌜ Standing kind detail × Edge (now edge) ⌝ }
-    ensures { λ r. ⌜ Puts (textOf (now (src .entry)) (opening st (row kind detail start len 0 0))) (r .len) (now (out .entry)) (now (out .exit)) × (r .len ≤ 8589934710) × (r .good ≡ rowSpelled (now (src .entry)) kind detail start len) ⌝ }
+    requires { ⌜ Standing kind detail × (9 ≤ kind) × Edge (now edge) ⌝ }
+    ensures { λ r. ⌜ Puts (textOf (now (src .entry)) (opening 9 (row kind detail start len 0 0))) (r .len) (now (out .entry)) (now (out .exit)) × (r .len ≤ 8589934710) × (r .good ≡ rowSpelled (now (src .entry)) kind detail start len) ⌝ }
 {
+    if kind == 13 {
+        let k = put2(40, 32, out);
+        return Put { len: k, good: true };
+    }
     if kind == 11 {
         let k = write_char(detail, out);
         return Put {
@@ -100,13 +116,21 @@ pub fn open(
     let s = start as usize;
     let n = len as usize;
     let near = ((1 <= n) & (n <= 16)) & (s + 16 <= src.len());
-    let short = ((9 <= kind) & (kind <= 12)) & (near & (19 <= out.len()));
+    let short = near & (19 <= out.len());
     if short {
         let good = word_spelled(edge, src, kind, detail, start, len);
-        let k = put_text(edge, &src[s..], lead(kind), low(detail), n, out);
+        let k = put_text(
+            edge,
+            &src[s..],
+            lead(kind),
+            first(kind, detail),
+            second(kind),
+            n,
+            out,
+        );
         return Put { len: k, good };
     }
-    let k = write_opening(src, st, kind, detail, start, len, out);
+    let k = write_opening(src, 9, kind, detail, start, len, out);
     Put {
         len: k,
         good: row_spelled(src, kind, detail, start, len),

@@ -1,12 +1,16 @@
 // Writing: from the rows of a tree and its source to a text that reads back the same.
 mod bytes;
+mod chars;
 mod leaf;
 mod opening;
+mod row;
 mod spelling;
+mod terms;
 mod token;
 mod walk;
 mod window;
 mod words;
+mod wrote;
 
 use refal_ast::Answer;
 use refal_ast::Refusal;
@@ -33,19 +37,24 @@ pub fn write(tree: &[u32], src: &[u8], out: &mut [u8]) -> Answer
     ensures { λ r. ⌜ r ≡ writeAnswer (now (tree .entry)) (now (src .entry)) (now (out .entry)) ⌝ }
     ensures { λ r. ⌜ now (out .exit) ≡ writeBytes (now (tree .entry)) (now (src .entry)) (now (out .entry)) ⌝ }
 {
-    if !refal_tree::lawful(tree) {
+    let room = out.len();
+    let rows = tree.len() / 7;
+    let whole = (tree.len() % 7 == 0) & (rows <= 33554432);
+    if !whole {
         refal_rows::clear_bytes(out);
         return refused(40, 0);
     }
-    let room = out.len();
-    let rows = tree.len() / 7;
     let edge = b"11111111111111110000000000000000";
-    let all = walk::write_rows(tree, src, 0, rows, 1, edge, out);
+    let all = walk::write_rows(tree, src, 0, rows, 1, 64, edge, 0, out);
+    if !all.lawful {
+        refal_rows::clear_bytes(out);
+        return refused(40, 0);
+    }
     if !all.good {
         refal_rows::clear_bytes(out);
         return refused(41, 0);
     }
-    let n = all.len;
+    let n = all.at;
     let fits = (n <= room) & (n <= 16777216);
     if fits {
         return Answer::Done(n);

@@ -1,105 +1,181 @@
-// The walk over the rows of a tree: for each row what stands before its children, the children, what stands after them.
-use crate::leaf::Put;
-use crate::leaf::open;
+// The walk over the rows of a tree, which checks and writes them in one go: for each row what stands before its children,
+// the children, what stands after them.
 use crate::opening::write_closing;
+use crate::opening::write_opening;
+use crate::row::kind;
+use crate::row::next;
+use crate::spelling::row_spelled;
+use crate::terms::write_terms;
+use crate::wrote::Opened;
+use crate::wrote::Wrote;
+use crate::wrote::put_mark;
+use crate::wrote::unlawful;
 use refal_rows::least;
+use refal_tree::below;
+use refal_tree::row_ok;
 use refal_tree::states::after;
+use refal_tree::states::ends;
 use refal_tree::states::inside;
 ghost use mathlib.Core.Path.{_≡_};
-ghost use Prim.Native.Nat.{_+_, _*_, _≤_, _<_};
+ghost use Prim.Native.Nat.{_+_, _*_, _-_, _≤_, _<_};
+ghost use lib.Dec.{eqb};
 ghost use lib.ListN.{length, getD};
-ghost use Rattle.refal_tree.specs.FlattenRows.{opening};
+ghost use Rattle.refal_tree.specs.FlattenRows.{opening, closing};
 ghost use Rattle.refal_tree.specs.Ranges.{rowAt};
-ghost use Rattle.refal_writer.specs.Puts.{Puts};
+ghost use Rattle.refal_writer.specs.Adds.{Adds};
+ghost use Rattle.refal_writer.specs.Going.{Writes, WritesNode};
+ghost use Rattle.refal_writer.specs.RowTurns.{fitsAt, equalsText};
+ghost use Rattle.refal_writer.specs.SpelledRows.{spelledRow};
 ghost use Rattle.refal_writer.specs.Token.{textOf};
-ghost use Rattle.refal_tree.specs.Walk.{flatAt};
-ghost use Rattle.refal_writer.specs.Walk.{Standing, Walks};
-ghost use Rattle.refal_writer.specs.SpelledRows.{spelledRow, spelledRows};
+ghost use Rattle.refal_writer.specs.Walk.{Standing};
 ghost use Rattle.refal_writer.specs.Windows.{Edge};
 
-fn wide(x: u32) -> usize
-    ensures { λ r. ⌜ r ≡ x ⌝ }
-{
-    x as usize
-}
-
-// The row after the subtree of row i.
-fn next(tree: &[u32], i: usize) -> usize
+// Whether row i of the rows up to `to` may stand in the state st; its children are not looked at.
+fn row_fits(tree: &[u32], i: usize, to: usize, st: u32, left: usize) -> bool
     requires { ⌜ 7 * i + 6 < length (now tree) ⌝ }
-    ensures { λ r. ⌜ r ≡ getD (now (tree .entry)) (7 * i + 6) 0 ⌝ }
+    ensures { λ r. ⌜ r ≡ fitsAt (now (tree .entry)) i to st left ⌝ }
 {
-    let at = 7 * i;
-    wide(tree[at + 6])
+    let end = next(tree, i);
+    let range = (i < end) & (end <= to);
+    if !range {
+        return false;
+    }
+    row_ok(tree, i, st, left)
 }
 
-fn kind(tree: &[u32], i: usize) -> u32
-    requires { ⌜ 7 * i + 6 < length (now tree) ⌝ }
-    ensures { λ r. ⌜ r ≡ getD (now (tree .entry)) (7 * i) 0 ⌝ }
+// What stands before the children of row i, from the place `at` on.
+fn put_opening(tree: &[u32], src: &[u8], i: usize, st: u32, at: usize, out: &mut [u8]) -> Opened
+    requires { ⌜ (7 * i + 6 < length (now tree)) × Standing (getD (now tree) (7 * i) 0) (getD (now tree) (7 * i + 1) 0) × (at ≤ 1152921504606846976) ⌝ }
+    ensures { λ r. ⌜ Adds (textOf (now (src .entry)) (opening st (rowAt (now (tree .entry)) i))) at (r .at) (now (out .entry)) (now (out .exit)) × (r .at ≤ at + 8589934710) × (r .good ≡ spelledRow (now (src .entry)) (now (tree .entry)) i) ⌝ }
 {
-    let at = 7 * i;
-    tree[at]
+    let w = 7 * i;
+    let k = tree[w];
+    let d = tree[w + 1];
+    let s = tree[w + 2];
+    let l = tree[w + 3];
+    let from = least(at, out.len());
+    let n = write_opening(src, st, k, d, s, l, &mut out[from..]);
+    Opened {
+        at: at + n,
+        good: row_spelled(src, k, d, s, l),
+    }
 }
 
-// What stands before the children of row i.
-fn open_row(tree: &[u32], src: &[u8], i: usize, st: u32, edge: &[u8], out: &mut [u8]) -> Put
-    requires { ⌜ (7 * i + 6 < length (now tree)) × Standing (getD (now tree) (7 * i) 0) (getD (now tree) (7 * i + 1) 0) × Edge (now edge) ⌝ }
-    ensures { λ r. ⌜ Puts (textOf (now (src .entry)) (opening st (rowAt (now (tree .entry)) i))) (r .len) (now (out .entry)) (now (out .exit)) × (r .len ≤ 8589934710) × (r .good ≡ spelledRow (now (src .entry)) (now (tree .entry)) i) ⌝ }
+// What stands after the children of a row of the kind k.
+fn put_closing(src: &[u8], st: u32, k: u32, at: usize, out: &mut [u8]) -> usize
+    requires { ⌜ at ≤ 1152921504606846976 ⌝ }
+    ensures { λ r. ⌜ Adds (textOf (now (src .entry)) (closing st k)) at r (now (out .entry)) (now (out .exit)) × (r ≤ at + 16) ⌝ }
 {
-    let at = 7 * i;
-    open(
-        src,
-        st,
-        tree[at],
-        tree[at + 1],
-        tree[at + 2],
-        tree[at + 3],
-        edge,
-        out,
-    )
+    let from = least(at, out.len());
+    let n = write_closing(src, st, k, &mut out[from..]);
+    at + n
 }
 
-// The rows from .. to, the first of which stands in the state `start`: their text, and whether all are spelled as reading
-// gives it. A leaf is written whole before its children, of which it has none.
+// `=` before the terms that end a sentence.
+fn put_equals(st: u32, at: usize, out: &mut [u8]) -> usize
+    requires { ⌜ at ≤ 1152921504606846976 ⌝ }
+    ensures { λ r. ⌜ Adds (equalsText (eqb st 6)) at r (now (out .entry)) (now (out .exit)) × (r ≤ at + 2) ⌝ }
+{
+    if st == 6 {
+        return put_mark(61, at, out);
+    }
+    at
+}
+
+// A row of terms and its terms: the commonest row that has children, so it has a way of its own.
+fn write_terms_row(
+    tree: &[u32],
+    src: &[u8],
+    i: usize,
+    end: usize,
+    st: u32,
+    left: usize,
+    edge: &[u8],
+    begin: usize,
+    out: &mut [u8],
+) -> Wrote
+    requires { ⌜ (i < end) × (7 * end ≤ length (now tree)) × (end ≤ 33554432) × (begin ≤ i * 17179869184) × (left ≤ 4294967296) × (getD (now tree) (7 * i) 0 ≡ 6) × Edge (now edge) ⌝ }
+    ensures { λ r. ⌜ WritesNode (now (src .entry)) (now (tree .entry)) i end st 6 left begin (r .at) (r .good) (r .lawful) (now (out .entry)) (now (out .exit)) ⌝ }
+{
+    let first = i + 1;
+    let at = put_equals(st, begin, out);
+    let terms = write_terms(tree, src, first, end, below(st, 6, left), edge, at, out);
+    if !terms.lawful {
+        return unlawful();
+    }
+    let closed = put_closing(src, st, 6, terms.at, out);
+    Wrote {
+        at: closed,
+        good: terms.good,
+        lawful: true,
+    }
+}
+
+// The rows from .. to, the first of which stands in the state `start`, put from the place `begin` on: each row, and below
+// it the same walk over its children. A row that breaks the rules ends the walk; a text that is no spelling does not, since
+// a later row may break them.
 pub fn write_rows(
     tree: &[u32],
     src: &[u8],
     from: usize,
     to: usize,
     start: u32,
+    left: usize,
     edge: &[u8],
+    begin: usize,
     out: &mut [u8],
-) -> Put
-    requires { ⌜ (from ≤ to) × (7 * to ≤ length (now tree)) × (to ≤ 33554432) × Walks (now tree) from to start × Edge (now edge) ⌝ }
-    ensures { λ r. ⌜ Puts (textOf (now (src .entry)) (flatAt (now (tree .entry)) from to start)) (r .len) (now (out .entry)) (now (out .exit)) × (r .len + from * 17179869184 ≤ to * 17179869184) × (r .good ≡ spelledRows (now (src .entry)) (now (tree .entry)) from to) ⌝ }
+) -> Wrote
+    requires { ⌜ (from ≤ to) × (7 * to ≤ length (now tree)) × (to ≤ 33554432) × (left + (to - from) ≤ 4294967296) × (begin ≤ from * 17179869184) × Edge (now edge) ⌝ }
+    ensures { λ r. ⌜ Writes (now (src .entry)) (now (tree .entry)) from to start left begin (r .at) (r .good) (r .lawful) (now (out .entry)) (now (out .exit)) ⌝ }
 {
     let mut i = from;
     let mut st = start;
-    let mut at = 0;
+    let mut at = begin;
     let mut good = true;
     while i < to {
+        if !row_fits(tree, i, to, st, left) {
+            return unlawful();
+        }
+        let end = next(tree, i);
         let k = kind(tree, i);
-        let first = i + 1;
-        let p = least(at, out.len());
-        let a = open_row(tree, src, i, st, edge, &mut out[p..]);
-        let opened = at + a.len;
-        let here = good & a.good;
-        let leaf = (9 <= k) & (k <= 12);
-        if leaf {
-            at = opened;
-            good = here;
-            i = first;
+        if k == 6 {
+            let row = write_terms_row(tree, src, i, end, st, left, edge, at, out);
+            if !row.lawful {
+                return unlawful();
+            }
+            at = row.at;
+            good = good & row.good;
+            st = after(st, k);
+            i = end;
         } else {
-            let end = next(tree, i);
-            let q = least(opened, out.len());
-            let b = write_rows(tree, src, first, end, inside(k), edge, &mut out[q..]);
-            let filled = opened + b.len;
-            good = here & b.good;
-            let s = least(filled, out.len());
-            let c = write_closing(src, st, k, &mut out[s..]);
-            at = filled + c;
+            let first = i + 1;
+            let a = put_opening(tree, src, i, st, at, out);
+            let b = write_rows(
+                tree,
+                src,
+                first,
+                end,
+                inside(k),
+                below(st, k, left),
+                edge,
+                a.at,
+                out,
+            );
+            if !b.lawful {
+                return unlawful();
+            }
+            at = put_closing(src, st, k, b.at, out);
+            good = good & (a.good & b.good);
             st = after(st, k);
             i = end;
         }
     }
-    Put { len: at, good }
+    if !ends(st) {
+        return unlawful();
+    }
+    Wrote {
+        at,
+        good,
+        lawful: true,
+    }
 }

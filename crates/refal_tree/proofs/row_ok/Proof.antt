@@ -1,12 +1,15 @@
--- `refal_tree::row_ok` meets its contract: the tests of place, level and fields.
+-- `refal_tree::row_ok` meets its contract.
+use Prim.Native.Nat.{ℕ, _+_, _*_}
+use mathlib.Core.Path.{_≡_, sym, ap, _∙_}
+use lib.ListN.{getD}
+use Rattle.refal_tree.specs.Forest.{row}
+use Rattle.refal_tree.specs.Rules.{rowOk}
 use borrow.Author.Needs.{needs}
 use Rattle.refal_tree.proofs.row_ok.Statement.{statement}
 use Rattle.refal_tree.proofs.row_ok.Tie as tie
 use Rattle.refal_tree.proofs.row_ok.Reads as reads
 use Rattle.refal_tree.proofs.row_ok.Lts as lts
-use Rattle.refal_tree.proofs.fields.fields_ok.Reads as fields-ok-reads
-use Rattle.refal_tree.proofs.states.room.Reads as room-reads
-use Rattle.refal_tree.proofs.states.stands.Reads as stands-reads
+use Rattle.refal_tree.proofs.fits.Reads as fits-reads
 
 mul-at : tie.Need-mul-at
 mul-at c = search needs
@@ -17,62 +20,74 @@ mul-k c = search needs
 shared-slice-read-k : tie.Need-shared-slice-read-k
 shared-slice-read-k c = search needs
 
-add-fields-ok : tie.Need-add-fields-ok
-add-fields-ok c = search needs
+add-d : tie.Need-add-d
+add-d c = search needs
 
-mul-fields-ok : tie.Need-mul-fields-ok
-mul-fields-ok c = search needs
+mul-d : tie.Need-mul-d
+mul-d c = search needs
 
-shared-slice-read-fields-ok : tie.Need-shared-slice-read-fields-ok
-shared-slice-read-fields-ok c = search needs
+shared-slice-read-d : tie.Need-shared-slice-read-d
+shared-slice-read-d c = search needs
 
-add-fields-ok-2 : tie.Need-add-fields-ok-2
-add-fields-ok-2 c = search needs
+add-s : tie.Need-add-s
+add-s c = search needs
 
-mul-fields-ok-2 : tie.Need-mul-fields-ok-2
-mul-fields-ok-2 c = search needs
+mul-s : tie.Need-mul-s
+mul-s c = search needs
 
-shared-slice-read-fields-ok-2 : tie.Need-shared-slice-read-fields-ok-2
-shared-slice-read-fields-ok-2 c = search needs
+shared-slice-read-s : tie.Need-shared-slice-read-s
+shared-slice-read-s c = search needs
 
-add-fields-ok-3 : tie.Need-add-fields-ok-3
-add-fields-ok-3 c = search needs
+add-l : tie.Need-add-l
+add-l c = search needs
 
-mul-fields-ok-3 : tie.Need-mul-fields-ok-3
-mul-fields-ok-3 c = search needs
+mul-l : tie.Need-mul-l
+mul-l c = search needs
 
-shared-slice-read-fields-ok-3 : tie.Need-shared-slice-read-fields-ok-3
-shared-slice-read-fields-ok-3 c = search needs
+shared-slice-read-l : tie.Need-shared-slice-read-l
+shared-slice-read-l c = search needs
 
-add-fields-ok-4 : tie.Need-add-fields-ok-4
-add-fields-ok-4 c = search needs
+add-a : tie.Need-add-a
+add-a c = search needs
 
-mul-fields-ok-4 : tie.Need-mul-fields-ok-4
-mul-fields-ok-4 c = search needs
+mul-a : tie.Need-mul-a
+mul-a c = search needs
 
-shared-slice-read-fields-ok-4 : tie.Need-shared-slice-read-fields-ok-4
-shared-slice-read-fields-ok-4 c = search needs
+shared-slice-read-a : tie.Need-shared-slice-read-a
+shared-slice-read-a c = search needs
 
-add-fields-ok-5 : tie.Need-add-fields-ok-5
-add-fields-ok-5 c = search needs
+add-b : tie.Need-add-b
+add-b c = search needs
 
-mul-fields-ok-5 : tie.Need-mul-fields-ok-5
-mul-fields-ok-5 c = search needs
+mul-b : tie.Need-mul-b
+mul-b c = search needs
 
-shared-slice-read-fields-ok-5 : tie.Need-shared-slice-read-fields-ok-5
-shared-slice-read-fields-ok-5 c = search needs
+shared-slice-read-b : tie.Need-shared-slice-read-b
+shared-slice-read-b c = search needs
 
-fields-ok-requires : tie.Need-fields-ok-requires
-fields-ok-requires c κs = search needs
-
-stands-requires : tie.Need-stands-requires
-stands-requires c κs = search needs
-
-room-requires : tie.Need-room-requires
-room-requires c κs = search needs
+fits-requires : tie.Need-fits-requires
+fits-requires c κs = search needs
 
 returns : tie.Need-returns
-returns c = rw (c .before .stands .ensures, c .room .ensures, c .before .before .fields-ok .ensures)
+returns c = let p = c .before .before .before .before .before .before .before .before .before .args in
+    let w = p .tree .now in
+    let n = 7 * p .i in
+    c .fits2 .ensures ∙ ap (λ (k : ℕ). rowOk (p .st) (p .left) (row k (getD w (n + 1) 0) (getD w (n + 2) 0) (getD w (n + 3) 0) (getD w (n + 4) 0) (getD w (n + 5) 0))) (sym (c .before .if1 .taken))
+
+fits-requires-2 : tie.Need-fits-requires-2
+fits-requires-2 c κs = search needs
+
+returns-2 : tie.Need-returns-2
+returns-2 c = let p = c .before .before .before .before .before .before .before .before .before .before .args in
+    let w = p .tree .now in
+    let n = 7 * p .i in
+    c .fits3 .ensures ∙ ap (λ (k : ℕ). rowOk (p .st) (p .left) (row k (getD w (n + 1) 0) (getD w (n + 2) 0) (getD w (n + 3) 0) (getD w (n + 4) 0) (getD w (n + 5) 0))) (sym (c .before .if2 .taken))
+
+fits-requires-3 : tie.Need-fits-requires-3
+fits-requires-3 c κs = search needs
+
+returns-3 : tie.Need-returns-3
+returns-3 c = search needs
 
 pub row-ok-spec : {M : Type 1} → statement M
 row-ok-spec =
@@ -81,22 +96,24 @@ row-ok-spec =
     mul-at
     mul-k
     shared-slice-read-k
-    add-fields-ok
-    mul-fields-ok
-    shared-slice-read-fields-ok
-    add-fields-ok-2
-    mul-fields-ok-2
-    shared-slice-read-fields-ok-2
-    add-fields-ok-3
-    mul-fields-ok-3
-    shared-slice-read-fields-ok-3
-    add-fields-ok-4
-    mul-fields-ok-4
-    shared-slice-read-fields-ok-4
-    add-fields-ok-5
-    mul-fields-ok-5
-    shared-slice-read-fields-ok-5
-    fields-ok-requires
-    stands-requires
-    room-requires
-    returns)
+    add-d
+    mul-d
+    shared-slice-read-d
+    add-s
+    mul-s
+    shared-slice-read-s
+    add-l
+    mul-l
+    shared-slice-read-l
+    add-a
+    mul-a
+    shared-slice-read-a
+    add-b
+    mul-b
+    shared-slice-read-b
+    fits-requires
+    returns
+    fits-requires-2
+    returns-2
+    fits-requires-3
+    returns-3)

@@ -1,31 +1,34 @@
--- `refal_writer::walk::write_rows` meets its contract, as a cycle of calls: the text poured so far with what is left is the whole, and so is the test for refusal 41.
+-- `refal_writer::walk::write_rows` meets its contract, as a cycle of calls: at each row the walk so far is `Going`. What falls is the number of rows.
 use Prim.Native.Nat.{ℕ, _+_, _*_, _-_, _≤_, _<_}
-use mathlib.Core.Bool.{Bool, _&&_}
-use mathlib.Core.List.{List}
-use mathlib.Core.Path.{_≡_, refl, subst, _∙_}
+use mathlib.Core.Path.{_≡_, refl, sym, ap, subst, _∙_}
+use mathlib.Core.Bool.{Bool, true, false, _&&_}
 use native.Mathlib.Omega.{arith}
 use lib.ListN.{length}
-use Rattle.refal_tree.specs.States.{after}
-use Rattle.refal_tree.specs.Walk.{flatAt}
-use Rattle.refal_writer.specs.Puts.{Pours, pours-start, pours-on, pours-end}
-use Rattle.refal_writer.specs.Token.{textOf}
-use Rattle.refal_writer.specs.Leaves.{leaf-rest, leaf-text}
-use Rattle.refal_writer.specs.SpelledRows.{spelledRows, spelled-leaf, spelled-turn, spelled-end}
-use Rattle.refal_writer.specs.Walk.{Walks, walk-low, walk-high, walk-row, walk-kids, walk-rest, turn-text, end-text, widest, leaf-small, filled-small, turn-small, rows-fall, left-falls}
 use borrow.Author.Needs.{needs}
+use borrow.Author.Tests.{not-true, not-false}
+use Rattle.refal_tree.specs.States.{inside, after, below}
+use Rattle.refal_tree.specs.Levels.{below-le}
+use Rattle.refal_tree.specs.Ranges.{rowAt, kindAt, ok-end, stop-kids}
+use Rattle.refal_writer.specs.Going.{Going, node-whole, kids-found, going-start, going-end, going-not, going-turn}
+use Rattle.refal_writer.specs.RowTurns.{fits-low, fits-high, fits-row, fits-not}
+use Rattle.refal_writer.specs.Walk.{widest, standing, rows-fall, left-falls}
 use Prim.Native.Nat.{ℕ, _<_}
 use borrow.Fn.Kinds.{In}
 use borrow.Fn.PlainCycle.{Measures, is, falls, and}
 use Rattle.refal_writer.proofs.walk.write_rows.Reads as write-rows
 use Rattle.refal_writer.proofs.walk.write_rows.Kinds as write-rows-kinds
 use Rattle.refal_writer.proofs.walk.+write_rows.Lts-write_rows as write-rows-lts
-use Rattle.refal_rows.proofs.least.Reads as least-reads
+use Rattle.refal_tree.proofs.below.Reads as below-reads
 use Rattle.refal_tree.proofs.states.after.Reads as after-reads
+use Rattle.refal_tree.proofs.states.ends.Reads as ends-reads
 use Rattle.refal_tree.proofs.states.inside.Reads as inside-reads
-use Rattle.refal_writer.proofs.opening.write_closing.Reads as write-closing-reads
-use Rattle.refal_writer.proofs.walk.kind.Reads as kind-reads
-use Rattle.refal_writer.proofs.walk.next.Reads as next-reads
-use Rattle.refal_writer.proofs.walk.open_row.Reads as open-row-reads
+use Rattle.refal_writer.proofs.row.kind.Reads as kind-reads
+use Rattle.refal_writer.proofs.row.next.Reads as next-reads
+use Rattle.refal_writer.proofs.walk.put_closing.Reads as put-closing-reads
+use Rattle.refal_writer.proofs.walk.put_opening.Reads as put-opening-reads
+use Rattle.refal_writer.proofs.walk.row_fits.Reads as row-fits-reads
+use Rattle.refal_writer.proofs.walk.write_terms_row.Reads as write-terms-row-reads
+use Rattle.refal_writer.proofs.wrote.unlawful.Reads as unlawful-reads
 use Rattle.refal_writer.proofs.walk.+write_rows.{statement}
 use Rattle.refal_writer.proofs.walk.+write_rows.Tie.{close}
 
@@ -41,747 +44,1082 @@ write-rows-below t =
     and 4 write-rows-kinds.ps (falls 4 write-rows-kinds.ps _<_ μ-write-rows t) write-rows.Pre
 
 abbrev write-rows-Inv-loop : write-rows-lts.InvT-loop
-write-rows-Inv-loop tree src from to start edge out₀ i₀ st₀ at₀ good₀ out i st at good = (from ≤ i) × (i ≤ to) × (length out ≡ length out₀) × (at + from * widest ≤ i * widest) × Walks tree i to st × Pours (textOf src (flatAt tree from to start)) (textOf src (flatAt tree i to st)) at out out₀ × (spelledRows src tree from to ≡ good && spelledRows src tree i to)
+write-rows-Inv-loop tree src from to start left edge begin out₀ i₀ st₀ at₀ good₀ out i st at good = Going src tree from to start left begin i st at good out₀ out
 
 abbrev write-rows-μ-loop : write-rows-lts.MeasureT-loop
-write-rows-μ-loop tree src from to start edge out₀ i₀ st₀ at₀ good₀ out i st at good = to - i
+write-rows-μ-loop tree src from to start left edge begin out₀ i₀ st₀ at₀ good₀ out i st at good = to - i
 
 write-rows-loop-holds : (t : ℕ) → write-rows-lts.Need-loop-holds (
-  kind-reads.Asked,
-  kind-reads.Learnt,
-  least-reads.Asked,
-  least-reads.Learnt,
-  open-row-reads.Asked,
-  open-row-reads.Learnt,
+  row-fits-reads.Asked,
+  row-fits-reads.Learnt,
+  unlawful-reads.Asked,
+  unlawful-reads.Learnt,
   next-reads.Asked,
   next-reads.Learnt,
-  inside-reads.Asked,
-  inside-reads.Learnt,
-  write-rows-below t,
-  write-rows.Post,
-  write-closing-reads.Asked,
-  write-closing-reads.Learnt,
+  kind-reads.Asked,
+  kind-reads.Learnt,
+  write-terms-row-reads.Asked,
+  write-terms-row-reads.Learnt,
   after-reads.Asked,
   after-reads.Learnt,
+  put-opening-reads.Asked,
+  put-opening-reads.Learnt,
+  inside-reads.Asked,
+  inside-reads.Learnt,
+  below-reads.Asked,
+  below-reads.Learnt,
+  write-rows-below t,
+  write-rows.Post,
+  put-closing-reads.Asked,
+  put-closing-reads.Learnt,
+  ends-reads.Asked,
+  ends-reads.Learnt,
 ) (write-rows-at t) write-rows.Post write-rows-Inv-loop write-rows-μ-loop
-write-rows-loop-holds t c = (omega arith, c .before .before .before .before .pre .1 .0, refl, omega arith, c .before .before .before .before .pre .1 .3, pours-start _ _, refl)
+write-rows-loop-holds t c = let a = c .before .before .before .before .args in going-start (a .src .now) (a .tree .now) (a .from) (a .to) (a .start) (a .left) (a .begin) (a .out .now) (c .before .before .before .before .pre .1 .0)
 
-write-rows-kind-requires : (t : ℕ) → write-rows-lts.Need-kind-requires (
-  kind-reads.Asked,
-  kind-reads.Learnt,
-  least-reads.Asked,
-  least-reads.Learnt,
-  open-row-reads.Asked,
-  open-row-reads.Learnt,
+write-rows-row-fits-requires : (t : ℕ) → write-rows-lts.Need-row-fits-requires (
+  row-fits-reads.Asked,
+  row-fits-reads.Learnt,
+  unlawful-reads.Asked,
+  unlawful-reads.Learnt,
   next-reads.Asked,
   next-reads.Learnt,
-  inside-reads.Asked,
-  inside-reads.Learnt,
-  write-rows-below t,
-  write-rows.Post,
-  write-closing-reads.Asked,
-  write-closing-reads.Learnt,
+  kind-reads.Asked,
+  kind-reads.Learnt,
+  write-terms-row-reads.Asked,
+  write-terms-row-reads.Learnt,
   after-reads.Asked,
   after-reads.Learnt,
+  put-opening-reads.Asked,
+  put-opening-reads.Learnt,
+  inside-reads.Asked,
+  inside-reads.Learnt,
+  below-reads.Asked,
+  below-reads.Learnt,
+  write-rows-below t,
+  write-rows.Post,
+  put-closing-reads.Asked,
+  put-closing-reads.Learnt,
+  ends-reads.Asked,
+  ends-reads.Learnt,
 ) (write-rows-at t) write-rows.Post write-rows-Inv-loop write-rows-μ-loop
-write-rows-kind-requires t c κs = search needs
+write-rows-row-fits-requires t c κs = search needs
 
-write-rows-add-first : (t : ℕ) → write-rows-lts.Need-add-first (
-  kind-reads.Asked,
-  kind-reads.Learnt,
-  least-reads.Asked,
-  least-reads.Learnt,
-  open-row-reads.Asked,
-  open-row-reads.Learnt,
+write-rows-unlawful-requires : (t : ℕ) → write-rows-lts.Need-unlawful-requires (
+  row-fits-reads.Asked,
+  row-fits-reads.Learnt,
+  unlawful-reads.Asked,
+  unlawful-reads.Learnt,
   next-reads.Asked,
   next-reads.Learnt,
-  inside-reads.Asked,
-  inside-reads.Learnt,
-  write-rows-below t,
-  write-rows.Post,
-  write-closing-reads.Asked,
-  write-closing-reads.Learnt,
+  kind-reads.Asked,
+  kind-reads.Learnt,
+  write-terms-row-reads.Asked,
+  write-terms-row-reads.Learnt,
   after-reads.Asked,
   after-reads.Learnt,
+  put-opening-reads.Asked,
+  put-opening-reads.Learnt,
+  inside-reads.Asked,
+  inside-reads.Learnt,
+  below-reads.Asked,
+  below-reads.Learnt,
+  write-rows-below t,
+  write-rows.Post,
+  put-closing-reads.Asked,
+  put-closing-reads.Learnt,
+  ends-reads.Asked,
+  ends-reads.Learnt,
 ) (write-rows-at t) write-rows.Post write-rows-Inv-loop write-rows-μ-loop
-write-rows-add-first t c = search needs
+write-rows-unlawful-requires t c κs = search needs
 
-write-rows-least-requires : (t : ℕ) → write-rows-lts.Need-least-requires (
-  kind-reads.Asked,
-  kind-reads.Learnt,
-  least-reads.Asked,
-  least-reads.Learnt,
-  open-row-reads.Asked,
-  open-row-reads.Learnt,
+write-rows-same-length : (t : ℕ) → write-rows-lts.Need-same-length (
+  row-fits-reads.Asked,
+  row-fits-reads.Learnt,
+  unlawful-reads.Asked,
+  unlawful-reads.Learnt,
   next-reads.Asked,
   next-reads.Learnt,
-  inside-reads.Asked,
-  inside-reads.Learnt,
-  write-rows-below t,
-  write-rows.Post,
-  write-closing-reads.Asked,
-  write-closing-reads.Learnt,
+  kind-reads.Asked,
+  kind-reads.Learnt,
+  write-terms-row-reads.Asked,
+  write-terms-row-reads.Learnt,
   after-reads.Asked,
   after-reads.Learnt,
+  put-opening-reads.Asked,
+  put-opening-reads.Learnt,
+  inside-reads.Asked,
+  inside-reads.Learnt,
+  below-reads.Asked,
+  below-reads.Learnt,
+  write-rows-below t,
+  write-rows.Post,
+  put-closing-reads.Asked,
+  put-closing-reads.Learnt,
+  ends-reads.Asked,
+  ends-reads.Learnt,
 ) (write-rows-at t) write-rows.Post write-rows-Inv-loop write-rows-μ-loop
-write-rows-least-requires t c κs = search needs
+write-rows-same-length t c = c .before .before .before .before .loop .inv .same
 
-write-rows-sub-open-row : (t : ℕ) → write-rows-lts.Need-sub-open-row (
-  kind-reads.Asked,
-  kind-reads.Learnt,
-  least-reads.Asked,
-  least-reads.Learnt,
-  open-row-reads.Asked,
-  open-row-reads.Learnt,
+write-rows-returns : (t : ℕ) → write-rows-lts.Need-returns (
+  row-fits-reads.Asked,
+  row-fits-reads.Learnt,
+  unlawful-reads.Asked,
+  unlawful-reads.Learnt,
   next-reads.Asked,
   next-reads.Learnt,
-  inside-reads.Asked,
-  inside-reads.Learnt,
-  write-rows-below t,
-  write-rows.Post,
-  write-closing-reads.Asked,
-  write-closing-reads.Learnt,
-  after-reads.Asked,
-  after-reads.Learnt,
-) (write-rows-at t) write-rows.Post write-rows-Inv-loop write-rows-μ-loop
-write-rows-sub-open-row t c = search needs
-
-write-rows-part-open-row-start : (t : ℕ) → write-rows-lts.Need-part-open-row-start (
   kind-reads.Asked,
   kind-reads.Learnt,
-  least-reads.Asked,
-  least-reads.Learnt,
-  open-row-reads.Asked,
-  open-row-reads.Learnt,
-  next-reads.Asked,
-  next-reads.Learnt,
-  inside-reads.Asked,
-  inside-reads.Learnt,
-  write-rows-below t,
-  write-rows.Post,
-  write-closing-reads.Asked,
-  write-closing-reads.Learnt,
+  write-terms-row-reads.Asked,
+  write-terms-row-reads.Learnt,
   after-reads.Asked,
   after-reads.Learnt,
-) (write-rows-at t) write-rows.Post write-rows-Inv-loop write-rows-μ-loop
-write-rows-part-open-row-start t c = search needs
-
-write-rows-part-open-row-end : (t : ℕ) → write-rows-lts.Need-part-open-row-end (
-  kind-reads.Asked,
-  kind-reads.Learnt,
-  least-reads.Asked,
-  least-reads.Learnt,
-  open-row-reads.Asked,
-  open-row-reads.Learnt,
-  next-reads.Asked,
-  next-reads.Learnt,
+  put-opening-reads.Asked,
+  put-opening-reads.Learnt,
   inside-reads.Asked,
   inside-reads.Learnt,
+  below-reads.Asked,
+  below-reads.Learnt,
   write-rows-below t,
   write-rows.Post,
-  write-closing-reads.Asked,
-  write-closing-reads.Learnt,
-  after-reads.Asked,
-  after-reads.Learnt,
+  put-closing-reads.Asked,
+  put-closing-reads.Learnt,
+  ends-reads.Asked,
+  ends-reads.Learnt,
 ) (write-rows-at t) write-rows.Post write-rows-Inv-loop write-rows-μ-loop
-write-rows-part-open-row-end t c = search needs
-
-write-rows-open-row-requires : (t : ℕ) → write-rows-lts.Need-open-row-requires (
-  kind-reads.Asked,
-  kind-reads.Learnt,
-  least-reads.Asked,
-  least-reads.Learnt,
-  open-row-reads.Asked,
-  open-row-reads.Learnt,
-  next-reads.Asked,
-  next-reads.Learnt,
-  inside-reads.Asked,
-  inside-reads.Learnt,
-  write-rows-below t,
-  write-rows.Post,
-  write-closing-reads.Asked,
-  write-closing-reads.Learnt,
-  after-reads.Asked,
-  after-reads.Learnt,
-) (write-rows-at t) write-rows.Post write-rows-Inv-loop write-rows-μ-loop
-write-rows-open-row-requires t c κs = let a = c .before .before .before .before .before .before .before .before .before .args in
-    let g = c .before .before .before .before .loop in
-    let m : g .i < a .to = c .before .before .before .loop-test .taken in
-    let k = c .before .before .kind in
-    (omega arith, walk-row (a .tree .now) (g .i) (a .to) (g .st) (k .result) _ (k .ensures) refl (c .before .before .before .before .before .before .before .before .before .pre .1 .1) m (g .inv .4), c .before .before .before .before .before .before .before .before .before .pre .1 .4)
-
-write-rows-add-opened : (t : ℕ) → write-rows-lts.Need-add-opened (
-  kind-reads.Asked,
-  kind-reads.Learnt,
-  least-reads.Asked,
-  least-reads.Learnt,
-  open-row-reads.Asked,
-  open-row-reads.Learnt,
-  next-reads.Asked,
-  next-reads.Learnt,
-  inside-reads.Asked,
-  inside-reads.Learnt,
-  write-rows-below t,
-  write-rows.Post,
-  write-closing-reads.Asked,
-  write-closing-reads.Learnt,
-  after-reads.Asked,
-  after-reads.Learnt,
-) (write-rows-at t) write-rows.Post write-rows-Inv-loop write-rows-μ-loop
-write-rows-add-opened t c = search needs
-
-write-rows-loop-less : (t : ℕ) → write-rows-lts.Need-loop-less (
-  kind-reads.Asked,
-  kind-reads.Learnt,
-  least-reads.Asked,
-  least-reads.Learnt,
-  open-row-reads.Asked,
-  open-row-reads.Learnt,
-  next-reads.Asked,
-  next-reads.Learnt,
-  inside-reads.Asked,
-  inside-reads.Learnt,
-  write-rows-below t,
-  write-rows.Post,
-  write-closing-reads.Asked,
-  write-closing-reads.Learnt,
-  after-reads.Asked,
-  after-reads.Learnt,
-) (write-rows-at t) write-rows.Post write-rows-Inv-loop write-rows-μ-loop
-write-rows-loop-less t c = let a = c .before .before .before .before .before .before .before .before .before .before .before .before .before .before .before .args in
-    let g = c .before .before .before .before .before .before .before .before .before .before .loop in
-    let m : g .i < a .to = c .before .before .before .before .before .before .before .before .before .loop-test .taken in
-    omega arith
-
-write-rows-loop-again : (t : ℕ) → write-rows-lts.Need-loop-again (
-  kind-reads.Asked,
-  kind-reads.Learnt,
-  least-reads.Asked,
-  least-reads.Learnt,
-  open-row-reads.Asked,
-  open-row-reads.Learnt,
-  next-reads.Asked,
-  next-reads.Learnt,
-  inside-reads.Asked,
-  inside-reads.Learnt,
-  write-rows-below t,
-  write-rows.Post,
-  write-closing-reads.Asked,
-  write-closing-reads.Learnt,
-  after-reads.Asked,
-  after-reads.Learnt,
-) (write-rows-at t) write-rows.Post write-rows-Inv-loop write-rows-μ-loop
-write-rows-loop-again t c = let a = c .before .before .before .before .before .before .before .before .before .before .before .before .before .before .before .args in
-    let g = c .before .before .before .before .before .before .before .before .before .before .loop in
-    let m : g .i < a .to = c .before .before .before .before .before .before .before .before .before .loop-test .taken in
-    let k = c .before .before .before .before .before .before .before .before .kind in
-    let o = c .before .before .before .before .before .open-row in
-    let rest = leaf-rest (a .tree .now) (g .i) (a .to) (g .st) (k .result) (k .ensures) (c .if1 .taken) (c .before .before .before .before .before .before .before .before .before .before .before .before .before .before .before .pre .1 .1) m (g .inv .4) in
-    let T : List ℕ = textOf (a .src .now) (flatAt (a .tree .now) (a .from) (a .to) (a .start)) in
-    let p = subst (λ (r : List ℕ). Pours T r (g .at) (g .out) (a .out .now)) (leaf-text (a .tree .now) (g .i) (a .to) (g .st) (k .result) (k .ensures) (c .if1 .taken) (c .before .before .before .before .before .before .before .before .before .before .before .before .before .before .before .pre .1 .1) m (g .inv .4) (a .src .now)) (g .inv .5) in
-    let p1 = pours-on _ _ _ _ _ _ _ _ _ p (g .inv .2) (c .before .before .before .before .before .before .before .least .ensures) (o .ensures .0) in
-    let s = spelled-leaf (a .src .now) (a .tree .now) _ (g .good) (o .result .good) (g .i) (a .to) (g .inv .6) (o .ensures .2) m (c .before .before .before .before .before .before .before .before .before .before .before .before .before .before .before .pre .1 .1) in
-    (omega arith, omega arith, c .before .before .before .before .out .given .1 ∙ g .inv .2, leaf-small (a .from) (g .i) (g .at) (o .result .len) (g .inv .3) (o .ensures .1), rest, p1, s)
+write-rows-returns t c = let a = c .before .before .before .before .before .before .before .before .before .args in let g = c .before .before .before .before .loop in
+    going-not (a .src .now) (a .tree .now) (a .from) (a .to) (a .start) (a .left) (a .begin) (g .i) (g .st) (g .at) (g .good) (a .out .now) (g .out) (g .inv) _ _ _ _ (c .unlawful .ensures)
+    (fits-not (a .tree .now) (g .i) (a .to) (g .st) (a .left) (c .before .before .before .before .before .before .before .before .before .pre .1 .1) (c .before .before .before .loop-test .taken) (sym (c .before .before .row-fits .ensures) ∙ not-true _ (c .before .if1 .taken)))
 
 write-rows-next-requires : (t : ℕ) → write-rows-lts.Need-next-requires (
-  kind-reads.Asked,
-  kind-reads.Learnt,
-  least-reads.Asked,
-  least-reads.Learnt,
-  open-row-reads.Asked,
-  open-row-reads.Learnt,
+  row-fits-reads.Asked,
+  row-fits-reads.Learnt,
+  unlawful-reads.Asked,
+  unlawful-reads.Learnt,
   next-reads.Asked,
   next-reads.Learnt,
-  inside-reads.Asked,
-  inside-reads.Learnt,
-  write-rows-below t,
-  write-rows.Post,
-  write-closing-reads.Asked,
-  write-closing-reads.Learnt,
+  kind-reads.Asked,
+  kind-reads.Learnt,
+  write-terms-row-reads.Asked,
+  write-terms-row-reads.Learnt,
   after-reads.Asked,
   after-reads.Learnt,
+  put-opening-reads.Asked,
+  put-opening-reads.Learnt,
+  inside-reads.Asked,
+  inside-reads.Learnt,
+  below-reads.Asked,
+  below-reads.Learnt,
+  write-rows-below t,
+  write-rows.Post,
+  put-closing-reads.Asked,
+  put-closing-reads.Learnt,
+  ends-reads.Asked,
+  ends-reads.Learnt,
 ) (write-rows-at t) write-rows.Post write-rows-Inv-loop write-rows-μ-loop
 write-rows-next-requires t c κs = search needs
 
-write-rows-least-requires-2 : (t : ℕ) → write-rows-lts.Need-least-requires-2 (
-  kind-reads.Asked,
-  kind-reads.Learnt,
-  least-reads.Asked,
-  least-reads.Learnt,
-  open-row-reads.Asked,
-  open-row-reads.Learnt,
+write-rows-kind-requires : (t : ℕ) → write-rows-lts.Need-kind-requires (
+  row-fits-reads.Asked,
+  row-fits-reads.Learnt,
+  unlawful-reads.Asked,
+  unlawful-reads.Learnt,
   next-reads.Asked,
   next-reads.Learnt,
-  inside-reads.Asked,
-  inside-reads.Learnt,
-  write-rows-below t,
-  write-rows.Post,
-  write-closing-reads.Asked,
-  write-closing-reads.Learnt,
+  kind-reads.Asked,
+  kind-reads.Learnt,
+  write-terms-row-reads.Asked,
+  write-terms-row-reads.Learnt,
   after-reads.Asked,
   after-reads.Learnt,
+  put-opening-reads.Asked,
+  put-opening-reads.Learnt,
+  inside-reads.Asked,
+  inside-reads.Learnt,
+  below-reads.Asked,
+  below-reads.Learnt,
+  write-rows-below t,
+  write-rows.Post,
+  put-closing-reads.Asked,
+  put-closing-reads.Learnt,
+  ends-reads.Asked,
+  ends-reads.Learnt,
 ) (write-rows-at t) write-rows.Post write-rows-Inv-loop write-rows-μ-loop
-write-rows-least-requires-2 t c κs = search needs
+write-rows-kind-requires t c κs = search needs
 
-write-rows-inside-requires : (t : ℕ) → write-rows-lts.Need-inside-requires (
-  kind-reads.Asked,
-  kind-reads.Learnt,
-  least-reads.Asked,
-  least-reads.Learnt,
-  open-row-reads.Asked,
-  open-row-reads.Learnt,
+write-rows-write-terms-row-requires : (t : ℕ) → write-rows-lts.Need-write-terms-row-requires (
+  row-fits-reads.Asked,
+  row-fits-reads.Learnt,
+  unlawful-reads.Asked,
+  unlawful-reads.Learnt,
   next-reads.Asked,
   next-reads.Learnt,
-  inside-reads.Asked,
-  inside-reads.Learnt,
-  write-rows-below t,
-  write-rows.Post,
-  write-closing-reads.Asked,
-  write-closing-reads.Learnt,
-  after-reads.Asked,
-  after-reads.Learnt,
-) (write-rows-at t) write-rows.Post write-rows-Inv-loop write-rows-μ-loop
-write-rows-inside-requires t c κs = search needs
-
-write-rows-sub-write-rows : (t : ℕ) → write-rows-lts.Need-sub-write-rows (
   kind-reads.Asked,
   kind-reads.Learnt,
-  least-reads.Asked,
-  least-reads.Learnt,
-  open-row-reads.Asked,
-  open-row-reads.Learnt,
-  next-reads.Asked,
-  next-reads.Learnt,
-  inside-reads.Asked,
-  inside-reads.Learnt,
-  write-rows-below t,
-  write-rows.Post,
-  write-closing-reads.Asked,
-  write-closing-reads.Learnt,
+  write-terms-row-reads.Asked,
+  write-terms-row-reads.Learnt,
   after-reads.Asked,
   after-reads.Learnt,
-) (write-rows-at t) write-rows.Post write-rows-Inv-loop write-rows-μ-loop
-write-rows-sub-write-rows t c = search needs
-
-write-rows-part-write-rows-start : (t : ℕ) → write-rows-lts.Need-part-write-rows-start (
-  kind-reads.Asked,
-  kind-reads.Learnt,
-  least-reads.Asked,
-  least-reads.Learnt,
-  open-row-reads.Asked,
-  open-row-reads.Learnt,
-  next-reads.Asked,
-  next-reads.Learnt,
+  put-opening-reads.Asked,
+  put-opening-reads.Learnt,
   inside-reads.Asked,
   inside-reads.Learnt,
+  below-reads.Asked,
+  below-reads.Learnt,
   write-rows-below t,
   write-rows.Post,
-  write-closing-reads.Asked,
-  write-closing-reads.Learnt,
-  after-reads.Asked,
-  after-reads.Learnt,
+  put-closing-reads.Asked,
+  put-closing-reads.Learnt,
+  ends-reads.Asked,
+  ends-reads.Learnt,
 ) (write-rows-at t) write-rows.Post write-rows-Inv-loop write-rows-μ-loop
-write-rows-part-write-rows-start t c = search needs
-
-write-rows-part-write-rows-end : (t : ℕ) → write-rows-lts.Need-part-write-rows-end (
-  kind-reads.Asked,
-  kind-reads.Learnt,
-  least-reads.Asked,
-  least-reads.Learnt,
-  open-row-reads.Asked,
-  open-row-reads.Learnt,
-  next-reads.Asked,
-  next-reads.Learnt,
-  inside-reads.Asked,
-  inside-reads.Learnt,
-  write-rows-below t,
-  write-rows.Post,
-  write-closing-reads.Asked,
-  write-closing-reads.Learnt,
-  after-reads.Asked,
-  after-reads.Learnt,
-) (write-rows-at t) write-rows.Post write-rows-Inv-loop write-rows-μ-loop
-write-rows-part-write-rows-end t c = search needs
-
-write-rows-write-rows-requires : (t : ℕ) → write-rows-lts.Need-write-rows-requires (
-  kind-reads.Asked,
-  kind-reads.Learnt,
-  least-reads.Asked,
-  least-reads.Learnt,
-  open-row-reads.Asked,
-  open-row-reads.Learnt,
-  next-reads.Asked,
-  next-reads.Learnt,
-  inside-reads.Asked,
-  inside-reads.Learnt,
-  write-rows-below t,
-  write-rows.Post,
-  write-closing-reads.Asked,
-  write-closing-reads.Learnt,
-  after-reads.Asked,
-  after-reads.Learnt,
-) (write-rows-at t) write-rows.Post write-rows-Inv-loop write-rows-μ-loop
-write-rows-write-rows-requires t c κs = let a = c .before .before .before .before .before .before .before .before .before .before .before .before .before .before .before .before .before .before .before .args in
-    let g = c .before .before .before .before .before .before .before .before .before .before .before .before .before .before .loop in
-    let m : g .i < a .to = c .before .before .before .before .before .before .before .before .before .before .before .before .before .loop-test .taken in
-    let k = c .before .before .before .before .before .before .before .before .before .before .before .before .kind in
+write-rows-write-terms-row-requires t c κs = let a = c .before .before .before .before .before .before .before .before .before .before .before .before .args in let g = c .before .before .before .before .before .before .before .loop in
+    let m : g .i < a .to = c .before .before .before .before .before .before .loop-test .taken in
+    let T = sym (c .before .before .before .before .before .row-fits .ensures) ∙ not-false _ (c .before .before .before .before .if1 .left) in
     let x = c .before .before .before .next in
-    let lo = walk-low (a .tree .now) (g .i) (a .to) (g .st) (k .result) (x .result) (k .ensures) (x .ensures) (c .before .before .before .before .before .before .before .before .before .before .before .before .before .before .before .before .before .before .before .pre .1 .1) m (g .inv .4) in
-    let hi = walk-high (a .tree .now) (g .i) (a .to) (g .st) (k .result) (x .result) (k .ensures) (x .ensures) (c .before .before .before .before .before .before .before .before .before .before .before .before .before .before .before .before .before .before .before .pre .1 .1) m (g .inv .4) in
-    let s = walk-kids (a .tree .now) (g .i) (a .to) (g .st) (k .result) (x .result) (k .ensures) (x .ensures) (c .before .before .before .before .before .before .before .before .before .before .before .before .before .before .before .before .before .before .before .pre .1 .1) m (g .inv .4) (c .before .inside .result) (after (g .st) (k .result)) (c .before .inside .ensures) refl in
-    let d : x .result - (g .i + 1) < a .to - a .from = rows-fall (a .from) (g .i) (x .result) (a .to) (g .inv .0) lo hi in
-    let e = c .before .before .before .before .before .before .before .before .before .before .before .before .before .before .before .before .before .before .before .pre .0 in
-    let few : a .to ≤ 33554432 = c .before .before .before .before .before .before .before .before .before .before .before .before .before .before .before .before .before .before .before .pre .1 .2 in
-    let long : 7 * a .to ≤ length (a .tree .now) = c .before .before .before .before .before .before .before .before .before .before .before .before .before .before .before .before .before .before .before .pre .1 .1 in
-    let n2 : 7 * x .result ≤ length (a .tree .now) = omega (arith, hi, long) in
-    let n3 : x .result ≤ 33554432 = omega (arith, hi, few) in
-    (omega arith, (omega (arith, lo), n2, n3, s, c .before .before .before .before .before .before .before .before .before .before .before .before .before .before .before .before .before .before .before .pre .1 .4))
+    let lo : g .i < x .result = subst (λ (y : ℕ). g .i < y) (sym (x .ensures)) (fits-low (a .tree .now) (g .i) (a .to) (g .st) (a .left) T) in
+    let hi : x .result ≤ a .to = subst (λ (y : ℕ). y ≤ a .to) (sym (x .ensures)) (fits-high (a .tree .now) (g .i) (a .to) (g .st) (a .left) T) in
+    let s : g .at + a .from * widest ≤ a .begin + g .i * widest = g .inv .small in
+    let b : a .begin ≤ a .from * widest = c .before .before .before .before .before .before .before .before .before .before .before .before .pre .1 .4 in
+    let few : a .to ≤ 33554432 = c .before .before .before .before .before .before .before .before .before .before .before .before .pre .1 .2 in
+    let long : 7 * a .to ≤ length (a .tree .now) = c .before .before .before .before .before .before .before .before .before .before .before .before .pre .1 .1 in
+    let n1 : 7 * x .result ≤ length (a .tree .now) = omega (arith, hi, long) in
+    let n2 : x .result ≤ 33554432 = omega (arith, hi, few) in
+    let n3 : g .at ≤ g .i * widest = omega (arith, s, b) in
+    let n4 : a .left ≤ 4294967296 = omega arith in
+    (lo, n1, n2, n3, n4, sym (c .before .before .kind .ensures) ∙ c .before .if2 .taken, c .before .before .before .before .before .before .before .before .before .before .before .before .pre .1 .5)
 
-write-rows-add-filled : (t : ℕ) → write-rows-lts.Need-add-filled (
-  kind-reads.Asked,
-  kind-reads.Learnt,
-  least-reads.Asked,
-  least-reads.Learnt,
-  open-row-reads.Asked,
-  open-row-reads.Learnt,
+write-rows-unlawful-requires-2 : (t : ℕ) → write-rows-lts.Need-unlawful-requires-2 (
+  row-fits-reads.Asked,
+  row-fits-reads.Learnt,
+  unlawful-reads.Asked,
+  unlawful-reads.Learnt,
   next-reads.Asked,
   next-reads.Learnt,
-  inside-reads.Asked,
-  inside-reads.Learnt,
-  write-rows-below t,
-  write-rows.Post,
-  write-closing-reads.Asked,
-  write-closing-reads.Learnt,
-  after-reads.Asked,
-  after-reads.Learnt,
-) (write-rows-at t) write-rows.Post write-rows-Inv-loop write-rows-μ-loop
-write-rows-add-filled t c = let a = c .before .before .before .before .before .before .before .before .before .before .before .before .before .before .before .before .before .before .before .before .before .before .before .args in
-    let g = c .before .before .before .before .before .before .before .before .before .before .before .before .before .before .before .before .before .before .loop in
-    let m : g .i < a .to = c .before .before .before .before .before .before .before .before .before .before .before .before .before .before .before .before .before .loop-test .taken in
-    let k = c .before .before .before .before .before .before .before .before .before .before .before .before .before .before .before .before .kind in
-    let x = c .before .before .before .before .before .before .before .next in
-    let o = c .before .before .before .before .before .before .before .before .before .before .before .before .before .open-row in
-    let r = c .before .before .before .write-rows in
-    let f = filled-small (a .from) (g .i) (x .result) (a .to) (g .at) (o .result .len) (r .result .len) (g .inv .3) (o .ensures .1) (r .ensures .1) (walk-high (a .tree .now) (g .i) (a .to) (g .st) (k .result) (x .result) (k .ensures) (x .ensures)
-    (c .before .before .before .before .before .before .before .before .before .before .before .before .before .before .before .before .before .before .before .before .before .before .before .pre .1 .1) m (g .inv .4)) (c .before .before .before .before .before .before .before .before .before .before .before .before .before .before .before .before .before .before .before .before .before .before .before .pre .1 .2) in
-    search needs
-
-write-rows-least-requires-3 : (t : ℕ) → write-rows-lts.Need-least-requires-3 (
   kind-reads.Asked,
   kind-reads.Learnt,
-  least-reads.Asked,
-  least-reads.Learnt,
-  open-row-reads.Asked,
-  open-row-reads.Learnt,
-  next-reads.Asked,
-  next-reads.Learnt,
-  inside-reads.Asked,
-  inside-reads.Learnt,
-  write-rows-below t,
-  write-rows.Post,
-  write-closing-reads.Asked,
-  write-closing-reads.Learnt,
+  write-terms-row-reads.Asked,
+  write-terms-row-reads.Learnt,
   after-reads.Asked,
   after-reads.Learnt,
+  put-opening-reads.Asked,
+  put-opening-reads.Learnt,
+  inside-reads.Asked,
+  inside-reads.Learnt,
+  below-reads.Asked,
+  below-reads.Learnt,
+  write-rows-below t,
+  write-rows.Post,
+  put-closing-reads.Asked,
+  put-closing-reads.Learnt,
+  ends-reads.Asked,
+  ends-reads.Learnt,
 ) (write-rows-at t) write-rows.Post write-rows-Inv-loop write-rows-μ-loop
-write-rows-least-requires-3 t c κs = search needs
+write-rows-unlawful-requires-2 t c κs = search needs
 
-write-rows-sub-write-closing : (t : ℕ) → write-rows-lts.Need-sub-write-closing (
+write-rows-same-length-2 : (t : ℕ) → write-rows-lts.Need-same-length-2 (
+  row-fits-reads.Asked,
+  row-fits-reads.Learnt,
+  unlawful-reads.Asked,
+  unlawful-reads.Learnt,
+  next-reads.Asked,
+  next-reads.Learnt,
   kind-reads.Asked,
   kind-reads.Learnt,
-  least-reads.Asked,
-  least-reads.Learnt,
-  open-row-reads.Asked,
-  open-row-reads.Learnt,
-  next-reads.Asked,
-  next-reads.Learnt,
-  inside-reads.Asked,
-  inside-reads.Learnt,
-  write-rows-below t,
-  write-rows.Post,
-  write-closing-reads.Asked,
-  write-closing-reads.Learnt,
+  write-terms-row-reads.Asked,
+  write-terms-row-reads.Learnt,
   after-reads.Asked,
   after-reads.Learnt,
+  put-opening-reads.Asked,
+  put-opening-reads.Learnt,
+  inside-reads.Asked,
+  inside-reads.Learnt,
+  below-reads.Asked,
+  below-reads.Learnt,
+  write-rows-below t,
+  write-rows.Post,
+  put-closing-reads.Asked,
+  put-closing-reads.Learnt,
+  ends-reads.Asked,
+  ends-reads.Learnt,
 ) (write-rows-at t) write-rows.Post write-rows-Inv-loop write-rows-μ-loop
-write-rows-sub-write-closing t c = search needs
+write-rows-same-length-2 t c = c .before .before .before .before .before .write-terms-row .kept .1 .1 .1 .1 .1 .1 .1 .1 .0 ∙ c .before .before .before .before .before .before .before .before .before .before .before .before .before .loop .inv .same
 
-write-rows-part-write-closing-start : (t : ℕ) → write-rows-lts.Need-part-write-closing-start (
+write-rows-returns-2 : (t : ℕ) → write-rows-lts.Need-returns-2 (
+  row-fits-reads.Asked,
+  row-fits-reads.Learnt,
+  unlawful-reads.Asked,
+  unlawful-reads.Learnt,
+  next-reads.Asked,
+  next-reads.Learnt,
   kind-reads.Asked,
   kind-reads.Learnt,
-  least-reads.Asked,
-  least-reads.Learnt,
-  open-row-reads.Asked,
-  open-row-reads.Learnt,
-  next-reads.Asked,
-  next-reads.Learnt,
-  inside-reads.Asked,
-  inside-reads.Learnt,
-  write-rows-below t,
-  write-rows.Post,
-  write-closing-reads.Asked,
-  write-closing-reads.Learnt,
+  write-terms-row-reads.Asked,
+  write-terms-row-reads.Learnt,
   after-reads.Asked,
   after-reads.Learnt,
-) (write-rows-at t) write-rows.Post write-rows-Inv-loop write-rows-μ-loop
-write-rows-part-write-closing-start t c = search needs
-
-write-rows-part-write-closing-end : (t : ℕ) → write-rows-lts.Need-part-write-closing-end (
-  kind-reads.Asked,
-  kind-reads.Learnt,
-  least-reads.Asked,
-  least-reads.Learnt,
-  open-row-reads.Asked,
-  open-row-reads.Learnt,
-  next-reads.Asked,
-  next-reads.Learnt,
+  put-opening-reads.Asked,
+  put-opening-reads.Learnt,
   inside-reads.Asked,
   inside-reads.Learnt,
+  below-reads.Asked,
+  below-reads.Learnt,
   write-rows-below t,
   write-rows.Post,
-  write-closing-reads.Asked,
-  write-closing-reads.Learnt,
-  after-reads.Asked,
-  after-reads.Learnt,
+  put-closing-reads.Asked,
+  put-closing-reads.Learnt,
+  ends-reads.Asked,
+  ends-reads.Learnt,
 ) (write-rows-at t) write-rows.Post write-rows-Inv-loop write-rows-μ-loop
-write-rows-part-write-closing-end t c = search needs
-
-write-rows-write-closing-requires : (t : ℕ) → write-rows-lts.Need-write-closing-requires (
-  kind-reads.Asked,
-  kind-reads.Learnt,
-  least-reads.Asked,
-  least-reads.Learnt,
-  open-row-reads.Asked,
-  open-row-reads.Learnt,
-  next-reads.Asked,
-  next-reads.Learnt,
-  inside-reads.Asked,
-  inside-reads.Learnt,
-  write-rows-below t,
-  write-rows.Post,
-  write-closing-reads.Asked,
-  write-closing-reads.Learnt,
-  after-reads.Asked,
-  after-reads.Learnt,
-) (write-rows-at t) write-rows.Post write-rows-Inv-loop write-rows-μ-loop
-write-rows-write-closing-requires t c κs = search needs
-
-write-rows-add-at : (t : ℕ) → write-rows-lts.Need-add-at (
-  kind-reads.Asked,
-  kind-reads.Learnt,
-  least-reads.Asked,
-  least-reads.Learnt,
-  open-row-reads.Asked,
-  open-row-reads.Learnt,
-  next-reads.Asked,
-  next-reads.Learnt,
-  inside-reads.Asked,
-  inside-reads.Learnt,
-  write-rows-below t,
-  write-rows.Post,
-  write-closing-reads.Asked,
-  write-closing-reads.Learnt,
-  after-reads.Asked,
-  after-reads.Learnt,
-) (write-rows-at t) write-rows.Post write-rows-Inv-loop write-rows-μ-loop
-write-rows-add-at t c = let a = c .before .before .before .before .before .before .before .before .before .before .before .before .before .before .before .before .before .before .before .before .before .before .before .before .before .before .before .before .before .args in
-    let g = c .before .before .before .before .before .before .before .before .before .before .before .before .before .before .before .before .before .before .before .before .before .before .before .before .loop in
-    let m : g .i < a .to = c .before .before .before .before .before .before .before .before .before .before .before .before .before .before .before .before .before .before .before .before .before .before .before .loop-test .taken in
-    let k = c .before .before .before .before .before .before .before .before .before .before .before .before .before .before .before .before .before .before .before .before .before .before .kind in
-    let x = c .before .before .before .before .before .before .before .before .before .before .before .before .before .next in
-    let o = c .before .before .before .before .before .before .before .before .before .before .before .before .before .before .before .before .before .before .before .open-row in
-    let r = c .before .before .before .before .before .before .before .before .before .write-rows in
-    let f = filled-small (a .from) (g .i) (x .result) (a .to) (g .at) (o .result .len) (r .result .len) (g .inv .3) (o .ensures .1) (r .ensures .1) (walk-high (a .tree .now) (g .i) (a .to) (g .st) (k .result) (x .result) (k .ensures) (x .ensures)
-    (c .before .before .before .before .before .before .before .before .before .before .before .before .before .before .before .before .before .before .before .before .before .before .before .before .before .before .before .before .before .pre .1 .1) m (g .inv .4))
-    (c .before .before .before .before .before .before .before .before .before .before .before .before .before .before .before .before .before .before .before .before .before .before .before .before .before .before .before .before .before .pre .1 .2) in
-    let l = c .before .before .write-closing .ensures .1 in
-    search needs
+write-rows-returns-2 t c = let a = c .before .before .before .before .before .before .before .before .before .before .before .before .before .before .before .before .before .before .args in let g = c .before .before .before .before .before .before .before .before .before .before .before .before .before .loop in
+    let m : g .i < a .to = c .before .before .before .before .before .before .before .before .before .before .before .before .loop-test .taken in
+    let T = sym (c .before .before .before .before .before .before .before .before .before .before .before .row-fits .ensures) ∙ not-false _ (c .before .before .before .before .before .before .before .before .before .before .if1 .left) in
+    let x = c .before .before .before .before .before .before .before .before .before .next in
+    let lo : g .i < x .result = subst (λ (y : ℕ). g .i < y) (sym (x .ensures)) (fits-low (a .tree .now) (g .i) (a .to) (g .st) (a .left) T) in
+    let hi : x .result ≤ a .to = subst (λ (y : ℕ). y ≤ a .to) (sym (x .ensures)) (fits-high (a .tree .now) (g .i) (a .to) (g .st) (a .left) T) in
+    let k = c .before .before .before .before .before .before .before .before .kind in
+    going-not (a .src .now) (a .tree .now) (a .from) (a .to) (a .start) (a .left) (a .begin) (g .i) (g .st) (g .at) (g .good) (a .out .now) (g .out) (g .inv) _ _ _ _ (c .unlawful2 .ensures)
+    (stop-kids (a .tree .now) (g .i) (a .to) (g .st) (a .left) 6 (x .result) (sym (c .before .before .before .before .before .before .before .if2 .taken) ∙ k .ensures) (x .ensures) (c .before .before .before .before .before .before .before .before .before .before .before .before .before .before .before .before .before .before .pre .1 .1) lo hi
+    (sym (c .before .before .before .before .before .write-terms-row .ensures .lawful-is) ∙ not-true _ (c .before .if3 .taken)))
 
 write-rows-after-requires : (t : ℕ) → write-rows-lts.Need-after-requires (
-  kind-reads.Asked,
-  kind-reads.Learnt,
-  least-reads.Asked,
-  least-reads.Learnt,
-  open-row-reads.Asked,
-  open-row-reads.Learnt,
+  row-fits-reads.Asked,
+  row-fits-reads.Learnt,
+  unlawful-reads.Asked,
+  unlawful-reads.Learnt,
   next-reads.Asked,
   next-reads.Learnt,
-  inside-reads.Asked,
-  inside-reads.Learnt,
-  write-rows-below t,
-  write-rows.Post,
-  write-closing-reads.Asked,
-  write-closing-reads.Learnt,
+  kind-reads.Asked,
+  kind-reads.Learnt,
+  write-terms-row-reads.Asked,
+  write-terms-row-reads.Learnt,
   after-reads.Asked,
   after-reads.Learnt,
+  put-opening-reads.Asked,
+  put-opening-reads.Learnt,
+  inside-reads.Asked,
+  inside-reads.Learnt,
+  below-reads.Asked,
+  below-reads.Learnt,
+  write-rows-below t,
+  write-rows.Post,
+  put-closing-reads.Asked,
+  put-closing-reads.Learnt,
+  ends-reads.Asked,
+  ends-reads.Learnt,
 ) (write-rows-at t) write-rows.Post write-rows-Inv-loop write-rows-μ-loop
 write-rows-after-requires t c κs = search needs
 
-write-rows-loop-less-2 : (t : ℕ) → write-rows-lts.Need-loop-less-2 (
-  kind-reads.Asked,
-  kind-reads.Learnt,
-  least-reads.Asked,
-  least-reads.Learnt,
-  open-row-reads.Asked,
-  open-row-reads.Learnt,
+write-rows-loop-less : (t : ℕ) → write-rows-lts.Need-loop-less (
+  row-fits-reads.Asked,
+  row-fits-reads.Learnt,
+  unlawful-reads.Asked,
+  unlawful-reads.Learnt,
   next-reads.Asked,
   next-reads.Learnt,
-  inside-reads.Asked,
-  inside-reads.Learnt,
-  write-rows-below t,
-  write-rows.Post,
-  write-closing-reads.Asked,
-  write-closing-reads.Learnt,
+  kind-reads.Asked,
+  kind-reads.Learnt,
+  write-terms-row-reads.Asked,
+  write-terms-row-reads.Learnt,
   after-reads.Asked,
   after-reads.Learnt,
+  put-opening-reads.Asked,
+  put-opening-reads.Learnt,
+  inside-reads.Asked,
+  inside-reads.Learnt,
+  below-reads.Asked,
+  below-reads.Learnt,
+  write-rows-below t,
+  write-rows.Post,
+  put-closing-reads.Asked,
+  put-closing-reads.Learnt,
+  ends-reads.Asked,
+  ends-reads.Learnt,
 ) (write-rows-at t) write-rows.Post write-rows-Inv-loop write-rows-μ-loop
-write-rows-loop-less-2 t c = let a = c .before .before .before .before .before .before .before .before .before .before .before .before .before .before .before .before .before .before .before .before .before .before .before .before .before .before .before .before .before .before .args in
-    let g = c .before .before .before .before .before .before .before .before .before .before .before .before .before .before .before .before .before .before .before .before .before .before .before .before .before .loop in
+write-rows-loop-less t c = let a = c .before .before .before .before .before .before .before .before .before .before .before .before .before .before .before .before .before .before .before .args in let g = c .before .before .before .before .before .before .before .before .before .before .before .before .before .before .loop in
+    let m : g .i < a .to = c .before .before .before .before .before .before .before .before .before .before .before .before .before .loop-test .taken in
+    let T = sym (c .before .before .before .before .before .before .before .before .before .before .before .before .row-fits .ensures) ∙ not-false _ (c .before .before .before .before .before .before .before .before .before .before .before .if1 .left) in
+    let x = c .before .before .before .before .before .before .before .before .before .before .next in
+    let lo : g .i < x .result = subst (λ (y : ℕ). g .i < y) (sym (x .ensures)) (fits-low (a .tree .now) (g .i) (a .to) (g .st) (a .left) T) in
+    let hi : x .result ≤ a .to = subst (λ (y : ℕ). y ≤ a .to) (sym (x .ensures)) (fits-high (a .tree .now) (g .i) (a .to) (g .st) (a .left) T) in
+    left-falls (g .i) (x .result) (a .to) lo hi
+
+write-rows-loop-again : (t : ℕ) → write-rows-lts.Need-loop-again (
+  row-fits-reads.Asked,
+  row-fits-reads.Learnt,
+  unlawful-reads.Asked,
+  unlawful-reads.Learnt,
+  next-reads.Asked,
+  next-reads.Learnt,
+  kind-reads.Asked,
+  kind-reads.Learnt,
+  write-terms-row-reads.Asked,
+  write-terms-row-reads.Learnt,
+  after-reads.Asked,
+  after-reads.Learnt,
+  put-opening-reads.Asked,
+  put-opening-reads.Learnt,
+  inside-reads.Asked,
+  inside-reads.Learnt,
+  below-reads.Asked,
+  below-reads.Learnt,
+  write-rows-below t,
+  write-rows.Post,
+  put-closing-reads.Asked,
+  put-closing-reads.Learnt,
+  ends-reads.Asked,
+  ends-reads.Learnt,
+) (write-rows-at t) write-rows.Post write-rows-Inv-loop write-rows-μ-loop
+write-rows-loop-again t c = let a = c .before .before .before .before .before .before .before .before .before .before .before .before .before .before .before .before .before .before .before .args in let g = c .before .before .before .before .before .before .before .before .before .before .before .before .before .before .loop in
+    let m : g .i < a .to = c .before .before .before .before .before .before .before .before .before .before .before .before .before .loop-test .taken in
+    let T = sym (c .before .before .before .before .before .before .before .before .before .before .before .before .row-fits .ensures) ∙ not-false _ (c .before .before .before .before .before .before .before .before .before .before .before .if1 .left) in
+    let x = c .before .before .before .before .before .before .before .before .before .before .next in
+    let lo : g .i < x .result = subst (λ (y : ℕ). g .i < y) (sym (x .ensures)) (fits-low (a .tree .now) (g .i) (a .to) (g .st) (a .left) T) in
+    let hi : x .result ≤ a .to = subst (λ (y : ℕ). y ≤ a .to) (sym (x .ensures)) (fits-high (a .tree .now) (g .i) (a .to) (g .st) (a .left) T) in
+    let k = c .before .before .before .before .before .before .before .before .before .kind in
+    let t = not-false _ (c .before .before .if3 .left) in
+    going-turn (a .src .now) (a .tree .now) (a .from) (a .to) (a .start) (a .left) (a .begin) (g .i) (g .st) (g .at) (g .good) (a .out .now) (g .out) (g .inv) 6 (x .result) (sym (c .before .before .before .before .before .before .before .before .if2 .taken) ∙ k .ensures) (x .ensures) (c .before .before .before .before .before .before .before .before .before .before .before .before .before .before .before .before .before .before .before .pre .1 .1) lo hi
+    (fits-row (a .tree .now) (g .i) (a .to) (g .st) (a .left) T) (sym (c .before .before .before .before .before .before .write-terms-row .ensures .lawful-is) ∙ t) _ _ _ _ (c .after .ensures ∙ ap (after (g .st)) (c .before .before .before .before .before .before .before .before .if2 .taken)) (c .before .before .before .before .before .before .write-terms-row .ensures .node t)
+
+write-rows-add-first : (t : ℕ) → write-rows-lts.Need-add-first (
+  row-fits-reads.Asked,
+  row-fits-reads.Learnt,
+  unlawful-reads.Asked,
+  unlawful-reads.Learnt,
+  next-reads.Asked,
+  next-reads.Learnt,
+  kind-reads.Asked,
+  kind-reads.Learnt,
+  write-terms-row-reads.Asked,
+  write-terms-row-reads.Learnt,
+  after-reads.Asked,
+  after-reads.Learnt,
+  put-opening-reads.Asked,
+  put-opening-reads.Learnt,
+  inside-reads.Asked,
+  inside-reads.Learnt,
+  below-reads.Asked,
+  below-reads.Learnt,
+  write-rows-below t,
+  write-rows.Post,
+  put-closing-reads.Asked,
+  put-closing-reads.Learnt,
+  ends-reads.Asked,
+  ends-reads.Learnt,
+) (write-rows-at t) write-rows.Post write-rows-Inv-loop write-rows-μ-loop
+write-rows-add-first t c = search needs
+
+write-rows-put-opening-requires : (t : ℕ) → write-rows-lts.Need-put-opening-requires (
+  row-fits-reads.Asked,
+  row-fits-reads.Learnt,
+  unlawful-reads.Asked,
+  unlawful-reads.Learnt,
+  next-reads.Asked,
+  next-reads.Learnt,
+  kind-reads.Asked,
+  kind-reads.Learnt,
+  write-terms-row-reads.Asked,
+  write-terms-row-reads.Learnt,
+  after-reads.Asked,
+  after-reads.Learnt,
+  put-opening-reads.Asked,
+  put-opening-reads.Learnt,
+  inside-reads.Asked,
+  inside-reads.Learnt,
+  below-reads.Asked,
+  below-reads.Learnt,
+  write-rows-below t,
+  write-rows.Post,
+  put-closing-reads.Asked,
+  put-closing-reads.Learnt,
+  ends-reads.Asked,
+  ends-reads.Learnt,
+) (write-rows-at t) write-rows.Post write-rows-Inv-loop write-rows-μ-loop
+write-rows-put-opening-requires t c κs = let a = c .before .before .before .before .before .before .before .before .before .before .before .before .args in let g = c .before .before .before .before .before .before .before .loop in
+    let m : g .i < a .to = c .before .before .before .before .before .before .loop-test .taken in
+    let T = sym (c .before .before .before .before .before .row-fits .ensures) ∙ not-false _ (c .before .before .before .before .if1 .left) in
+    let x = c .before .before .before .next in
+    let lo : g .i < x .result = subst (λ (y : ℕ). g .i < y) (sym (x .ensures)) (fits-low (a .tree .now) (g .i) (a .to) (g .st) (a .left) T) in
+    let hi : x .result ≤ a .to = subst (λ (y : ℕ). y ≤ a .to) (sym (x .ensures)) (fits-high (a .tree .now) (g .i) (a .to) (g .st) (a .left) T) in
+    let s : g .at + a .from * widest ≤ a .begin + g .i * widest = g .inv .small in
+    let b : a .begin ≤ a .from * widest = c .before .before .before .before .before .before .before .before .before .before .before .before .pre .1 .4 in
+    let few : a .to ≤ 33554432 = c .before .before .before .before .before .before .before .before .before .before .before .before .pre .1 .2 in
+    let n : g .at ≤ 1152921504606846976 = omega (arith, s, b, few, m) in
+    (omega (arith, m, c .before .before .before .before .before .before .before .before .before .before .before .before .pre .1 .1), standing (g .st) (a .left) (rowAt (a .tree .now) (g .i)) (fits-row (a .tree .now) (g .i) (a .to) (g .st) (a .left) T), n)
+
+write-rows-inside-requires : (t : ℕ) → write-rows-lts.Need-inside-requires (
+  row-fits-reads.Asked,
+  row-fits-reads.Learnt,
+  unlawful-reads.Asked,
+  unlawful-reads.Learnt,
+  next-reads.Asked,
+  next-reads.Learnt,
+  kind-reads.Asked,
+  kind-reads.Learnt,
+  write-terms-row-reads.Asked,
+  write-terms-row-reads.Learnt,
+  after-reads.Asked,
+  after-reads.Learnt,
+  put-opening-reads.Asked,
+  put-opening-reads.Learnt,
+  inside-reads.Asked,
+  inside-reads.Learnt,
+  below-reads.Asked,
+  below-reads.Learnt,
+  write-rows-below t,
+  write-rows.Post,
+  put-closing-reads.Asked,
+  put-closing-reads.Learnt,
+  ends-reads.Asked,
+  ends-reads.Learnt,
+) (write-rows-at t) write-rows.Post write-rows-Inv-loop write-rows-μ-loop
+write-rows-inside-requires t c κs = search needs
+
+write-rows-below-requires : (t : ℕ) → write-rows-lts.Need-below-requires (
+  row-fits-reads.Asked,
+  row-fits-reads.Learnt,
+  unlawful-reads.Asked,
+  unlawful-reads.Learnt,
+  next-reads.Asked,
+  next-reads.Learnt,
+  kind-reads.Asked,
+  kind-reads.Learnt,
+  write-terms-row-reads.Asked,
+  write-terms-row-reads.Learnt,
+  after-reads.Asked,
+  after-reads.Learnt,
+  put-opening-reads.Asked,
+  put-opening-reads.Learnt,
+  inside-reads.Asked,
+  inside-reads.Learnt,
+  below-reads.Asked,
+  below-reads.Learnt,
+  write-rows-below t,
+  write-rows.Post,
+  put-closing-reads.Asked,
+  put-closing-reads.Learnt,
+  ends-reads.Asked,
+  ends-reads.Learnt,
+) (write-rows-at t) write-rows.Post write-rows-Inv-loop write-rows-μ-loop
+write-rows-below-requires t c κs = let a = c .before .before .before .before .before .before .before .before .before .before .before .before .before .before .before .before .args in let n : a .left ≤ 4294967296 = omega (arith, c .before .before .before .before .before .before .before .before .before .before .before .before .before .before .before .before .pre .1 .3) in n
+
+write-rows-write-rows-requires : (t : ℕ) → write-rows-lts.Need-write-rows-requires (
+  row-fits-reads.Asked,
+  row-fits-reads.Learnt,
+  unlawful-reads.Asked,
+  unlawful-reads.Learnt,
+  next-reads.Asked,
+  next-reads.Learnt,
+  kind-reads.Asked,
+  kind-reads.Learnt,
+  write-terms-row-reads.Asked,
+  write-terms-row-reads.Learnt,
+  after-reads.Asked,
+  after-reads.Learnt,
+  put-opening-reads.Asked,
+  put-opening-reads.Learnt,
+  inside-reads.Asked,
+  inside-reads.Learnt,
+  below-reads.Asked,
+  below-reads.Learnt,
+  write-rows-below t,
+  write-rows.Post,
+  put-closing-reads.Asked,
+  put-closing-reads.Learnt,
+  ends-reads.Asked,
+  ends-reads.Learnt,
+) (write-rows-at t) write-rows.Post write-rows-Inv-loop write-rows-μ-loop
+write-rows-write-rows-requires t c κs = let a = c .before .before .before .before .before .before .before .before .before .before .before .before .before .before .before .before .before .before .args in let g = c .before .before .before .before .before .before .before .before .before .before .before .before .before .loop in
+    let m : g .i < a .to = c .before .before .before .before .before .before .before .before .before .before .before .before .loop-test .taken in
+    let T = sym (c .before .before .before .before .before .before .before .before .before .before .before .row-fits .ensures) ∙ not-false _ (c .before .before .before .before .before .before .before .before .before .before .if1 .left) in
+    let x = c .before .before .before .before .before .before .before .before .before .next in
+    let lo : g .i < x .result = subst (λ (y : ℕ). g .i < y) (sym (x .ensures)) (fits-low (a .tree .now) (g .i) (a .to) (g .st) (a .left) T) in
+    let hi : x .result ≤ a .to = subst (λ (y : ℕ). y ≤ a .to) (sym (x .ensures)) (fits-high (a .tree .now) (g .i) (a .to) (g .st) (a .left) T) in
+    let s : g .at + a .from * widest ≤ a .begin + g .i * widest = g .inv .small in
+    let b : a .begin ≤ a .from * widest = c .before .before .before .before .before .before .before .before .before .before .before .before .before .before .before .before .before .before .pre .1 .4 in
+    let o : c .before .before .before .before .before .put-opening .result .at ≤ g .at + 8589934710 = c .before .before .before .before .before .put-opening .ensures .1 in
+    let e = c .before .before .before .before .before .before .before .before .before .before .before .before .before .before .before .before .before .before .pre .0 in
+    let f : x .result - (g .i + 1) < a .to - a .from = rows-fall (a .from) (g .i) (x .result) (a .to) (g .inv .lo) lo hi in
+    let few : a .to ≤ 33554432 = c .before .before .before .before .before .before .before .before .before .before .before .before .before .before .before .before .before .before .pre .1 .2 in
+    let long : 7 * a .to ≤ length (a .tree .now) = c .before .before .before .before .before .before .before .before .before .before .before .before .before .before .before .before .before .before .pre .1 .1 in
+    let deep : a .left + (a .to - a .from) ≤ 4294967296 = c .before .before .before .before .before .before .before .before .before .before .before .before .before .before .before .before .before .before .pre .1 .3 in
+    let l1 : c .before .below .result ≤ a .left + 1 = subst (λ (y : ℕ). y ≤ a .left + 1) (sym (c .before .below .ensures)) (below-le (g .st) (c .before .before .before .before .before .before .before .before .kind .result) (a .left)) in
+    let n1 : 7 * x .result ≤ length (a .tree .now) = omega (arith, hi, long) in
+    let n2 : x .result ≤ 33554432 = omega (arith, hi, few) in
+    let n3 : c .before .below .result + (x .result - (g .i + 1)) ≤ 4294967296 = omega (arith, l1, f, deep) in
+    let n4 : c .before .before .before .before .before .put-opening .result .at ≤ (g .i + 1) * widest = omega (arith, s, b, o) in
+    (omega arith, (omega (arith, lo), n1, n2, n3, n4, c .before .before .before .before .before .before .before .before .before .before .before .before .before .before .before .before .before .before .pre .1 .5))
+
+write-rows-unlawful-requires-3 : (t : ℕ) → write-rows-lts.Need-unlawful-requires-3 (
+  row-fits-reads.Asked,
+  row-fits-reads.Learnt,
+  unlawful-reads.Asked,
+  unlawful-reads.Learnt,
+  next-reads.Asked,
+  next-reads.Learnt,
+  kind-reads.Asked,
+  kind-reads.Learnt,
+  write-terms-row-reads.Asked,
+  write-terms-row-reads.Learnt,
+  after-reads.Asked,
+  after-reads.Learnt,
+  put-opening-reads.Asked,
+  put-opening-reads.Learnt,
+  inside-reads.Asked,
+  inside-reads.Learnt,
+  below-reads.Asked,
+  below-reads.Learnt,
+  write-rows-below t,
+  write-rows.Post,
+  put-closing-reads.Asked,
+  put-closing-reads.Learnt,
+  ends-reads.Asked,
+  ends-reads.Learnt,
+) (write-rows-at t) write-rows.Post write-rows-Inv-loop write-rows-μ-loop
+write-rows-unlawful-requires-3 t c κs = search needs
+
+write-rows-same-length-3 : (t : ℕ) → write-rows-lts.Need-same-length-3 (
+  row-fits-reads.Asked,
+  row-fits-reads.Learnt,
+  unlawful-reads.Asked,
+  unlawful-reads.Learnt,
+  next-reads.Asked,
+  next-reads.Learnt,
+  kind-reads.Asked,
+  kind-reads.Learnt,
+  write-terms-row-reads.Asked,
+  write-terms-row-reads.Learnt,
+  after-reads.Asked,
+  after-reads.Learnt,
+  put-opening-reads.Asked,
+  put-opening-reads.Learnt,
+  inside-reads.Asked,
+  inside-reads.Learnt,
+  below-reads.Asked,
+  below-reads.Learnt,
+  write-rows-below t,
+  write-rows.Post,
+  put-closing-reads.Asked,
+  put-closing-reads.Learnt,
+  ends-reads.Asked,
+  ends-reads.Learnt,
+) (write-rows-at t) write-rows.Post write-rows-Inv-loop write-rows-μ-loop
+write-rows-same-length-3 t c = c .before .before .before .before .before .write-rows .kept .1 .1 .1 .1 .1 .1 .1 .1 .0 ∙ c .before .before .before .before .before .before .before .before .before .before .before .put-opening .kept .1 .1 .1 .1 .1 .0 ∙ c .before .before .before .before .before .before .before .before .before .before .before .before .before .before .before .before .before .before .before .loop .inv .same
+
+write-rows-returns-3 : (t : ℕ) → write-rows-lts.Need-returns-3 (
+  row-fits-reads.Asked,
+  row-fits-reads.Learnt,
+  unlawful-reads.Asked,
+  unlawful-reads.Learnt,
+  next-reads.Asked,
+  next-reads.Learnt,
+  kind-reads.Asked,
+  kind-reads.Learnt,
+  write-terms-row-reads.Asked,
+  write-terms-row-reads.Learnt,
+  after-reads.Asked,
+  after-reads.Learnt,
+  put-opening-reads.Asked,
+  put-opening-reads.Learnt,
+  inside-reads.Asked,
+  inside-reads.Learnt,
+  below-reads.Asked,
+  below-reads.Learnt,
+  write-rows-below t,
+  write-rows.Post,
+  put-closing-reads.Asked,
+  put-closing-reads.Learnt,
+  ends-reads.Asked,
+  ends-reads.Learnt,
+) (write-rows-at t) write-rows.Post write-rows-Inv-loop write-rows-μ-loop
+write-rows-returns-3 t c = let a = c .before .before .before .before .before .before .before .before .before .before .before .before .before .before .before .before .before .before .before .before .before .before .before .before .args in let g = c .before .before .before .before .before .before .before .before .before .before .before .before .before .before .before .before .before .before .before .loop in
+    let m : g .i < a .to = c .before .before .before .before .before .before .before .before .before .before .before .before .before .before .before .before .before .before .loop-test .taken in
+    let T = sym (c .before .before .before .before .before .before .before .before .before .before .before .before .before .before .before .before .before .row-fits .ensures) ∙ not-false _ (c .before .before .before .before .before .before .before .before .before .before .before .before .before .before .before .before .if1 .left) in
+    let x = c .before .before .before .before .before .before .before .before .before .before .before .before .before .before .before .next in
+    let lo : g .i < x .result = subst (λ (y : ℕ). g .i < y) (sym (x .ensures)) (fits-low (a .tree .now) (g .i) (a .to) (g .st) (a .left) T) in
+    let hi : x .result ≤ a .to = subst (λ (y : ℕ). y ≤ a .to) (sym (x .ensures)) (fits-high (a .tree .now) (g .i) (a .to) (g .st) (a .left) T) in
+    let k = c .before .before .before .before .before .before .before .before .before .before .before .before .before .before .kind in
+    going-not (a .src .now) (a .tree .now) (a .from) (a .to) (a .start) (a .left) (a .begin) (g .i) (g .st) (g .at) (g .good) (a .out .now) (g .out) (g .inv) _ _ _ _ (c .unlawful3 .ensures)
+    (stop-kids (a .tree .now) (g .i) (a .to) (g .st) (a .left) (k .result) (x .result) (k .ensures) (x .ensures) (c .before .before .before .before .before .before .before .before .before .before .before .before .before .before .before .before .before .before .before .before .before .before .before .before .pre .1 .1) lo hi
+    (kids-found (a .src .now) (a .tree .now) (g .i) (x .result) (g .st) (k .result) (a .left) _ _ _ _ _ _ _ _ (c .before .before .before .before .before .write-rows .ensures) (c .before .before .before .before .before .before .before .before .inside .ensures) (c .before .before .before .before .before .before .before .below .ensures) ∙ not-true _ (c .before .if4 .taken)))
+
+write-rows-put-closing-requires : (t : ℕ) → write-rows-lts.Need-put-closing-requires (
+  row-fits-reads.Asked,
+  row-fits-reads.Learnt,
+  unlawful-reads.Asked,
+  unlawful-reads.Learnt,
+  next-reads.Asked,
+  next-reads.Learnt,
+  kind-reads.Asked,
+  kind-reads.Learnt,
+  write-terms-row-reads.Asked,
+  write-terms-row-reads.Learnt,
+  after-reads.Asked,
+  after-reads.Learnt,
+  put-opening-reads.Asked,
+  put-opening-reads.Learnt,
+  inside-reads.Asked,
+  inside-reads.Learnt,
+  below-reads.Asked,
+  below-reads.Learnt,
+  write-rows-below t,
+  write-rows.Post,
+  put-closing-reads.Asked,
+  put-closing-reads.Learnt,
+  ends-reads.Asked,
+  ends-reads.Learnt,
+) (write-rows-at t) write-rows.Post write-rows-Inv-loop write-rows-μ-loop
+write-rows-put-closing-requires t c κs = let a = c .before .before .before .before .before .before .before .before .before .before .before .before .before .before .before .before .before .before .before .before .before .before .before .before .args in let g = c .before .before .before .before .before .before .before .before .before .before .before .before .before .before .before .before .before .before .before .loop in
+    let m : g .i < a .to = c .before .before .before .before .before .before .before .before .before .before .before .before .before .before .before .before .before .before .loop-test .taken in
+    let T = sym (c .before .before .before .before .before .before .before .before .before .before .before .before .before .before .before .before .before .row-fits .ensures) ∙ not-false _ (c .before .before .before .before .before .before .before .before .before .before .before .before .before .before .before .before .if1 .left) in
+    let x = c .before .before .before .before .before .before .before .before .before .before .before .before .before .before .before .next in
+    let lo : g .i < x .result = subst (λ (y : ℕ). g .i < y) (sym (x .ensures)) (fits-low (a .tree .now) (g .i) (a .to) (g .st) (a .left) T) in
+    let hi : x .result ≤ a .to = subst (λ (y : ℕ). y ≤ a .to) (sym (x .ensures)) (fits-high (a .tree .now) (g .i) (a .to) (g .st) (a .left) T) in
+    let s : g .at + a .from * widest ≤ a .begin + g .i * widest = g .inv .small in
+    let b : a .begin ≤ a .from * widest = c .before .before .before .before .before .before .before .before .before .before .before .before .before .before .before .before .before .before .before .before .before .before .before .before .pre .1 .4 in
+    let o : c .before .before .before .before .before .before .before .before .before .before .before .put-opening .result .at ≤ g .at + 8589934710 = c .before .before .before .before .before .before .before .before .before .before .before .put-opening .ensures .1 in
+    let few : a .to ≤ 33554432 = c .before .before .before .before .before .before .before .before .before .before .before .before .before .before .before .before .before .before .before .before .before .before .before .before .pre .1 .2 in
+    let r : c .before .before .before .before .before .write-rows .result .at + (g .i + 1) * widest ≤ c .before .before .before .before .before .before .before .before .before .before .before .put-opening .result .at + x .result * widest = c .before .before .before .before .before .write-rows .ensures .small (not-false _ (c .before .if4 .left)) in
+    let z : c .before .before .before .before .before .write-rows .result .at ≤ 1152921504606846976 = omega (arith, s, b, o, few, r, hi) in
+    z
+
+write-rows-after-requires-2 : (t : ℕ) → write-rows-lts.Need-after-requires-2 (
+  row-fits-reads.Asked,
+  row-fits-reads.Learnt,
+  unlawful-reads.Asked,
+  unlawful-reads.Learnt,
+  next-reads.Asked,
+  next-reads.Learnt,
+  kind-reads.Asked,
+  kind-reads.Learnt,
+  write-terms-row-reads.Asked,
+  write-terms-row-reads.Learnt,
+  after-reads.Asked,
+  after-reads.Learnt,
+  put-opening-reads.Asked,
+  put-opening-reads.Learnt,
+  inside-reads.Asked,
+  inside-reads.Learnt,
+  below-reads.Asked,
+  below-reads.Learnt,
+  write-rows-below t,
+  write-rows.Post,
+  put-closing-reads.Asked,
+  put-closing-reads.Learnt,
+  ends-reads.Asked,
+  ends-reads.Learnt,
+) (write-rows-at t) write-rows.Post write-rows-Inv-loop write-rows-μ-loop
+write-rows-after-requires-2 t c κs = search needs
+
+write-rows-loop-less-2 : (t : ℕ) → write-rows-lts.Need-loop-less-2 (
+  row-fits-reads.Asked,
+  row-fits-reads.Learnt,
+  unlawful-reads.Asked,
+  unlawful-reads.Learnt,
+  next-reads.Asked,
+  next-reads.Learnt,
+  kind-reads.Asked,
+  kind-reads.Learnt,
+  write-terms-row-reads.Asked,
+  write-terms-row-reads.Learnt,
+  after-reads.Asked,
+  after-reads.Learnt,
+  put-opening-reads.Asked,
+  put-opening-reads.Learnt,
+  inside-reads.Asked,
+  inside-reads.Learnt,
+  below-reads.Asked,
+  below-reads.Learnt,
+  write-rows-below t,
+  write-rows.Post,
+  put-closing-reads.Asked,
+  put-closing-reads.Learnt,
+  ends-reads.Asked,
+  ends-reads.Learnt,
+) (write-rows-at t) write-rows.Post write-rows-Inv-loop write-rows-μ-loop
+write-rows-loop-less-2 t c = let a = c .before .before .before .before .before .before .before .before .before .before .before .before .before .before .before .before .before .before .before .before .before .before .before .before .before .before .before .before .before .before .args in let g = c .before .before .before .before .before .before .before .before .before .before .before .before .before .before .before .before .before .before .before .before .before .before .before .before .before .loop in
     let m : g .i < a .to = c .before .before .before .before .before .before .before .before .before .before .before .before .before .before .before .before .before .before .before .before .before .before .before .before .loop-test .taken in
-    let k = c .before .before .before .before .before .before .before .before .before .before .before .before .before .before .before .before .before .before .before .before .before .before .before .kind in
-    let x = c .before .before .before .before .before .before .before .before .before .before .before .before .before .before .next in
-    left-falls (g .i) (x .result) (a .to) (walk-low (a .tree .now) (g .i) (a .to) (g .st) (k .result) (x .result) (k .ensures) (x .ensures) (c .before .before .before .before .before .before .before .before .before .before .before .before .before .before .before .before .before .before .before .before .before .before .before .before .before .before .before .before .before .before .pre .1 .1) m (g .inv .4)) (walk-high
-    (a .tree .now) (g .i) (a .to) (g .st) (k .result) (x .result) (k .ensures) (x .ensures) (c .before .before .before .before .before .before .before .before .before .before .before .before .before .before .before .before .before .before .before .before .before .before .before .before .before .before .before .before .before .before .pre .1 .1) m (g .inv .4))
+    let T = sym (c .before .before .before .before .before .before .before .before .before .before .before .before .before .before .before .before .before .before .before .before .before .before .before .row-fits .ensures) ∙ not-false _ (c .before .before .before .before .before .before .before .before .before .before .before .before .before .before .before .before .before .before .before .before .before .before .if1 .left) in
+    let x = c .before .before .before .before .before .before .before .before .before .before .before .before .before .before .before .before .before .before .before .before .before .next in
+    let lo : g .i < x .result = subst (λ (y : ℕ). g .i < y) (sym (x .ensures)) (fits-low (a .tree .now) (g .i) (a .to) (g .st) (a .left) T) in
+    let hi : x .result ≤ a .to = subst (λ (y : ℕ). y ≤ a .to) (sym (x .ensures)) (fits-high (a .tree .now) (g .i) (a .to) (g .st) (a .left) T) in
+    left-falls (g .i) (x .result) (a .to) lo hi
 
 write-rows-loop-again-2 : (t : ℕ) → write-rows-lts.Need-loop-again-2 (
-  kind-reads.Asked,
-  kind-reads.Learnt,
-  least-reads.Asked,
-  least-reads.Learnt,
-  open-row-reads.Asked,
-  open-row-reads.Learnt,
+  row-fits-reads.Asked,
+  row-fits-reads.Learnt,
+  unlawful-reads.Asked,
+  unlawful-reads.Learnt,
   next-reads.Asked,
   next-reads.Learnt,
-  inside-reads.Asked,
-  inside-reads.Learnt,
-  write-rows-below t,
-  write-rows.Post,
-  write-closing-reads.Asked,
-  write-closing-reads.Learnt,
+  kind-reads.Asked,
+  kind-reads.Learnt,
+  write-terms-row-reads.Asked,
+  write-terms-row-reads.Learnt,
   after-reads.Asked,
   after-reads.Learnt,
+  put-opening-reads.Asked,
+  put-opening-reads.Learnt,
+  inside-reads.Asked,
+  inside-reads.Learnt,
+  below-reads.Asked,
+  below-reads.Learnt,
+  write-rows-below t,
+  write-rows.Post,
+  put-closing-reads.Asked,
+  put-closing-reads.Learnt,
+  ends-reads.Asked,
+  ends-reads.Learnt,
 ) (write-rows-at t) write-rows.Post write-rows-Inv-loop write-rows-μ-loop
-write-rows-loop-again-2 t c = let a = c .before .before .before .before .before .before .before .before .before .before .before .before .before .before .before .before .before .before .before .before .before .before .before .before .before .before .before .before .before .before .args in
-    let g = c .before .before .before .before .before .before .before .before .before .before .before .before .before .before .before .before .before .before .before .before .before .before .before .before .before .loop in
+write-rows-loop-again-2 t c = let a = c .before .before .before .before .before .before .before .before .before .before .before .before .before .before .before .before .before .before .before .before .before .before .before .before .before .before .before .before .before .before .args in let g = c .before .before .before .before .before .before .before .before .before .before .before .before .before .before .before .before .before .before .before .before .before .before .before .before .before .loop in
     let m : g .i < a .to = c .before .before .before .before .before .before .before .before .before .before .before .before .before .before .before .before .before .before .before .before .before .before .before .before .loop-test .taken in
-    let k = c .before .before .before .before .before .before .before .before .before .before .before .before .before .before .before .before .before .before .before .before .before .before .before .kind in
-    let x = c .before .before .before .before .before .before .before .before .before .before .before .before .before .before .next in
-    let o = c .before .before .before .before .before .before .before .before .before .before .before .before .before .before .before .before .before .before .before .before .open-row in
-    let r = c .before .before .before .before .before .before .before .before .before .before .write-rows in
-    let z = c .before .before .before .write-closing in
-    let s = c .before .before .before .before .before .before .before .before .before .before .before .before .inside in
-    let u = c .after in
-    let lo = walk-low (a .tree .now) (g .i) (a .to) (g .st) (k .result) (x .result) (k .ensures) (x .ensures) (c .before .before .before .before .before .before .before .before .before .before .before .before .before .before .before .before .before .before .before .before .before .before .before .before .before .before .before .before .before .before .pre .1 .1) m (g .inv .4) in
-    let hi = walk-high (a .tree .now) (g .i) (a .to) (g .st) (k .result) (x .result) (k .ensures) (x .ensures) (c .before .before .before .before .before .before .before .before .before .before .before .before .before .before .before .before .before .before .before .before .before .before .before .before .before .before .before .before .before .before .pre .1 .1) m (g .inv .4) in
-    let b = turn-small (a .from) (g .i) (x .result) (a .to) (g .at) (o .result .len) (r .result .len) (g .inv .3) (o .ensures .1) (r .ensures .1) hi (c .before .before .before .before .before .before .before .before .before .before .before .before .before .before .before .before .before .before .before .before .before .before .before .before .before .before .before .before .before .before .pre .1 .2) (z .result) (z .ensures .1) in
-    let rest = walk-rest (a .tree .now) (g .i) (a .to) (g .st) (k .result) (x .result) (k .ensures) (x .ensures) (c .before .before .before .before .before .before .before .before .before .before .before .before .before .before .before .before .before .before .before .before .before .before .before .before .before .before .before .before .before .before .pre .1 .1) m (g .inv .4) (s .result) (u .result) (s .ensures) (u .ensures) in
-    let e = turn-text (a .tree .now) (g .i) (a .to) (g .st) (k .result) (x .result) (k .ensures) (x .ensures) (c .before .before .before .before .before .before .before .before .before .before .before .before .before .before .before .before .before .before .before .before .before .before .before .before .before .before .before .before .before .before .pre .1 .1) m (g .inv .4) (s .result) (u .result) (s .ensures) (u .ensures) (a .src .now) in
-    let T : List ℕ = textOf (a .src .now) (flatAt (a .tree .now) (a .from) (a .to) (a .start)) in
-    let p = subst (λ (y : List ℕ). Pours T y (g .at) (g .out) (a .out .now)) e (g .inv .5) in
-    let l1 = c .before .before .before .before .before .before .before .before .before .before .before .before .before .before .before .before .before .before .before .out .given .1 ∙ g .inv .2 in
-    let l2 = c .before .before .before .before .before .before .before .before .before .out2 .given .1 ∙ l1 in
-    let p1 = pours-on _ _ _ _ _ _ _ _ _ p (g .inv .2) (c .before .before .before .before .before .before .before .before .before .before .before .before .before .before .before .before .before .before .before .before .before .before .least .ensures) (o .ensures .0) in
-    let p2 = pours-on _ _ _ _ _ _ _ _ _ p1 l1 (c .before .before .before .before .before .before .before .before .before .before .before .before .before .least2 .ensures) (r .ensures .0) in
-    let p3 = pours-on _ _ _ _ _ _ _ _ _ p2 l2 (c .before .before .before .before .before .least3 .ensures) (z .ensures .0) in
-    let f : a .from ≤ x .result = let i = g .inv .0 in omega arith in
-    let w = spelled-turn (a .src .now) (a .tree .now) _ (g .good) (o .result .good) (g .i) (a .to) (g .inv .6) (o .ensures .2) m (c .before .before .before .before .before .before .before .before .before .before .before .before .before .before .before .before .before .before .before .before .before .before .before .before .before .before .before .before .before .before .pre .1 .1) (x .result) (r .result .good) lo hi (r .ensures .2) in
-    (f, hi, c .before .before .out3 .given .1 ∙ l2, b, rest, p3, w)
+    let T = sym (c .before .before .before .before .before .before .before .before .before .before .before .before .before .before .before .before .before .before .before .before .before .before .before .row-fits .ensures) ∙ not-false _ (c .before .before .before .before .before .before .before .before .before .before .before .before .before .before .before .before .before .before .before .before .before .before .if1 .left) in
+    let x = c .before .before .before .before .before .before .before .before .before .before .before .before .before .before .before .before .before .before .before .before .before .next in
+    let lo : g .i < x .result = subst (λ (y : ℕ). g .i < y) (sym (x .ensures)) (fits-low (a .tree .now) (g .i) (a .to) (g .st) (a .left) T) in
+    let hi : x .result ≤ a .to = subst (λ (y : ℕ). y ≤ a .to) (sym (x .ensures)) (fits-high (a .tree .now) (g .i) (a .to) (g .st) (a .left) T) in
+    let k = c .before .before .before .before .before .before .before .before .before .before .before .before .before .before .before .before .before .before .before .before .kind in
+    let long : 7 * x .result ≤ length (a .tree .now) = omega (arith, hi, c .before .before .before .before .before .before .before .before .before .before .before .before .before .before .before .before .before .before .before .before .before .before .before .before .before .before .before .before .before .before .pre .1 .1) in
+    let t = not-false _ (c .before .before .before .before .before .before .before .if4 .left) in
+    going-turn (a .src .now) (a .tree .now) (a .from) (a .to) (a .start) (a .left) (a .begin) (g .i) (g .st) (g .at) (g .good) (a .out .now) (g .out) (g .inv) (k .result) (x .result) (k .ensures) (x .ensures) (c .before .before .before .before .before .before .before .before .before .before .before .before .before .before .before .before .before .before .before .before .before .before .before .before .before .before .before .before .before .before .pre .1 .1) lo hi
+    (fits-row (a .tree .now) (g .i) (a .to) (g .st) (a .left) T)
+    (kids-found (a .src .now) (a .tree .now) (g .i) (x .result) (g .st) (k .result) (a .left) _ _ _ _ _ _ _ _ (c .before .before .before .before .before .before .before .before .before .before .before .write-rows .ensures) (c .before .before .before .before .before .before .before .before .before .before .before .before .before .before .inside .ensures) (c .before .before .before .before .before .before .before .before .before .before .before .before .before .below .ensures) ∙ t) _ _ _ _ (c .after2 .ensures)
+    (node-whole (a .src .now) (a .tree .now) (g .i) (x .result) (g .st) (k .result) (a .left) lo long (g .at) _ _ _ _ _ _ _ _ _ _ _ _
+    (c .before .before .before .before .before .before .before .before .before .before .before .before .before .before .before .before .before .put-opening .ensures .0) (c .before .before .before .before .before .before .before .before .before .before .before .before .before .before .before .before .before .put-opening .kept .1 .1 .1 .1 .1 .0) (c .before .before .before .before .before .before .before .before .before .before .before .before .before .before .before .before .before .put-opening .ensures .1) (c .before .before .before .before .before .before .before .before .before .before .before .before .before .before .before .before .before .put-opening .ensures .2)
+    (c .before .before .before .before .before .before .before .before .before .before .before .before .before .before .inside .ensures) (c .before .before .before .before .before .before .before .before .before .before .before .before .before .below .ensures) (c .before .before .before .before .before .before .before .before .before .before .before .write-rows .ensures) (c .before .before .before .before .before .before .before .before .before .before .before .write-rows .kept .1 .1 .1 .1 .1 .1 .1 .1 .0) t
+    (c .before .before .before .before .before .put-closing .ensures .0) (c .before .before .before .before .before .put-closing .kept .1 .1 .1 .1 .0) (c .before .before .before .before .before .put-closing .ensures .1))
 
-write-rows-same-length : (t : ℕ) → write-rows-lts.Need-same-length (
-  kind-reads.Asked,
-  kind-reads.Learnt,
-  least-reads.Asked,
-  least-reads.Learnt,
-  open-row-reads.Asked,
-  open-row-reads.Learnt,
+write-rows-ends-requires : (t : ℕ) → write-rows-lts.Need-ends-requires (
+  row-fits-reads.Asked,
+  row-fits-reads.Learnt,
+  unlawful-reads.Asked,
+  unlawful-reads.Learnt,
   next-reads.Asked,
   next-reads.Learnt,
-  inside-reads.Asked,
-  inside-reads.Learnt,
-  write-rows-below t,
-  write-rows.Post,
-  write-closing-reads.Asked,
-  write-closing-reads.Learnt,
-  after-reads.Asked,
-  after-reads.Learnt,
-) (write-rows-at t) write-rows.Post write-rows-Inv-loop write-rows-μ-loop
-write-rows-same-length t c = c .before .loop .inv .2
-
-write-rows-returns : (t : ℕ) → write-rows-lts.Need-returns (
   kind-reads.Asked,
   kind-reads.Learnt,
-  least-reads.Asked,
-  least-reads.Learnt,
-  open-row-reads.Asked,
-  open-row-reads.Learnt,
-  next-reads.Asked,
-  next-reads.Learnt,
-  inside-reads.Asked,
-  inside-reads.Learnt,
-  write-rows-below t,
-  write-rows.Post,
-  write-closing-reads.Asked,
-  write-closing-reads.Learnt,
+  write-terms-row-reads.Asked,
+  write-terms-row-reads.Learnt,
   after-reads.Asked,
   after-reads.Learnt,
+  put-opening-reads.Asked,
+  put-opening-reads.Learnt,
+  inside-reads.Asked,
+  inside-reads.Learnt,
+  below-reads.Asked,
+  below-reads.Learnt,
+  write-rows-below t,
+  write-rows.Post,
+  put-closing-reads.Asked,
+  put-closing-reads.Learnt,
+  ends-reads.Asked,
+  ends-reads.Learnt,
 ) (write-rows-at t) write-rows.Post write-rows-Inv-loop write-rows-μ-loop
-write-rows-returns t c = let a = c .before .before .before .before .before .before .args in
-    let g = c .before .loop in
-    let e : g .i ≡ a .to = omega arith in
-    let T : List ℕ = textOf (a .src .now) (flatAt (a .tree .now) (a .from) (a .to) (a .start)) in
-    let p = subst (λ (r : List ℕ). Pours T r (g .at) (g .out) (a .out .now)) (end-text (a .tree .now) (a .src .now) (g .i) (a .to) (g .st) e) (g .inv .5) in
-    (pours-end _ _ _ _ p, omega arith, spelled-end (a .src .now) (a .tree .now) _ (g .good) (g .i) (a .to) (g .inv .6) e)
+write-rows-ends-requires t c κs = search needs
+
+write-rows-unlawful-requires-4 : (t : ℕ) → write-rows-lts.Need-unlawful-requires-4 (
+  row-fits-reads.Asked,
+  row-fits-reads.Learnt,
+  unlawful-reads.Asked,
+  unlawful-reads.Learnt,
+  next-reads.Asked,
+  next-reads.Learnt,
+  kind-reads.Asked,
+  kind-reads.Learnt,
+  write-terms-row-reads.Asked,
+  write-terms-row-reads.Learnt,
+  after-reads.Asked,
+  after-reads.Learnt,
+  put-opening-reads.Asked,
+  put-opening-reads.Learnt,
+  inside-reads.Asked,
+  inside-reads.Learnt,
+  below-reads.Asked,
+  below-reads.Learnt,
+  write-rows-below t,
+  write-rows.Post,
+  put-closing-reads.Asked,
+  put-closing-reads.Learnt,
+  ends-reads.Asked,
+  ends-reads.Learnt,
+) (write-rows-at t) write-rows.Post write-rows-Inv-loop write-rows-μ-loop
+write-rows-unlawful-requires-4 t c κs = search needs
+
+write-rows-same-length-4 : (t : ℕ) → write-rows-lts.Need-same-length-4 (
+  row-fits-reads.Asked,
+  row-fits-reads.Learnt,
+  unlawful-reads.Asked,
+  unlawful-reads.Learnt,
+  next-reads.Asked,
+  next-reads.Learnt,
+  kind-reads.Asked,
+  kind-reads.Learnt,
+  write-terms-row-reads.Asked,
+  write-terms-row-reads.Learnt,
+  after-reads.Asked,
+  after-reads.Learnt,
+  put-opening-reads.Asked,
+  put-opening-reads.Learnt,
+  inside-reads.Asked,
+  inside-reads.Learnt,
+  below-reads.Asked,
+  below-reads.Learnt,
+  write-rows-below t,
+  write-rows.Post,
+  put-closing-reads.Asked,
+  put-closing-reads.Learnt,
+  ends-reads.Asked,
+  ends-reads.Learnt,
+) (write-rows-at t) write-rows.Post write-rows-Inv-loop write-rows-μ-loop
+write-rows-same-length-4 t c = c .before .before .before .before .loop .inv .same
+
+write-rows-returns-4 : (t : ℕ) → write-rows-lts.Need-returns-4 (
+  row-fits-reads.Asked,
+  row-fits-reads.Learnt,
+  unlawful-reads.Asked,
+  unlawful-reads.Learnt,
+  next-reads.Asked,
+  next-reads.Learnt,
+  kind-reads.Asked,
+  kind-reads.Learnt,
+  write-terms-row-reads.Asked,
+  write-terms-row-reads.Learnt,
+  after-reads.Asked,
+  after-reads.Learnt,
+  put-opening-reads.Asked,
+  put-opening-reads.Learnt,
+  inside-reads.Asked,
+  inside-reads.Learnt,
+  below-reads.Asked,
+  below-reads.Learnt,
+  write-rows-below t,
+  write-rows.Post,
+  put-closing-reads.Asked,
+  put-closing-reads.Learnt,
+  ends-reads.Asked,
+  ends-reads.Learnt,
+) (write-rows-at t) write-rows.Post write-rows-Inv-loop write-rows-μ-loop
+write-rows-returns-4 t c = let a = c .before .before .before .before .before .before .before .before .before .args in let g = c .before .before .before .before .loop in
+    let h = g .inv .hi in
+    going-not (a .src .now) (a .tree .now) (a .from) (a .to) (a .start) (a .left) (a .begin) (g .i) (g .st) (g .at) (g .good) (a .out .now) (g .out) (g .inv) _ _ _ _ (c .unlawful4 .ensures) (ok-end (a .tree .now) (g .i) (a .to) (g .st) (a .left) (omega arith) ∙ sym (c .before .before .ends .ensures) ∙ not-true _ (c .before .if5 .taken))
+
+write-rows-same-length-5 : (t : ℕ) → write-rows-lts.Need-same-length-5 (
+  row-fits-reads.Asked,
+  row-fits-reads.Learnt,
+  unlawful-reads.Asked,
+  unlawful-reads.Learnt,
+  next-reads.Asked,
+  next-reads.Learnt,
+  kind-reads.Asked,
+  kind-reads.Learnt,
+  write-terms-row-reads.Asked,
+  write-terms-row-reads.Learnt,
+  after-reads.Asked,
+  after-reads.Learnt,
+  put-opening-reads.Asked,
+  put-opening-reads.Learnt,
+  inside-reads.Asked,
+  inside-reads.Learnt,
+  below-reads.Asked,
+  below-reads.Learnt,
+  write-rows-below t,
+  write-rows.Post,
+  put-closing-reads.Asked,
+  put-closing-reads.Learnt,
+  ends-reads.Asked,
+  ends-reads.Learnt,
+) (write-rows-at t) write-rows.Post write-rows-Inv-loop write-rows-μ-loop
+write-rows-same-length-5 t c = c .before .before .before .loop .inv .same
+
+write-rows-returns-5 : (t : ℕ) → write-rows-lts.Need-returns-5 (
+  row-fits-reads.Asked,
+  row-fits-reads.Learnt,
+  unlawful-reads.Asked,
+  unlawful-reads.Learnt,
+  next-reads.Asked,
+  next-reads.Learnt,
+  kind-reads.Asked,
+  kind-reads.Learnt,
+  write-terms-row-reads.Asked,
+  write-terms-row-reads.Learnt,
+  after-reads.Asked,
+  after-reads.Learnt,
+  put-opening-reads.Asked,
+  put-opening-reads.Learnt,
+  inside-reads.Asked,
+  inside-reads.Learnt,
+  below-reads.Asked,
+  below-reads.Learnt,
+  write-rows-below t,
+  write-rows.Post,
+  put-closing-reads.Asked,
+  put-closing-reads.Learnt,
+  ends-reads.Asked,
+  ends-reads.Learnt,
+) (write-rows-at t) write-rows.Post write-rows-Inv-loop write-rows-μ-loop
+write-rows-returns-5 t c = let a = c .before .before .before .before .before .before .before .before .args in let g = c .before .before .before .loop in
+    let h = g .inv .hi in
+    going-end (a .src .now) (a .tree .now) (a .from) (a .to) (a .start) (a .left) (a .begin) (g .i) (g .st) (g .at) (g .good) (a .out .now) (g .out) (g .inv) (omega arith) (sym (c .before .ends .ensures) ∙ not-false _ (c .if5 .left))
 
 pub +write-rows-spec : {M : Type 1} → statement M
 +write-rows-spec = close μ-write-rows λ t. write-rows-lts.spec (
-  kind-reads.Asked,
-  kind-reads.Learnt,
-  least-reads.Asked,
-  least-reads.Learnt,
-  open-row-reads.Asked,
-  open-row-reads.Learnt,
+  row-fits-reads.Asked,
+  row-fits-reads.Learnt,
+  unlawful-reads.Asked,
+  unlawful-reads.Learnt,
   next-reads.Asked,
   next-reads.Learnt,
-  inside-reads.Asked,
-  inside-reads.Learnt,
-  write-rows-below t,
-  write-rows.Post,
-  write-closing-reads.Asked,
-  write-closing-reads.Learnt,
+  kind-reads.Asked,
+  kind-reads.Learnt,
+  write-terms-row-reads.Asked,
+  write-terms-row-reads.Learnt,
   after-reads.Asked,
   after-reads.Learnt,
+  put-opening-reads.Asked,
+  put-opening-reads.Learnt,
+  inside-reads.Asked,
+  inside-reads.Learnt,
+  below-reads.Asked,
+  below-reads.Learnt,
+  write-rows-below t,
+  write-rows.Post,
+  put-closing-reads.Asked,
+  put-closing-reads.Learnt,
+  ends-reads.Asked,
+  ends-reads.Learnt,
 )
     (write-rows-at t)
     write-rows.Post
     write-rows-Inv-loop
     write-rows-μ-loop
     (write-rows-loop-holds t)
-    (write-rows-kind-requires t)
-    (write-rows-add-first t)
-    (write-rows-least-requires t)
-    (write-rows-sub-open-row t)
-    (write-rows-part-open-row-start t)
-    (write-rows-part-open-row-end t)
-    (write-rows-open-row-requires t)
-    (write-rows-add-opened t)
-    (write-rows-loop-less t)
-    (write-rows-loop-again t)
-    (write-rows-next-requires t)
-    (write-rows-least-requires-2 t)
-    (write-rows-inside-requires t)
-    (write-rows-sub-write-rows t)
-    (write-rows-part-write-rows-start t)
-    (write-rows-part-write-rows-end t)
-    (write-rows-write-rows-requires t)
-    (write-rows-add-filled t)
-    (write-rows-least-requires-3 t)
-    (write-rows-sub-write-closing t)
-    (write-rows-part-write-closing-start t)
-    (write-rows-part-write-closing-end t)
-    (write-rows-write-closing-requires t)
-    (write-rows-add-at t)
-    (write-rows-after-requires t)
-    (write-rows-loop-less-2 t)
-    (write-rows-loop-again-2 t)
+    (write-rows-row-fits-requires t)
+    (write-rows-unlawful-requires t)
     (write-rows-same-length t)
     (write-rows-returns t)
+    (write-rows-next-requires t)
+    (write-rows-kind-requires t)
+    (write-rows-write-terms-row-requires t)
+    (write-rows-unlawful-requires-2 t)
+    (write-rows-same-length-2 t)
+    (write-rows-returns-2 t)
+    (write-rows-after-requires t)
+    (write-rows-loop-less t)
+    (write-rows-loop-again t)
+    (write-rows-add-first t)
+    (write-rows-put-opening-requires t)
+    (write-rows-inside-requires t)
+    (write-rows-below-requires t)
+    (write-rows-write-rows-requires t)
+    (write-rows-unlawful-requires-3 t)
+    (write-rows-same-length-3 t)
+    (write-rows-returns-3 t)
+    (write-rows-put-closing-requires t)
+    (write-rows-after-requires-2 t)
+    (write-rows-loop-less-2 t)
+    (write-rows-loop-again-2 t)
+    (write-rows-ends-requires t)
+    (write-rows-unlawful-requires-4 t)
+    (write-rows-same-length-4 t)
+    (write-rows-returns-4 t)
+    (write-rows-same-length-5 t)
+    (write-rows-returns-5 t)
