@@ -202,7 +202,7 @@ pub fn wide_at(src: &[u8], at: usize, line: bool, b: u8) -> Scan
     Scan::Bad { number: 10, end }
 }
 
-// The same after a comment, where another often follows at once.
+// Past white space after a comment, as `skip_white`; another comment often follows at once.
 fn skip_between(src: &[u8], at: usize, line: bool) -> Place
     requires { ⌜ at ≤ length (now src) ⌝ }
     ensures { λ r. ⌜ (lex 0 (r .at) (r .line) (drop (r .at) (now (src .entry))) ≡ lex 0 at line (drop at (now (src .entry)))) × (at ≤ r .at) × (r .at ≤ length (now (src .entry))) ⌝ }

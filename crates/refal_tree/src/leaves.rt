@@ -23,7 +23,7 @@ fn leaf_ok(k: u32, d: u32, s: u32, l: u32) -> bool
     ((9 <= k) & (k <= 12)) & (detail & text)
 }
 
-fn wide(x: u32) -> usize
+pub fn wide(x: u32) -> usize
     ensures { λ r. ⌜ r ≡ x ⌝ }
 {
     x as usize

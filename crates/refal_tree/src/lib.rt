@@ -26,19 +26,13 @@ fn kind(tree: &[u32], i: usize) -> u32
     tree[at]
 }
 
-fn wide(x: u32) -> usize
-    ensures { λ r. ⌜ r ≡ x ⌝ }
-{
-    x as usize
-}
-
 // The row after the subtree of row i.
 fn next(tree: &[u32], i: usize) -> usize
     requires { ⌜ 7 * i + 6 < length (now tree) ⌝ }
     ensures { λ r. ⌜ r ≡ getD (now (tree .entry)) (7 * i + 6) 0 ⌝ }
 {
     let at = 7 * i;
-    wide(tree[at + 6])
+    leaves::wide(tree[at + 6])
 }
 
 fn lower(n: usize) -> usize

@@ -4,7 +4,7 @@ use mathlib.Core.Bool.{Bool, true, false, not, _&&_}
 use lib.Dec.{eqb, ltb}
 use mathlib.Core.List.{List, [], _∷_, _++_, append-assoc, append-nil}
 use mathlib.Core.Path.{_≡_, refl, sym, ap, _∙_}
-use borrow.Author.Tests.{ne-eqb, ltb-true}
+use borrow.Author.Tests.{not-true, ne-eqb, ltb-true}
 use Rattle.refal_rows.specs.Tests.{and-left, and-right}
 use Rattle.refal_ast.specs.Flatten.{Flat}
 use Rattle.refal_spelling.specs.Sound.{views-append}
@@ -53,12 +53,8 @@ pub plain-text : (x : ℕ) → ltb x 128 && not (eqb x 39) ≡ true → 39 ∷ x
 unfolding body
 plain-text x h =
     let a : ltb x 128 ≡ true = and-left (ltb x 128) (not (eqb x 39)) h in
-    let b : eqb x 39 ≡ false = negated (eqb x 39) (and-right (ltb x 128) (not (eqb x 39)) h) in
+    let b : eqb x 39 ≡ false = not-true (eqb x 39) (and-right (ltb x 128) (not (eqb x 39)) h) in
     sym (simp (b, a))
-  where
-    negated : (t : Bool) → not t ≡ true → t ≡ false
-    negated true e = sym e
-    negated false e = refl
 
 -- no token after it
 alone : (l : List ℕ) → l ++ 32 ∷ [] ≡ (l ++ 32 ∷ []) ++ []

@@ -2,7 +2,7 @@
 use Prim.Native.Nat.{ℕ, zero, suc, _+_, _-_, _%_, _<_, _≤_}
 use native.Mathlib.Omega.{arith}
 use native.Mathlib.Decide.{decLe}
-use borrow.Author.Tests.{lt-ltb, le-ltb, le-leb, eq-eqb, eqb-true, eqb-false, leb-true}
+use borrow.Author.Tests.{not-true, lt-ltb, le-ltb, le-leb, eq-eqb, eqb-true, eqb-false, leb-true}
 use mathlib.Core.Bool.{Bool, true, false, not, _&&_, _||_, true≢false}
 use mathlib.Core.List.{List, [], _∷_, _++_, append-assoc}
 use mathlib.Core.Path.{_≡_, refl, ap, sym, subst, _∙_}
@@ -175,12 +175,8 @@ word-of w k n names up all e h =
       first = ap (λ (t : Bool). eqb k 12 || t) (sym e) ∙ and-right names first b;
       some = range-lo 1 n 15 d;
       few = range-hi 1 n 15 d;
-      plain = not-so (eqb k 10 || eqb k 11) (and-right ((names && first) && few) (not (eqb k 10 || eqb k 11)) h);
+      plain = not-true (eqb k 10 || eqb k 11) (and-right ((names && first) && few) (not (eqb k 10 || eqb k 11)) h);
     }
-  where
-    not-so : (t : Bool) → not t ≡ true → t ≡ false
-    not-so true z = sym z
-    not-so false z = refl
 
 -- sixteen bytes of the rest of a source, as it is lent
 pub rest-room : (src : List ℕ) (s : ℕ) → s + 16 ≤ length src → 16 ≤ length (take (length src - s) (drop s src))
