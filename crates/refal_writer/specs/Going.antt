@@ -15,7 +15,7 @@ use Rattle.refal_tree.specs.Walk.{flatAt}
 use Rattle.refal_spelling.specs.Spell.{text}
 use Rattle.refal_writer.specs.Adds.{Adds, adds-none, adds-as, adds-on}
 use Rattle.refal_writer.specs.Token.{textOf}
-use Rattle.refal_writer.specs.SpelledRows.{spelledRow, spelledRows, and-assoc, spelled-end, spelled-on, spelled-node, spelled-one}
+use Rattle.refal_writer.specs.SpelledRows.{spelledRow, spelledRows, and-assoc, spelled-none, spelled-end, spelled-on, spelled-node, spelled-one}
 use Rattle.refal_writer.specs.Walk.{widest, turn-text, end-text}
 
 -- ---- a text T of which R is still to come: what was done stands from the place b on, up to a
@@ -48,6 +48,14 @@ writes-not src w i j st left b a good lawful o o′ n e = record {
   text = λ h. absurd (true≢false (sym h ∙ n));
   small = λ h. absurd (true≢false (sym h ∙ n));
   spelled = λ h. absurd (true≢false (sym h ∙ n));
+}
+
+pub writes-none : (src w : List ℕ) (i j st left a : ℕ) (o : List ℕ) → i ≡ j → ends st ≡ true → Writes src w i j st left a a true true o o
+writes-none src w i j st left a o e h = record {
+  lawful-is = sym (ok-end w i j st left e ∙ h);
+  text = λ _. adds-as [] (textOf src (flatAt w i j st)) (sym (end-text w src i j st e)) (adds-none a o);
+  small = λ _. omega arith;
+  spelled = λ _. sym (spelled-none src w i j e);
 }
 
 -- ---- one row with its children, of the kind k and with the next row x

@@ -29,9 +29,9 @@ pub spelled-all : (src w : List ℕ) (n : ℕ) → length w ≡ 7 * n → spelle
 spelled-all src w n e = ap (allSpelled src) (take-all (7 * n) w (let z : length w ≤ 7 * n = omega arith in z))
 
 module _ (src w : List ℕ) where
-  none : (i j : ℕ) → i ≡ j → spelledRows src w i j ≡ true
+  pub spelled-none : (i j : ℕ) → i ≡ j → spelledRows src w i j ≡ true
   unfolding allSpelled
-  none i j e = ap (λ (x : ℕ). spelledRows src w x j) e ∙ ap (allSpelled src) (slice-empty (7 * j) w)
+  spelled-none i j e = ap (λ (x : ℕ). spelledRows src w x j) e ∙ ap (allSpelled src) (slice-empty (7 * j) w)
 
   own : (i j : ℕ) → i < j → 7 * j ≤ length w → spelledRows src w i j ≡ spelledRow src w i && spelledRows src w (i + 1) j
   unfolding allSpelled
@@ -40,7 +40,7 @@ module _ (src w : List ℕ) where
   join : (n i x j : ℕ) → i + n ≡ x → x ≤ j → 7 * j ≤ length w → spelledRows src w i j ≡ spelledRows src w i x && spelledRows src w x j
   join zero i x j e h l =
       let z : i ≡ x = omega arith in
-      ap (λ (y : ℕ). spelledRows src w y j) z ∙ sym (ap (λ (b : Bool). b && spelledRows src w x j) (none i x z))
+      ap (λ (y : ℕ). spelledRows src w y j) z ∙ sym (ap (λ (b : Bool). b && spelledRows src w x j) (spelled-none i x z))
   join (suc n) i x j e h l =
       let a : i < x = omega arith in
       let b : i < j = omega arith in
@@ -52,7 +52,7 @@ module _ (src w : List ℕ) where
 
   -- all that was seen so far, and what is left, make the test of the whole, S
   pub spelled-end : (S good : Bool) (i j : ℕ) → S ≡ good && spelledRows src w i j → i ≡ j → good ≡ S
-  spelled-end S good i j inv e = sym (inv ∙ ap (λ (t : Bool). good && t) (none i j e) ∙ and-true good)
+  spelled-end S good i j inv e = sym (inv ∙ ap (λ (t : Bool). good && t) (spelled-none i j e) ∙ and-true good)
 
   -- past rows i to x at once
   pub spelled-on : (S good g : Bool) (i x j : ℕ) → S ≡ good && spelledRows src w i j → g ≡ spelledRows src w i x → i < x → x ≤ j → 7 * j ≤ length w
@@ -70,4 +70,4 @@ module _ (src w : List ℕ) where
   -- a row that has none
   pub spelled-one : (g : Bool) (i : ℕ) → g ≡ spelledRow src w i → 7 * (i + 1) ≤ length w → g ≡ spelledRows src w i (i + 1)
   spelled-one g i e long =
-      sym (and-true g) ∙ spelled-node g true i (i + 1) e (sym (none (i + 1) (i + 1) refl)) (omega arith) long
+      sym (and-true g) ∙ spelled-node g true i (i + 1) e (sym (spelled-none (i + 1) (i + 1) refl)) (omega arith) long

@@ -9,7 +9,7 @@ use Rattle.refal_tree.specs.States.{atTerms, inside, after, below}
 use Rattle.refal_tree.specs.Ranges.{rowAt, kindAt, nextAt, okAt, stop-kids}
 use Rattle.refal_tree.specs.FlattenRows.{opening, closing}
 use Rattle.refal_writer.specs.Adds.{Adds, adds-as}
-use Rattle.refal_writer.specs.Going.{Writes, Node, Going, node-whole, going-turn, going-trans}
+use Rattle.refal_writer.specs.Going.{Writes, Node, Going, writes-none, node-whole, going-turn, going-trans}
 use Rattle.refal_writer.specs.SpelledRows.{spelledRow, and-true}
 use Rattle.refal_writer.specs.Terms.{NodeKind, nodeAt, closingMark, node-low, node-high, node-left, node-kind, node-row, node-inside, node-below, node-after, node-closing}
 use Rattle.refal_writer.specs.Token.{textOf}
@@ -71,3 +71,12 @@ module _ (src w : List ℕ) (to left i k x : ℕ) (long : 7 * to ≤ length w) (
     going-node =
         going-turn src w from to start left b i atTerms a good o₀ o G k x kind next long turn-low turn-high
         (node-row w i to left long more node) ok atTerms a₃ (g₁ && g₂) o₃ (sym (node-after k own)) whole
+
+  -- one without terms
+  pub going-empty : (from start b a : ℕ) (good : Bool) (o₀ o : List ℕ) → Going src w from to start left b i atTerms a good o₀ o
+      → (a₁ a₃ : ℕ) (g₁ : Bool) (o₁ o₃ : List ℕ) → Adds (textOf src (opening atTerms (rowAt w i))) a a₁ o o₁ → length o₁ ≡ length o → a₁ ≤ a + 8589934710 → g₁ ≡ spelledRow src w i
+      → i + 1 ≡ x → (y : ℕ) → y ≡ closingMark k → Adds (y ∷ 32 ∷ []) a₁ a₃ o₁ o₃ → length o₃ ≡ length o₁
+      → Going src w from to start left b x atTerms a₃ (good && g₁) o₀ o₃
+  going-empty from start b a good o₀ o G a₁ a₃ g₁ o₁ o₃ A l₁ small s₁ e y mark C l₃ =
+      subst (λ (g : Bool). Going src w from to start left b x atTerms a₃ (good && g) o₀ o₃) (and-true g₁)
+      (going-node from start b a good o₀ o G a₁ a₁ a₃ g₁ true true o₁ o₁ o₃ A l₁ small s₁ (writes-none src w (i + 1) x atTerms (left - 1) a₁ o₁ e refl) refl refl y mark C l₃)

@@ -88,8 +88,8 @@ fn closing_mark(k: u32) -> u8
     if k == 13 { 41 } else { 62 }
 }
 
-// The terms in the rows from .. to, put from the place `begin` on: the walk goes into each bracket and call. Runs of plain
-// characters, of which texts have many, are put in a loop of their own.
+// The terms in the rows from .. to, put from the place `begin` on: the walk goes into each bracket and call that has terms.
+// Runs of plain characters, of which texts have many, are put in a loop of their own.
 pub fn write_terms(
     tree: &[u32],
     src: &[u8],
@@ -124,12 +124,17 @@ pub fn write_terms(
                 i = first;
             } else {
                 let end = next(tree, i);
-                let b = write_terms(tree, src, first, end, left - 1, edge, a.at, out);
-                if !b.lawful {
-                    return unlawful();
+                if first == end {
+                    at = put_mark(closing_mark(k), a.at, out);
+                    good = good & a.good;
+                } else {
+                    let b = write_terms(tree, src, first, end, left - 1, edge, a.at, out);
+                    if !b.lawful {
+                        return unlawful();
+                    }
+                    at = put_mark(closing_mark(k), b.at, out);
+                    good = good & (a.good & b.good);
                 }
-                at = put_mark(closing_mark(k), b.at, out);
-                good = good & (a.good & b.good);
                 i = end;
             }
         }
