@@ -1,5 +1,5 @@
 // Trees of rows: whether words are the rows of a lawful tree.
-mod fields;
+pub mod fields;
 pub mod leaves;
 pub mod states;
 

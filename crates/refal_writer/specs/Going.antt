@@ -5,7 +5,7 @@ use native.Mathlib.Omega.{arith}
 use mathlib.Core.Bool.{Bool, true, false, _&&_, true≢false}
 use mathlib.Core.List.{List, [], _++_, append-assoc, append-nil}
 use mathlib.Core.Path.{_≡_, refl, sym, ap, subst, _∙_}
-use lib.ListN.{length, getD}
+use lib.ListN.{length}
 use Rattle.refal_tree.specs.States.{atTerms, ends, inside, after, below}
 use Rattle.refal_tree.specs.Rules.{rowOk}
 use Rattle.refal_tree.specs.Ranges.{rowAt, kindAt, nextAt, okAt, ok-end, go-on, kids-are}
@@ -24,7 +24,7 @@ pub record Sofar (T R : List ℕ) (b a : ℕ) (o₀ o : List ℕ) : Type 0 where
   pub is : T ≡ done ++ R
   pub adds : Adds done b a o₀ o
 
-sofar-on : (T R bs W : List ℕ) (b a a′ : ℕ) (o₀ o o′ : List ℕ) → Sofar T W b a o₀ o → W ≡ bs ++ R → length o ≡ length o₀ → Adds bs a a′ o o′ → Sofar T R b a′ o₀ o′
+pub sofar-on : (T R bs W : List ℕ) (b a a′ : ℕ) (o₀ o o′ : List ℕ) → Sofar T W b a o₀ o → W ≡ bs ++ R → length o ≡ length o₀ → Adds bs a a′ o o′ → Sofar T R b a′ o₀ o′
 sofar-on T R bs W b a a′ o₀ o o′ S e l A = record {
   done = S .done ++ bs;
   is = S .is ∙ ap (λ (x : List ℕ). S .done ++ x) e ∙ sym (append-assoc (S .done) bs R);

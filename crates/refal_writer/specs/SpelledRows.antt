@@ -3,9 +3,9 @@ use Prim.Native.Nat.{ℕ, zero, suc, _+_, _*_, _-_, _<_, _≤_}
 use native.Mathlib.Omega.{arith}
 use mathlib.Core.Bool.{Bool, true, false, _&&_}
 use mathlib.Core.List.{List}
-use mathlib.Core.Path.{_≡_, refl, ap, sym, subst, _∙_}
+use mathlib.Core.Path.{_≡_, refl, ap, sym, _∙_}
 use lib.ListN.{length, getD}
-use lib.Seq.{slice, slice-empty, take-all}
+use lib.Seq.{slice-empty, take-all}
 use Rattle.refal_tree.specs.Ranges.{rowsAt, rows-cons}
 use Rattle.refal_writer.specs.Spellings.{rowSpelled, allSpelled}
 

@@ -43,3 +43,7 @@ module _ (src : List ℕ) (k s l : ℕ) where
   pub row-plain : (d : ℕ) → (k ≡ 11 → ⊥) → usesText k ≡ false → true ≡ rowSpelled src k d s l
   unfolding rowSpelled
   row-plain d n e = sym (rw (ne-eqb k 11 n) (ap (λ (b : Bool). pick b (textSpelled src k s l) true) e))
+
+  pub row-number : (d : ℕ) → k ≡ 10 → textSpelled src 10 s l ≡ rowSpelled src k d s l
+  unfolding rowSpelled
+  row-number d e = sym (rw e refl)

@@ -1,11 +1,11 @@
--- Turns of the walk over terms: plain characters, and a bracket or a call with its terms.
+-- Turns of the walk over terms: a run of leaves, and a bracket or a call with its terms.
 use Prim.Native.Nat.{ℕ, _+_, _*_, _-_, _≤_, _<_}
 use native.Mathlib.Omega.{arith}
 use mathlib.Core.Bool.{Bool, true, false, _&&_}
 use mathlib.Core.List.{List, [], _∷_}
 use mathlib.Core.Path.{_≡_, refl, sym, ap, subst, _∙_}
-use lib.ListN.{length, getD}
-use Rattle.refal_tree.specs.States.{atTerms, inside, after, below}
+use lib.ListN.{length}
+use Rattle.refal_tree.specs.States.{atTerms, inside, below}
 use Rattle.refal_tree.specs.Ranges.{rowAt, kindAt, nextAt, okAt, stop-kids}
 use Rattle.refal_tree.specs.FlattenRows.{opening, closing}
 use Rattle.refal_writer.specs.Adds.{Adds, adds-as}
@@ -15,18 +15,17 @@ use Rattle.refal_writer.specs.Terms.{NodeKind, nodeAt, closingMark, node
 use Rattle.refal_writer.specs.Token.{textOf}
 
 module _ (src w : List ℕ) (from to start left b i a : ℕ) (good : Bool) (o₀ o : List ℕ) (G : Going src w from to start left b i atTerms a good o₀ o) where
-  pub going-chars : (e : ℕ) (o′ : List ℕ) → Going src w i to atTerms left a e atTerms (a + 4 * (e - i)) true o o′ → Going src w from to start left b e atTerms (a + 4 * (e - i)) good o₀ o′
-  going-chars e o′ H =
-      subst (λ (g : Bool). Going src w from to start left b e atTerms (a + 4 * (e - i)) g o₀ o′) (and-true good)
-      (going-trans src w from to start left b i atTerms a good o₀ o G e atTerms (a + 4 * (e - i)) true o′ H)
+  -- past a run of leaves
+  pub going-run : (e a′ : ℕ) (o′ : List ℕ) → Going src w i to atTerms left a e atTerms a′ true o o′ → Going src w from to start left b e atTerms a′ good o₀ o′
+  going-run e a′ o′ H =
+      subst (λ (g : Bool). Going src w from to start left b e atTerms a′ g o₀ o′) (and-true good)
+      (going-trans src w from to start left b i atTerms a good o₀ o G e atTerms a′ true o′ H)
 
-  -- none of them
-  pub going-none : (e : ℕ) (o′ : List ℕ) → Going src w i to atTerms left a e atTerms (a + 4 * (e - i)) true o o′ → e ≤ i → Going src w from to start left b i atTerms a good o₀ o′
-  going-none e o′ H h =
+  -- that has none
+  pub going-none : (e a′ : ℕ) (o′ : List ℕ) → Going src w i to atTerms left a e atTerms a′ true o o′ → e ≤ i → Going src w from to start left b i atTerms a′ good o₀ o′
+  going-none e a′ o′ H h =
       let z : e ≡ i = let l = H .lo in omega arith in
-      let n : a + 4 * (e - i) ≡ a = omega arith in
-      subst (λ (x : ℕ). Going src w from to start left b x atTerms a good o₀ o′) z
-      (subst (λ (x : ℕ). Going src w from to start left b e atTerms x good o₀ o′) n (going-chars e o′ H))
+      subst (λ (x : ℕ). Going src w from to start left b x atTerms a′ good o₀ o′) z (going-run e a′ o′ H)
 
 -- a bracket or a call in row i, of the kind k and with the next row x
 module _ (src w : List ℕ) (to left i k x : ℕ) (long : 7 * to ≤ length w) (more : i < to) (node : nodeAt w i to left ≡ true) (kind : k ≡ kindAt w i) (next : x ≡ nextAt w i) where

@@ -16,11 +16,12 @@ use Rattle.refal_tree.specs.States.{pick, atTerms, wrong, closed, termKind, ins
 use Rattle.refal_tree.specs.Levels.{lower-is}
 use Rattle.refal_tree.specs.Rules.{rowOk}
 use Rattle.refal_tree.specs.Ranges.{rowAt, kindAt, nextAt, okAt}
-use Rattle.refal_tree.specs.Leaves.{LeafKind, leaf9, leaf10, leaf11, leaf12, leafFields, leafOk, leafAt, leaf-inside, leaf-row}
+use Rattle.refal_tree.specs.Leaves.{LeafKind, leaf9, leaf10, leaf11, leaf12, leafOk, leafAt, leaf-inside, leaf-row, leaf-kind-at}
 use Rattle.refal_tree.specs.FlattenRows.{closing}
 use Rattle.refal_tree.specs.Walk.{Step, step}
 use Rattle.refal_spelling.specs.Spell.{text, spelling}
 use Rattle.refal_writer.specs.Token.{textOf}
+use Rattle.refal_writer.specs.Walk.{Standing, standing}
 
 -- row i is a bracket or a call whose next row is behind it and not past `to`, and a level is left
 abbrev pub nodeAt : List ℕ → ℕ → ℕ → ℕ → Bool
@@ -39,6 +40,11 @@ closingMark k = choose (eqb k 13) 41 62
 pub data NodeKind : ℕ → Type 0 where
   node13 : NodeKind 13
   node14 : NodeKind 14
+
+-- one that is no bracket is a call
+pub only-call : (k : ℕ) → NodeKind k → (k ≡ 13 → ⊥) → k ≡ 14
+only-call _ node13 n = absurd (n refl)
+only-call _ node14 n = refl
 
 data TermKind : ℕ → Type 0 where
   leaf : {k : ℕ} → LeafKind k → TermKind k
@@ -156,37 +162,6 @@ module _ (w : List ℕ) (i j left : ℕ) (long : 7 * j ≤ length w) (more : i <
     pub node-row : rowOk atTerms left (rowAt w i) ≡ true
     node-row = node-rules (getD w (7 * i + 1) 0) (getD w (7 * i + 2) 0) (getD w (7 * i + 3) 0) (getD w (7 * i + 4) 0) (getD w (7 * i + 5) 0) left k node-kind node-room node-fields
 
-  -- a term that keeps the rules is one of the two
-  pub term-leaf : termAt w i j left ≡ true → k ≤ 12 → leafAt w i ≡ true
-  term-leaf h l = sym (ap (λ (b : Bool). pickBool b (leafAt w i) (nodeAt w i j left)) (le-leb k 12 l)) ∙ h
-
-  pub term-node : termAt w i j left ≡ true → 12 < k → nodeAt w i j left ≡ true
-  term-node h l = sym (ap (λ (b : Bool). pickBool b (leafAt w i) (nodeAt w i j left)) (lt-leb k 12 l)) ∙ h
-
-  pub term-row : termAt w i j left ≡ true → rowOk atTerms left (rowAt w i) ≡ true
-  term-row h = go (decLe k 12)
-    where
-      go : Dec (k ≤ 12) → rowOk atTerms left (rowAt w i) ≡ true
-      go (yes l) = leaf-row w i j long more (term-leaf h l) left
-      go (no l) = node-row (term-node h (omega arith))
-
-  pub term-low : termAt w i j left ≡ true → 9 ≤ k
-  term-low h = kind-low (term-kind k (fits-term k (and-left (fits atTerms k) (room k left) (and-left (fits atTerms k && room k left) _ (term-row h)))))
-    where
-      from-leaf : (n : ℕ) → LeafKind n → 9 ≤ n
-      from-leaf _ leaf9 = omega arith
-      from-leaf _ leaf10 = omega arith
-      from-leaf _ leaf11 = omega arith
-      from-leaf _ leaf12 = omega arith
-
-      from-node : (n : ℕ) → NodeKind n → 9 ≤ n
-      from-node _ node13 = omega arith
-      from-node _ node14 = omega arith
-
-      kind-low : TermKind k → 9 ≤ k
-      kind-low (leaf x) = from-leaf k x
-      kind-low (node x) = from-node k x
-
   -- any other row breaks them
   module _ (S : Step w i j atTerms left) where
     own-fits : fits atTerms k ≡ true
@@ -224,6 +199,33 @@ module _ (w : List ℕ) (i j left : ℕ) (long : 7 * j ≤ length w) (more : i <
       go true e =
           let S = step w i j atTerms left long more e in
           absurd (true≢false (sym (is-term S (term-kind k (fits-term k (own-fits S)))) ∙ h))
+
+  -- where its kind is known, one of the two tests decides
+  pub leaf-not : k ≤ 12 → leafAt w i ≡ false → okAt w i j atTerms left ≡ false
+  leaf-not l h = term-not (ap (λ (b : Bool). pickBool b (leafAt w i) (nodeAt w i j left)) (le-leb k 12 l) ∙ h)
+
+  pub node-not : 12 < k → nodeAt w i j left ≡ false → okAt w i j atTerms left ≡ false
+  node-not l h = term-not (ap (λ (b : Bool). pickBool b (leafAt w i) (nodeAt w i j left)) (lt-leb k 12 l) ∙ h)
+
+-- ---- a leaf in row i
+module _ (w : List ℕ) (i : ℕ) (room : 7 * i + 6 < length w) (h : leafAt w i ≡ true) where
+  leaf-kind : LeafKind (kindAt w i)
+  leaf-kind = leaf-kind-at w i (i + 1) (omega arith) (omega arith) h
+
+  pub leaf-stands : Standing (kindAt w i) (getD w (7 * i + 1) 0)
+  leaf-stands = standing atTerms 0 (rowAt w i) (leaf-row w i (i + 1) (omega arith) (omega arith) h 0)
+
+  pub leaf-low : 9 ≤ kindAt w i
+  leaf-low = go (kindAt w i) leaf-kind
+    where
+      go : (n : ℕ) → LeafKind n → 9 ≤ n
+      go _ leaf9 = omega arith
+      go _ leaf10 = omega arith
+      go _ leaf11 = omega arith
+      go _ leaf12 = omega arith
+
+  pub leaf-high : kindAt w i ≤ 12
+  leaf-high = leb-true (kindAt w i) 12 (low-leaf (kindAt w i) leaf-kind)
 
 -- ---- the mark after the terms of a bracket or a call
 pub node-closing : (src : List ℕ) (k : ℕ) → NodeKind k → textOf src (closing atTerms k) ≡ closingMark k ∷ 32 ∷ []

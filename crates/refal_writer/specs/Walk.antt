@@ -76,6 +76,10 @@ standing st left r h =
       letter = λ e. letter-small (r .detail) (and-left _ true (ap (λ (k : ℕ). fieldsOk k (r .detail) (r .start) (r .len) (r .from) (r .to)) (sym e) ∙ and-right (f && d) g h));
     }
 
+-- a call
+pub call-stands : (k d : ℕ) → k ≡ 14 → Standing k d
+call-stands k d e = record { low = omega arith; high = omega arith; letter = λ f. absurd (omega arith) }
+
 -- ---- the text of lawful rows i to j, part by part: row i is of the kind k and has the next row x
 module _ (w : List ℕ) (i j st left k x : ℕ) (kind : k ≡ kindAt w i) (next : x ≡ nextAt w i) (long : 7 * j ≤ length w) (more : i < j) (ok : okAt w i j st left ≡ true) where
   pub turn-text : (src : List ℕ) → textOf src (flatAt w i j st)

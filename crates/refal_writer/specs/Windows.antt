@@ -1,5 +1,6 @@
--- Sixteen bytes at a time: a table of sixteen times yes and sixteen times no, a copy by it, and words whose bytes were tested by it.
-use Prim.Native.Nat.{ℕ, zero, suc, _+_, _-_, _%_, _<_, _≤_}
+-- Sixteen bytes at a time: a table of sixteen times yes and sixteen times no, and of the bytes of names; a copy by it, and words whose bytes
+-- were tested by it.
+use Prim.Native.Nat.{ℕ, suc, _+_, _-_, _%_, _<_, _≤_}
 use native.Mathlib.Omega.{arith}
 use native.Mathlib.Decide.{decLe}
 use borrow.Author.Tests.{not-true, lt-ltb, le-ltb, le-leb, eq-eqb, eqb-true, eqb-false, leb-true}
@@ -31,18 +32,38 @@ use Rattle.refal_writer.specs.WordLaws.{index-same, name-same}
 abbrev pub edgeAt : ℕ → ℕ
 edgeAt k = pick (ltb k 16) 49 48
 
+abbrev pub namesAt : ℕ → ℕ
+namesAt b = pick (nameByte b) 49 48
+
 pub record Edge (e : List ℕ) : Type 0 where
-  pub long : length e ≡ 32
+  pub long : length e ≡ 288
   pub rule : (k : ℕ) → k < 32 → getD e k 0 ≡ edgeAt k
+  pub names : (b : ℕ) → b < 256 → getD e (32 + b) 0 ≡ namesAt b
 
 unfoldable pub edge : List ℕ
 edge =
     49 ∷ 49 ∷ 49 ∷ 49 ∷ 49 ∷ 49 ∷ 49 ∷ 49 ∷ 49 ∷ 49 ∷ 49 ∷ 49 ∷ 49 ∷ 49 ∷ 49 ∷ 49 ∷
+    48 ∷ 48 ∷ 48 ∷ 48 ∷ 48 ∷ 48 ∷ 48 ∷ 48 ∷ 48 ∷ 48 ∷ 48 ∷ 48 ∷ 48 ∷ 48 ∷ 48 ∷ 48 ∷
+    48 ∷ 48 ∷ 48 ∷ 48 ∷ 48 ∷ 48 ∷ 48 ∷ 48 ∷ 48 ∷ 48 ∷ 48 ∷ 48 ∷ 48 ∷ 48 ∷ 48 ∷ 48 ∷
+    48 ∷ 48 ∷ 48 ∷ 48 ∷ 48 ∷ 48 ∷ 48 ∷ 48 ∷ 48 ∷ 48 ∷ 48 ∷ 48 ∷ 48 ∷ 48 ∷ 48 ∷ 48 ∷
+    48 ∷ 48 ∷ 48 ∷ 48 ∷ 48 ∷ 48 ∷ 48 ∷ 48 ∷ 48 ∷ 48 ∷ 48 ∷ 48 ∷ 48 ∷ 49 ∷ 48 ∷ 48 ∷
+    49 ∷ 49 ∷ 49 ∷ 49 ∷ 49 ∷ 49 ∷ 49 ∷ 49 ∷ 49 ∷ 49 ∷ 48 ∷ 48 ∷ 48 ∷ 48 ∷ 48 ∷ 48 ∷
+    48 ∷ 49 ∷ 49 ∷ 49 ∷ 49 ∷ 49 ∷ 49 ∷ 49 ∷ 49 ∷ 49 ∷ 49 ∷ 49 ∷ 49 ∷ 49 ∷ 49 ∷ 49 ∷
+    49 ∷ 49 ∷ 49 ∷ 49 ∷ 49 ∷ 49 ∷ 49 ∷ 49 ∷ 49 ∷ 49 ∷ 49 ∷ 48 ∷ 48 ∷ 48 ∷ 48 ∷ 49 ∷
+    48 ∷ 49 ∷ 49 ∷ 49 ∷ 49 ∷ 49 ∷ 49 ∷ 49 ∷ 49 ∷ 49 ∷ 49 ∷ 49 ∷ 49 ∷ 49 ∷ 49 ∷ 49 ∷
+    49 ∷ 49 ∷ 49 ∷ 49 ∷ 49 ∷ 49 ∷ 49 ∷ 49 ∷ 49 ∷ 49 ∷ 49 ∷ 48 ∷ 48 ∷ 48 ∷ 48 ∷ 48 ∷
+    48 ∷ 48 ∷ 48 ∷ 48 ∷ 48 ∷ 48 ∷ 48 ∷ 48 ∷ 48 ∷ 48 ∷ 48 ∷ 48 ∷ 48 ∷ 48 ∷ 48 ∷ 48 ∷
+    48 ∷ 48 ∷ 48 ∷ 48 ∷ 48 ∷ 48 ∷ 48 ∷ 48 ∷ 48 ∷ 48 ∷ 48 ∷ 48 ∷ 48 ∷ 48 ∷ 48 ∷ 48 ∷
+    48 ∷ 48 ∷ 48 ∷ 48 ∷ 48 ∷ 48 ∷ 48 ∷ 48 ∷ 48 ∷ 48 ∷ 48 ∷ 48 ∷ 48 ∷ 48 ∷ 48 ∷ 48 ∷
+    48 ∷ 48 ∷ 48 ∷ 48 ∷ 48 ∷ 48 ∷ 48 ∷ 48 ∷ 48 ∷ 48 ∷ 48 ∷ 48 ∷ 48 ∷ 48 ∷ 48 ∷ 48 ∷
+    48 ∷ 48 ∷ 48 ∷ 48 ∷ 48 ∷ 48 ∷ 48 ∷ 48 ∷ 48 ∷ 48 ∷ 48 ∷ 48 ∷ 48 ∷ 48 ∷ 48 ∷ 48 ∷
+    48 ∷ 48 ∷ 48 ∷ 48 ∷ 48 ∷ 48 ∷ 48 ∷ 48 ∷ 48 ∷ 48 ∷ 48 ∷ 48 ∷ 48 ∷ 48 ∷ 48 ∷ 48 ∷
+    48 ∷ 48 ∷ 48 ∷ 48 ∷ 48 ∷ 48 ∷ 48 ∷ 48 ∷ 48 ∷ 48 ∷ 48 ∷ 48 ∷ 48 ∷ 48 ∷ 48 ∷ 48 ∷
     48 ∷ 48 ∷ 48 ∷ 48 ∷ 48 ∷ 48 ∷ 48 ∷ 48 ∷ 48 ∷ 48 ∷ 48 ∷ 48 ∷ 48 ∷ 48 ∷ 48 ∷ 48 ∷ []
 
 pub edge-rule : Edge edge
 unfolding edge
-edge-rule = record { long = refl; rule = table-is edgeAt edge 32 tt }
+edge-rule = record { long = refl; rule = table-is edgeAt edge 32 tt; names = λ b h. sym (getD-drop 32 edge b 0) ∙ table-is namesAt (drop 32 edge) 256 tt b h }
 
 pub within-is : (e : List ℕ) (i n : ℕ) → Edge e → i < 16 → n ≤ 16 → eqb (getD e (16 - n + i) 0) 49 ≡ ltb i n
 within-is e i n E h l = go (decLe (suc i) n)
@@ -257,68 +278,59 @@ module _ (src : List ℕ) (k d s l : ℕ) (within : s + l ≤ length src) (W : W
       go true e = sym text-ok ∙ row-text src k s l d no-char e
       go false e = row-plain src k s l d no-char e
 
--- ---- what stands before a text: a variable's letter and point, a call's `<` and space
+-- ---- what stands before a text: a variable's letter and point
 abbrev pub ahead : ℕ → ℕ
-ahead kind = pick (eqb kind 12 || eqb kind 14) 2 0
-
-abbrev pub firstByte : ℕ → ℕ → ℕ
-firstByte kind detail = pick (eqb kind 14) 60 (detail % 256)
-
-abbrev pub secondByte : ℕ → ℕ
-secondByte kind = pick (eqb kind 12) 46 32
+ahead kind = pick (eqb kind 12) 2 0
 
 pub ahead-few : (kind : ℕ) → ahead kind ≤ 2
-ahead-few kind = go (eqb kind 12 || eqb kind 14)
+ahead-few kind = go (eqb kind 12)
   where
     go : (t : Bool) → pick t 2 0 ≤ 2
     go true = omega arith
     go false = omega arith
 
--- the kinds of terms that are written with a text: Identifier, Number, Variable, Call
-data TextKind : ℕ → Type 0 where
-  text9 : TextKind 9
-  text10 : TextKind 10
-  text12 : TextKind 12
-  text14 : TextKind 14
+-- the leaves that are written with a word: Identifier, Variable
+data WordKind : ℕ → Type 0 where
+  word9 : WordKind 9
+  word12 : WordKind 12
 
-text-kind : (k : ℕ) → 9 ≤ k → k ≤ 14 → (k ≡ 11 → ⊥) → (k ≡ 13 → ⊥) → TextKind k
-text-kind k l h n m = go (decLe k 9) (decLe k 10) (decLe k 12)
+word-kind : (k : ℕ) → 9 ≤ k → k ≤ 12 → (k ≡ 10 → ⊥) → (k ≡ 11 → ⊥) → WordKind k
+word-kind k l h n m = go (decLe k 9)
   where
-    go : Dec (k ≤ 9) → Dec (k ≤ 10) → Dec (k ≤ 12) → TextKind k
-    go (yes a) b c = let e : 9 ≡ k = omega arith in subst TextKind e text9
-    go (no a) (yes b) c = let e : 10 ≡ k = omega arith in subst TextKind e text10
-    go (no a) (no b) (yes c) = let e : 12 ≡ k = omega arith in subst TextKind e text12
-    go (no a) (no b) (no c) = let e : 14 ≡ k = omega arith in subst TextKind e text14
+    go : Dec (k ≤ 9) → WordKind k
+    go (yes a) = let e : 9 ≡ k = omega arith in subst WordKind e word9
+    go (no a) = let e : 12 ≡ k = omega arith in subst WordKind e word12
 
 -- the text of a term before its children
 module _ (src : List ℕ) (st d s l : ℕ) where
-  call-text : 60 ∷ 32 ∷ (take l (drop s src) ++ 32 ∷ []) ≡ textOf src (mark tokLAngle ∷ nameOf s l ∷ [])
-  call-text =
+  pub call-text-is : (k : ℕ) → k ≡ 14 → 60 ∷ 32 ∷ (take l (drop s src) ++ 32 ∷ []) ≡ textOf src (opening st (row k d s l 0 0))
+  call-text-is k e =
       let w : List ℕ = take l (drop s src) in
       let m : Mark 11 = record { few = omega arith; no-name = λ e. omega arith; no-variable = λ e. omega arith; no-number = λ e. omega arith; no-char = λ e. omega arith } in
       ap (λ (x : List ℕ). x ++ (w ++ 32 ∷ [])) (mark-text 11 0 (textAt src 0 0) m (λ e. omega arith) (λ e. omega arith))
       ∙ ap (λ (x : List ℕ). textOf src (mark tokLAngle ∷ []) ++ x) (name-text 3 0 w refl)
       ∙ sym (text-of-append src (mark tokLAngle ∷ []) (nameOf s l ∷ []))
+      ∙ sym (ap (λ (x : ℕ). textOf src (opening st (row x d s l 0 0))) e)
 
-  term-text-of : (k : ℕ) → TextKind k → (k ≡ 12 → d < 256)
-      → (take (ahead k) (firstByte k d ∷ secondByte k ∷ []) ++ take l (drop s src)) ++ 32 ∷ [] ≡ textOf src (opening st (row k d s l 0 0))
-  term-text-of _ text9 h = name-text 3 0 (take l (drop s src)) refl
-  term-text-of _ text10 h = number-text 5 0 (take l (drop s src)) refl
-  term-text-of _ text12 h =
+  word-text-of : (k : ℕ) → WordKind k → (k ≡ 12 → d < 256)
+      → (take (ahead k) (d % 256 ∷ 46 ∷ []) ++ take l (drop s src)) ++ 32 ∷ [] ≡ textOf src (opening st (row k d s l 0 0))
+  word-text-of _ word9 h = name-text 3 0 (take l (drop s src)) refl
+  word-text-of _ word12 h =
       let b : d < 256 = h refl in
       let e : d % 256 ≡ d = omega arith in
       ap (λ (x : ℕ). dotted x (take l (drop s src)) ++ 32 ∷ []) e ∙ variable-text 4 d (take l (drop s src)) refl
-  term-text-of _ text14 h = call-text
 
-  pub term-text-is : (k f x y : ℕ) (t : List ℕ) → f ≡ ahead k → x ≡ firstByte k d → y ≡ secondByte k → t ≡ drop s src
-      → 9 ≤ k → k ≤ 14 → (k ≡ 11 → ⊥) → (k ≡ 13 → ⊥) → (k ≡ 12 → d < 256)
-      → (take f (x ∷ y ∷ []) ++ take l t) ++ 32 ∷ [] ≡ textOf src (opening st (row k d s l 0 0))
-  term-text-is k f x y t ef ex ey et lo hi n m h =
-      ap (λ (z : ℕ). (take z (x ∷ y ∷ []) ++ take l t) ++ 32 ∷ []) ef
-      ∙ ap (λ (z : ℕ). (take (ahead k) (z ∷ y ∷ []) ++ take l t) ++ 32 ∷ []) ex
-      ∙ ap (λ (z : ℕ). (take (ahead k) (firstByte k d ∷ z ∷ []) ++ take l t) ++ 32 ∷ []) ey
-      ∙ ap (λ (z : List ℕ). (take (ahead k) (firstByte k d ∷ secondByte k ∷ []) ++ take l z) ++ 32 ∷ []) et
-      ∙ term-text-of k (text-kind k lo hi n m) h
+  pub word-text-is : (k f x : ℕ) (t : List ℕ) → f ≡ ahead k → x ≡ d % 256 → t ≡ drop s src
+      → 9 ≤ k → k ≤ 12 → (k ≡ 10 → ⊥) → (k ≡ 11 → ⊥) → (k ≡ 12 → d < 256)
+      → (take f (x ∷ 46 ∷ []) ++ take l t) ++ 32 ∷ [] ≡ textOf src (opening st (row k d s l 0 0))
+  word-text-is k f x t ef ex et lo hi n m h =
+      ap (λ (z : ℕ). (take z (x ∷ 46 ∷ []) ++ take l t) ++ 32 ∷ []) ef
+      ∙ ap (λ (z : ℕ). (take (ahead k) (z ∷ 46 ∷ []) ++ take l t) ++ 32 ∷ []) ex
+      ∙ ap (λ (z : List ℕ). (take (ahead k) (d % 256 ∷ 46 ∷ []) ++ take l z) ++ 32 ∷ []) et
+      ∙ word-text-of k (word-kind k lo hi n m) h
+
+  pub number-text-is : (k : ℕ) → k ≡ 10 → take l (drop s src) ++ 32 ∷ [] ≡ textOf src (opening st (row k d s l 0 0))
+  number-text-is k e = number-text 5 0 (take l (drop s src)) refl ∙ sym (ap (λ (x : ℕ). textOf src (opening st (row x d s l 0 0))) e)
 
   pub char-text-is : (k : ℕ) → k ≡ 11 → quoted d ++ 32 ∷ [] ≡ textOf src (opening st (row k d s l 0 0))
   char-text-is k e = char-text 6 d (textAt src 0 0) refl ∙ sym (ap (λ (x : ℕ). textOf src (opening st (row x d s l 0 0))) e)

@@ -1,9 +1,10 @@
-// What stands before a term's children, with the test for refusal 41 on the row: one walk does both.
-use crate::bytes::put2;
+// A leaf's text, with the test for refusal 41 on its row: one walk does both.
 use crate::opening::write_opening;
 use crate::spelling::is_char;
 use crate::spelling::row_spelled;
+use crate::spelling::text_spelled;
 use crate::token::write_char;
+use crate::token::write_text;
 use crate::window::copy16;
 use crate::window::names16;
 use crate::words::is_upper;
@@ -18,7 +19,7 @@ ghost use Rattle.refal_writer.specs.Puts.{Puts};
 ghost use Rattle.refal_writer.specs.Token.{textOf};
 ghost use Rattle.refal_writer.specs.Walk.{Standing};
 ghost use Rattle.refal_writer.specs.Spellings.{rowSpelled};
-ghost use Rattle.refal_writer.specs.Windows.{Edge, Word, ahead, firstByte, secondByte};
+ghost use Rattle.refal_writer.specs.Windows.{Edge, Word, ahead};
 
 // How many bytes were put, and whether the text is a spelling.
 pub struct Put {
@@ -32,23 +33,11 @@ pub fn low(x: u32) -> u8
     (x % 256) as u8
 }
 
-// The count of the bytes before a text, and the bytes: a variable's letter and point, a call's `<` and space.
+// The count of the bytes before a text: a variable's letter and point.
 fn lead(kind: u32) -> usize
     ensures { λ r. ⌜ r ≡ ahead kind ⌝ }
 {
-    if (kind == 12) | (kind == 14) { 2 } else { 0 }
-}
-
-fn first(kind: u32, detail: u32) -> u8
-    ensures { λ r. ⌜ r ≡ firstByte kind detail ⌝ }
-{
-    if kind == 14 { 60 } else { low(detail) }
-}
-
-fn second(kind: u32) -> u8
-    ensures { λ r. ⌜ r ≡ secondByte kind ⌝ }
-{
-    if kind == 12 { 46 } else { 32 }
+    if kind == 12 { 2 } else { 0 }
 }
 
 // The first f of the bytes a and b, the first n bytes of the text, a space.
@@ -89,7 +78,7 @@ fn word_spelled(edge: &[u8], src: &[u8], kind: u32, detail: u32, start: u32, len
     row_spelled(src, kind, detail, start, len)
 }
 
-// Before the children of a term: a leaf whole, `(`, or `<` and the name; a short text in few steps.
+// A leaf; a short text in few steps.
 pub fn open(
     src: &[u8],
     kind: u32,
@@ -99,18 +88,21 @@ pub fn open(
     edge: &[u8],
     out: &mut [u8],
 ) -> Put
-    requires { ⌜ Standing kind detail × (9 ≤ kind) × Edge (now edge) ⌝ }
+    requires { ⌜ Standing kind detail × (9 ≤ kind) × (kind ≤ 12) × Edge (now edge) ⌝ }
     ensures { λ r. ⌜ Puts (textOf (now (src .entry)) (opening 9 (row kind detail start len 0 0))) (r .len) (now (out .entry)) (now (out .exit)) × (r .len ≤ 8589934710) × (r .good ≡ rowSpelled (now (src .entry)) kind detail start len) ⌝ }
 {
-    if kind == 13 {
-        let k = put2(40, 32, out);
-        return Put { len: k, good: true };
-    }
     if kind == 11 {
         let k = write_char(detail, out);
         return Put {
             len: k,
             good: is_char(detail),
+        };
+    }
+    if kind == 10 {
+        let k = write_text(src, start, len, out);
+        return Put {
+            len: k,
+            good: text_spelled(src, 10, start, len),
         };
     }
     let s = start as usize;
@@ -119,15 +111,7 @@ pub fn open(
     let short = near & (19 <= out.len());
     if short {
         let good = word_spelled(edge, src, kind, detail, start, len);
-        let k = put_text(
-            edge,
-            &src[s..],
-            lead(kind),
-            first(kind, detail),
-            second(kind),
-            n,
-            out,
-        );
+        let k = put_text(edge, &src[s..], lead(kind), low(detail), 46, n, out);
         return Put { len: k, good };
     }
     let k = write_opening(src, 9, kind, detail, start, len, out);

@@ -3,7 +3,10 @@ mod bytes;
 mod chars;
 mod leaf;
 mod opening;
+mod put;
 mod row;
+mod run;
+mod short;
 mod spelling;
 mod terms;
 mod token;
@@ -44,7 +47,8 @@ pub fn write(tree: &[u32], src: &[u8], out: &mut [u8]) -> Answer
         refal_rows::clear_bytes(out);
         return refused(40, 0);
     }
-    let edge = b"11111111111111110000000000000000";
+    let edge =
+        b"111111111111111100000000000000000000000000000000000000000000000000000000000001001111111111000000011111111111111111111111111000010111111111111111111111111110000000000000000000000000000000000000000000000000000000000000000000000000000000000000000000000000000000000000000000000000000000000000";
     let all = walk::write_rows(tree, src, 0, rows, 1, 64, edge, 0, out);
     if !all.lawful {
         refal_rows::clear_bytes(out);

@@ -23,7 +23,7 @@ fn uses_text(kind: u32) -> bool
 }
 
 // The text of a row of the kind.
-fn text_spelled(src: &[u8], kind: u32, start: u32, len: u32) -> bool
+pub fn text_spelled(src: &[u8], kind: u32, start: u32, len: u32) -> bool
     ensures { λ r. ⌜ r ≡ textSpelled (now (src .entry)) kind start len ⌝ }
 {
     let from = start as usize;

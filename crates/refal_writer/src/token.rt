@@ -44,7 +44,7 @@ fn mark_byte(kind: u32) -> u8
 }
 
 // A text of the source and a space. What lies outside the source is not there.
-fn write_text(src: &[u8], start: u32, len: u32, out: &mut [u8]) -> usize
+pub fn write_text(src: &[u8], start: u32, len: u32, out: &mut [u8]) -> usize
     ensures { λ r. ⌜ Puts (textAt (now (src .entry)) start len ++ 32 ∷ []) r (now (out .entry)) (now (out .exit)) × (r ≤ 4294967296) ⌝ }
 {
     let from = least(start as usize, src.len());

@@ -1,12 +1,10 @@
 // The walk over the rows of a tree, which checks and writes them in one go: for each row what stands before its children,
 // the children, what stands after them.
 use crate::opening::write_closing;
-use crate::opening::write_opening;
+use crate::put::put_opening;
 use crate::row::kind;
 use crate::row::next;
-use crate::spelling::row_spelled;
 use crate::terms::write_terms;
-use crate::wrote::Opened;
 use crate::wrote::Wrote;
 use crate::wrote::put_mark;
 use crate::wrote::unlawful;
@@ -20,14 +18,11 @@ ghost use mathlib.Core.Path.{_≡_};
 ghost use Prim.Native.Nat.{_+_, _*_, _-_, _≤_, _<_};
 ghost use lib.Dec.{eqb};
 ghost use lib.ListN.{length, getD};
-ghost use Rattle.refal_tree.specs.FlattenRows.{opening, closing};
-ghost use Rattle.refal_tree.specs.Ranges.{rowAt};
+ghost use Rattle.refal_tree.specs.FlattenRows.{closing};
 ghost use Rattle.refal_writer.specs.Adds.{Adds};
 ghost use Rattle.refal_writer.specs.Going.{Writes, WritesNode};
 ghost use Rattle.refal_writer.specs.RowTurns.{fitsAt, equalsText};
-ghost use Rattle.refal_writer.specs.SpelledRows.{spelledRow};
 ghost use Rattle.refal_writer.specs.Token.{textOf};
-ghost use Rattle.refal_writer.specs.Walk.{Standing};
 ghost use Rattle.refal_writer.specs.Windows.{Edge};
 
 // Whether row i of the rows up to `to` may stand in the state st; its children are not looked at.
@@ -41,24 +36,6 @@ fn row_fits(tree: &[u32], i: usize, to: usize, st: u32, left: usize) -> bool
         return false;
     }
     row_ok(tree, i, st, left)
-}
-
-// What stands before the children of row i, from the place `at` on.
-fn put_opening(tree: &[u32], src: &[u8], i: usize, st: u32, at: usize, out: &mut [u8]) -> Opened
-    requires { ⌜ (7 * i + 6 < length (now tree)) × Standing (getD (now tree) (7 * i) 0) (getD (now tree) (7 * i + 1) 0) × (at ≤ 1152921504606846976) ⌝ }
-    ensures { λ r. ⌜ Adds (textOf (now (src .entry)) (opening st (rowAt (now (tree .entry)) i))) at (r .at) (now (out .entry)) (now (out .exit)) × (r .at ≤ at + 8589934710) × (r .good ≡ spelledRow (now (src .entry)) (now (tree .entry)) i) ⌝ }
-{
-    let w = 7 * i;
-    let k = tree[w];
-    let d = tree[w + 1];
-    let s = tree[w + 2];
-    let l = tree[w + 3];
-    let from = least(at, out.len());
-    let n = write_opening(src, st, k, d, s, l, &mut out[from..]);
-    Opened {
-        at: at + n,
-        good: row_spelled(src, k, d, s, l),
-    }
 }
 
 // What stands after the children of a row of the kind k.

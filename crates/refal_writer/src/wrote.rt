@@ -1,10 +1,9 @@
 // What a walk over rows gives back, and the marks that it puts between them.
-use crate::bytes::put2;
-use refal_rows::least;
 ghost use mathlib.Core.Path.{_≡_};
 ghost use mathlib.Core.Bool.{false};
-ghost use mathlib.Core.List.{[], _∷_};
-ghost use Prim.Native.Nat.{_≤_};
+ghost use mathlib.Core.List.{[], _∷_, _++_};
+ghost use Prim.Native.Nat.{_+_, _≤_};
+ghost use lib.ListN.{length, take, drop};
 ghost use Rattle.refal_writer.specs.Adds.{Adds};
 
 // Where the text ends, whether every row is spelled as reading gives it, and whether the rows keep the rules. Where they do
@@ -31,12 +30,24 @@ pub fn unlawful() -> Wrote
     }
 }
 
+// Two bytes at the place `at`.
+pub fn put_pair(a: u8, b: u8, at: usize, out: &mut [u8])
+    requires { ⌜ at + 2 ≤ length (now out) ⌝ }
+    ensures { λ _. ⌜ now (out .exit) ≡ take at (now (out .entry)) ++ (a ∷ b ∷ drop (at + 2) (now (out .entry))) ⌝ }
+{
+    out[at] = a;
+    let next = at + 1;
+    out[next] = b;
+}
+
 // A mark and a space from the place `at` on. The place after them.
 pub fn put_mark(mark: u8, at: usize, out: &mut [u8]) -> usize
     requires { ⌜ at ≤ 1152921504606846976 ⌝ }
     ensures { λ r. ⌜ Adds (mark ∷ 32 ∷ []) at r (now (out .entry)) (now (out .exit)) ⌝ }
 {
-    let from = least(at, out.len());
-    let n = put2(mark, 32, &mut out[from..]);
-    at + n
+    let end = at + 2;
+    if end <= out.len() {
+        put_pair(mark, 32, at, out);
+    }
+    end
 }

@@ -1,35 +1,25 @@
--- `refal_writer::leaf::open` meets its contract.
+-- `refal_writer::leaf::open` meets its contract: a character, a number, a short word, or any other text.
 use native.Mathlib.Omega.{arith}
-use mathlib.Core.Path.{_≡_, _∙_}
+use mathlib.Core.Path.{_∙_}
 use lib.ListN.{length}
 use Rattle.refal_writer.specs.Puts.{puts-as, lent-rest}
-use Rattle.refal_writer.specs.SpellingLaws.{row-char}
-use Rattle.refal_writer.specs.Windows.{rest-room, term-text-is, char-text-is, bracket-text-is, bracket-spelled, short-some, short-few, short-in, short-room, ahead-few}
+use Rattle.refal_writer.specs.SpellingLaws.{row-char, row-number}
+use Rattle.refal_writer.specs.Windows.{short-some, short-few, short-in, short-room, rest-room, ahead-few, word-text-is, number-text-is, char-text-is}
 use borrow.Author.Needs.{needs}
 use Rattle.refal_writer.proofs.leaf.open.Statement.{statement}
 use Rattle.refal_writer.proofs.leaf.open.Tie as tie
 use Rattle.refal_writer.proofs.leaf.open.Reads as reads
 use Rattle.refal_writer.proofs.leaf.open.Lts as lts
-use Rattle.refal_writer.proofs.bytes.put2.Reads as put2-reads
-use Rattle.refal_writer.proofs.leaf.first.Reads as first-reads
 use Rattle.refal_writer.proofs.leaf.lead.Reads as lead-reads
+use Rattle.refal_writer.proofs.leaf.low.Reads as low-reads
 use Rattle.refal_writer.proofs.leaf.put_text.Reads as put-text-reads
-use Rattle.refal_writer.proofs.leaf.second.Reads as second-reads
 use Rattle.refal_writer.proofs.leaf.word_spelled.Reads as word-spelled-reads
 use Rattle.refal_writer.proofs.opening.write_opening.Reads as write-opening-reads
 use Rattle.refal_writer.proofs.spelling.is_char.Reads as is-char-reads
 use Rattle.refal_writer.proofs.spelling.row_spelled.Reads as row-spelled-reads
+use Rattle.refal_writer.proofs.spelling.text_spelled.Reads as text-spelled-reads
 use Rattle.refal_writer.proofs.token.write_char.Reads as write-char-reads
-
-put2-requires : tie.Need-put2-requires
-put2-requires c κs = search needs
-
-same-length : tie.Need-same-length
-same-length c = search needs
-
-returns : tie.Need-returns
-returns c = let a = c .before .before .before .before .before .before .before .before .args in
-    (puts-as _ _ (bracket-text-is (a .src .now) 9 (a .detail) (a .start) (a .len) (a .kind) (c .before .before .before .before .if1 .taken)) (c .before .before .put2 .ensures .0), omega arith, bracket-spelled (a .src .now) 9 (a .detail) (a .start) (a .len) (a .kind) (c .before .before .before .before .if1 .taken))
+use Rattle.refal_writer.proofs.token.write_text.Reads as write-text-reads
 
 write-char-requires : tie.Need-write-char-requires
 write-char-requires c κs = search needs
@@ -37,27 +27,35 @@ write-char-requires c κs = search needs
 is-char-requires : tie.Need-is-char-requires
 is-char-requires c κs = search needs
 
+same-length : tie.Need-same-length
+same-length c = search needs
+
+returns : tie.Need-returns
+returns c = let a = c .before .before .before .before .before .before .before .before .before .args in (puts-as _ _ (char-text-is (a .src .now) 9 (a .detail) (a .start) (a .len) (a .kind) (c .before .before .before .before .before .if1 .taken)) (c .before .before .before .write-char .ensures .0), omega arith, c .is-char .ensures ∙ row-char (a .src .now) (a .kind) (a .start) (a .len) (a .detail) (c .before .before .before .before .before .if1 .taken))
+
+write-text-requires : tie.Need-write-text-requires
+write-text-requires c κs = search needs
+
+text-spelled-requires : tie.Need-text-spelled-requires
+text-spelled-requires c κs = search needs
+
 same-length-2 : tie.Need-same-length-2
 same-length-2 c = search needs
 
 returns-2 : tie.Need-returns-2
-returns-2 c = let a = c .before .before .before .before .before .before .before .before .before .before .args in
-    (puts-as _ _ (char-text-is (a .src .now) 9 (a .detail) (a .start) (a .len) (a .kind) (c .before .before .before .before .before .if2 .taken)) (c .before .before .before .write-char .ensures .0), omega arith, c .is-char .ensures ∙ row-char (a .src .now) (a .kind) (a .start) (a .len) (a .detail) (c .before .before .before .before .before .if2 .taken))
+returns-2 c = let a = c .before .before .before .before .before .before .before .before .before .before .args in (puts-as _ _ (number-text-is (a .src .now) 9 (a .detail) (a .start) (a .len) (a .kind) (c .before .before .before .before .before .if2 .taken)) (c .before .before .before .write-text .ensures .0), omega arith, c .text-spelled .ensures ∙ row-number (a .src .now) (a .kind) (a .start) (a .len) (a .detail) (c .before .before .before .before .before .if2 .taken))
 
 add-near : tie.Need-add-near
 add-near c = search needs
 
 word-spelled-requires : tie.Need-word-spelled-requires
-word-spelled-requires c κs = let a = c .before .before .before .before .before .before .args in
-    (short-in (a .len) (a .start) (length (a .src .now)) (length (a .out .now)) (c .if3 .taken), short-few (a .len) (a .start) (length (a .src .now)) (length (a .out .now)) (c .if3 .taken), c .before .before .before .before .before .before .pre .2)
+word-spelled-requires c κs = let a = c .before .before .before .before .before .before .args in (short-in (a .len) (a .start) (length (a .src .now)) (length (a .out .now)) (c .if3 .taken), short-few (a .len) (a .start) (length (a .src .now)) (length (a .out .now)) (c .if3 .taken), c .before .before .before .before .before .before .pre .3)
 
 sub-put-text : tie.Need-sub-put-text
-sub-put-text c = let a = c .before .before .before .before .before .before .before .args in
-    let h = short-in (a .len) (a .start) (length (a .src .now)) (length (a .out .now)) (c .before .if3 .taken) in omega arith
+sub-put-text c = let a = c .before .before .before .before .before .before .before .args in let h = short-in (a .len) (a .start) (length (a .src .now)) (length (a .out .now)) (c .before .if3 .taken) in omega arith
 
 part-put-text-start : tie.Need-part-put-text-start
-part-put-text-start c = let a = c .before .before .before .before .before .before .before .args in
-    let h = short-in (a .len) (a .start) (length (a .src .now)) (length (a .out .now)) (c .before .if3 .taken) in omega arith
+part-put-text-start c = let a = c .before .before .before .before .before .before .before .args in let h = short-in (a .len) (a .start) (length (a .src .now)) (length (a .out .now)) (c .before .if3 .taken) in omega arith
 
 part-put-text-end : tie.Need-part-put-text-end
 part-put-text-end c = search needs
@@ -65,27 +63,17 @@ part-put-text-end c = search needs
 lead-requires : tie.Need-lead-requires
 lead-requires c κs = search needs
 
-first-requires : tie.Need-first-requires
-first-requires c κs = search needs
-
-second-requires : tie.Need-second-requires
-second-requires c κs = search needs
+low-requires : tie.Need-low-requires
+low-requires c κs = search needs
 
 put-text-requires : tie.Need-put-text-requires
-put-text-requires c κs = let a = c .before .before .before .before .before .before .before .before .before .before .before .before .args in
-    let t = c .before .before .before .before .before .before .if3 .taken in
-    let i = short-in (a .len) (a .start) (length (a .src .now)) (length (a .out .now)) t in
-    let e = c .before .before .before .lead .ensures in
-    let f = ahead-few (a .kind) in
-    (omega arith, short-some (a .len) (a .start) (length (a .src .now)) (length (a .out .now)) t, short-few (a .len) (a .start) (length (a .src .now)) (length (a .out .now)) t, rest-room (a .src .now) (a .start) i, short-room (a .len) (a .start) (length (a .src .now)) (length (a .out .now)) t, c .before .before .before .before .before .before .before .before .before .before .before .before .pre .2)
+put-text-requires c κs = let a = c .before .before .before .before .before .before .before .before .before .before .before .args in let t = c .before .before .before .before .before .if3 .taken in let i = short-in (a .len) (a .start) (length (a .src .now)) (length (a .out .now)) t in let e = c .before .before .lead .ensures in let f = ahead-few (a .kind) in (omega arith, short-some (a .len) (a .start) (length (a .src .now)) (length (a .out .now)) t, short-few (a .len) (a .start) (length (a .src .now)) (length (a .out .now)) t, rest-room (a .src .now) (a .start) i, short-room (a .len) (a .start) (length (a .src .now)) (length (a .out .now)) t, c .before .before .before .before .before .before .before .before .before .before .before .pre .3)
 
 same-length-3 : tie.Need-same-length-3
 same-length-3 c = search needs
 
 returns-3 : tie.Need-returns-3
-returns-3 c = let a = c .before .before .before .before .before .before .before .before .before .before .before .before .before .before .before .args in
-    let p = c .before .before .before .before .before .before .before .before .before .before .before .before .before .before .before .pre in
-    (puts-as _ _ (term-text-is (a .src .now) 9 (a .detail) (a .start) (a .len) (a .kind) (c .before .before .before .before .before .before .lead .result) (c .before .before .before .before .before .first .result) (c .before .before .before .before .second .result) _ (c .before .before .before .before .before .before .lead .ensures) (c .before .before .before .before .before .first .ensures) (c .before .before .before .before .second .ensures) (lent-rest (a .src .now) (a .start)) (p .1) (p .0 .high) (c .before .before .before .before .before .before .before .before .before .before .if2 .left) (c .before .before .before .before .before .before .before .before .before .before .before .if1 .left) (p .0 .letter)) (c .before .before .put-text .ensures .0), omega arith, c .before .before .before .before .before .before .before .before .word-spelled .ensures)
+returns-3 c = let a = c .before .before .before .before .before .before .before .before .before .before .before .before .before .before .args in let p = c .before .before .before .before .before .before .before .before .before .before .before .before .before .before .pre in (puts-as _ _ (word-text-is (a .src .now) 9 (a .detail) (a .start) (a .len) (a .kind) (c .before .before .before .before .before .lead .result) (c .before .before .before .before .low .result) _ (c .before .before .before .before .before .lead .ensures) (c .before .before .before .before .low .ensures) (lent-rest (a .src .now) (a .start)) (p .1) (p .2) (c .before .before .before .before .before .before .before .before .before .if2 .left) (c .before .before .before .before .before .before .before .before .before .before .if1 .left) (p .0 .letter)) (c .before .before .put-text .ensures .0), omega arith, c .before .before .before .before .before .before .before .word-spelled .ensures)
 
 write-opening-requires : tie.Need-write-opening-requires
 write-opening-requires c κs = search needs
@@ -103,11 +91,12 @@ pub open-spec : {M : Type 1} → statement M
 open-spec =
     tie.close
     (tie.spec
-    put2-requires
-    same-length
-    returns
     write-char-requires
     is-char-requires
+    same-length
+    returns
+    write-text-requires
+    text-spelled-requires
     same-length-2
     returns-2
     add-near
@@ -116,8 +105,7 @@ open-spec =
     part-put-text-start
     part-put-text-end
     lead-requires
-    first-requires
-    second-requires
+    low-requires
     put-text-requires
     same-length-3
     returns-3

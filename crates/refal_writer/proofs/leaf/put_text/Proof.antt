@@ -1,6 +1,5 @@
 -- `refal_writer::leaf::put_text` meets its contract: what of the two bytes does not stand ahead of the text, the text overwrites.
 use native.Mathlib.Omega.{arith}
-use Prim.Native.Nat.{ℕ}
 use mathlib.Core.Path.{_≡_, refl, _∙_}
 use lib.ListN.{length, set, length-set}
 use Rattle.refal_writer.specs.Windows.{ahead-puts, lent-room}

@@ -3,7 +3,6 @@ use mathlib.Core.Path.{sym, ap}
 use mathlib.Core.Bool.{Bool}
 use borrow.Author.Tests.{eq-eqb, ne-eqb}
 use Rattle.refal_text.specs.Pick.{pick}
-use borrow.Author.Needs.{needs}
 use Rattle.refal_writer.proofs.terms.closing_mark.Statement.{statement}
 use Rattle.refal_writer.proofs.terms.closing_mark.Tie as tie
 use Rattle.refal_writer.proofs.terms.closing_mark.Reads as reads

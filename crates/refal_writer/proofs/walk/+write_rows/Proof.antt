@@ -1,14 +1,13 @@
 -- `refal_writer::walk::write_rows` meets its contract, as a cycle of calls: at each row the walk so far is `Going`. What falls is the number of rows.
 use Prim.Native.Nat.{ℕ, _+_, _*_, _-_, _≤_, _<_}
-use mathlib.Core.Path.{_≡_, refl, sym, ap, subst, _∙_}
-use mathlib.Core.Bool.{Bool, true, false, _&&_}
+use mathlib.Core.Path.{sym, ap, subst, _∙_}
 use native.Mathlib.Omega.{arith}
 use lib.ListN.{length}
 use borrow.Author.Needs.{needs}
 use borrow.Author.Tests.{not-true, not-false}
 use Rattle.refal_tree.specs.States.{inside, after, below}
 use Rattle.refal_tree.specs.Levels.{below-le}
-use Rattle.refal_tree.specs.Ranges.{rowAt, kindAt, ok-end, stop-kids}
+use Rattle.refal_tree.specs.Ranges.{rowAt, ok-end, stop-kids}
 use Rattle.refal_writer.specs.Going.{Going, node-whole, kids-found, going-start, going-end, going-not, going-turn}
 use Rattle.refal_writer.specs.RowTurns.{fits-low, fits-high, fits-row, fits-not}
 use Rattle.refal_writer.specs.Walk.{widest, standing, rows-fall, left-falls}
@@ -25,7 +24,7 @@ use Rattle.refal_tree.proofs.states.inside.Reads as inside-reads
 use Rattle.refal_writer.proofs.row.kind.Reads as kind-reads
 use Rattle.refal_writer.proofs.row.next.Reads as next-reads
 use Rattle.refal_writer.proofs.walk.put_closing.Reads as put-closing-reads
-use Rattle.refal_writer.proofs.walk.put_opening.Reads as put-opening-reads
+use Rattle.refal_writer.proofs.put.put_opening.Reads as put-opening-reads
 use Rattle.refal_writer.proofs.walk.row_fits.Reads as row-fits-reads
 use Rattle.refal_writer.proofs.walk.write_terms_row.Reads as write-terms-row-reads
 use Rattle.refal_writer.proofs.wrote.unlawful.Reads as unlawful-reads

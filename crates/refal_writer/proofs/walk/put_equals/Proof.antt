@@ -1,7 +1,6 @@
 -- `refal_writer::walk::put_equals` meets its contract.
 use native.Mathlib.Omega.{arith}
-use Prim.Native.Nat.{ℕ}
-use mathlib.Core.Path.{_≡_, sym, ap}
+use mathlib.Core.Path.{sym, ap}
 use mathlib.Core.Bool.{true, false}
 use borrow.Author.Tests.{eq-eqb, ne-eqb}
 use Rattle.refal_writer.specs.Adds.{adds-as, adds-none}

@@ -1,10 +1,10 @@
 -- `refal_writer::walk::row_fits` meets its contract.
-use mathlib.Core.Path.{_≡_, sym, ap, _∙_}
-use mathlib.Core.Bool.{Bool, true, false, _&&_}
+use mathlib.Core.Path.{sym, ap, _∙_}
+use mathlib.Core.Bool.{Bool, _&&_}
 use Prim.Native.Nat.{ℕ}
 use lib.Dec.{leb, ltb}
 use borrow.Author.Tests.{not-true, not-false}
-use Rattle.refal_tree.specs.Ranges.{rowAt, nextAt}
+use Rattle.refal_tree.specs.Ranges.{rowAt}
 use Rattle.refal_tree.specs.Rules.{rowOk}
 use borrow.Author.Needs.{needs}
 use Rattle.refal_writer.proofs.walk.row_fits.Statement.{statement}

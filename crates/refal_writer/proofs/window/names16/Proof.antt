@@ -1,5 +1,5 @@
 -- `refal_writer::window::names16` meets its contract: the first n bytes are tested, one by one.
-use Prim.Native.Nat.{ℕ, _+_, _-_, _≤_, _<_}
+use Prim.Native.Nat.{ℕ, _-_, _≤_, _<_}
 use native.Mathlib.Omega.{arith}
 use mathlib.Core.Bool.{true}
 use mathlib.Core.Path.{_≡_}

@@ -1,6 +1,6 @@
 -- `refal_writer::window::within` meets its contract: the table says which places are below n.
 use native.Mathlib.Omega.{arith}
-use Rattle.refal_writer.specs.Windows.{Edge, within-is}
+use Rattle.refal_writer.specs.Windows.{within-is}
 use borrow.Author.Needs.{needs}
 use Rattle.refal_writer.proofs.window.within.Statement.{statement}
 use Rattle.refal_writer.proofs.window.within.Tie as tie

@@ -1,0 +1,255 @@
+// Runs of leaves that are alike: plain characters; names, or variables, whose texts have one length.
+use crate::chars::put_chars;
+use crate::leaf::low;
+use crate::row::wide;
+use crate::short::few_ok;
+use crate::short::many_ok;
+use crate::short::put_few;
+use crate::short::put_many;
+use crate::words::is_upper;
+use crate::wrote::put_pair;
+use refal_tree::fields::letter;
+ghost use mathlib.Core.Path.{_≡_};
+ghost use mathlib.Core.Bool.{true, false, _&&_};
+ghost use mathlib.Core.List.{List};
+ghost use Prim.Native.Nat.{ℕ, _+_, _*_, _-_, _≤_, _<_};
+ghost use lib.Dec.{eqb, leb};
+ghost use lib.ListN.{length, getD};
+ghost use Rattle.refal_writer.specs.Going.{Going};
+ghost use Rattle.refal_writer.specs.Runs.{Took};
+ghost use Rattle.refal_writer.specs.Windows.{Edge};
+
+// The row after a run, and the place after its text.
+pub struct Ran {
+    pub row: usize,
+    pub at: usize,
+}
+
+// Whether row i is a leaf of the kind k whose text has n bytes and stands in a source of so many bytes, with more behind it.
+fn is_alike(tree: &[u32], i: usize, k: u32, n: usize, bytes: usize) -> bool
+    requires { ⌜ 7 * i + 6 < length (now tree) ⌝ }
+    ensures { λ r. ⌜ r ≡ ((eqb (getD (now (tree .entry)) (7 * i) 0) k && eqb (getD (now (tree .entry)) (7 * i + 3) 0) n) && (eqb (getD (now (tree .entry)) (7 * i + 6) 0) (i + 1) && leb (getD (now (tree .entry)) (7 * i + 2) 0 + 16) bytes)) ⌝ }
+{
+    let w = 7 * i;
+    let next = i + 1;
+    let same = (tree[w] == k) & (wide(tree[w + 3]) == n);
+    let s = wide(tree[w + 2]);
+    same & ((wide(tree[w + 6]) == next) & (s + 16 <= bytes))
+}
+
+// Row i, put from the place `at` on where it is a name of n bytes and there is room; or nothing.
+fn put_name(
+    tree: &[u32],
+    src: &[u8],
+    i: usize,
+    n: usize,
+    edge: &[u8],
+    at: usize,
+    out: &mut [u8],
+) -> bool
+    requires { ⌜ (7 * i + 6 < length (now tree)) × (at ≤ length (now out)) × (1 ≤ n) × (n ≤ 15) × Edge (now edge) ⌝ }
+    ensures { λ r. ⌜ (r ≡ true → Took (now (src .entry)) (now (tree .entry)) i at (n + 1) (now (out .entry)) (now (out .exit))) × (r ≡ false → now (out .exit) ≡ now (out .entry)) ⌝ }
+{
+    let w = 7 * i;
+    let alike = is_alike(tree, i, 9, n, src.len()) & (tree[w + 1] == 0);
+    let more = alike & (19 <= out.len() - at);
+    if !more {
+        return false;
+    }
+    let s = wide(tree[w + 2]);
+    if !is_upper(src[s]) {
+        return false;
+    }
+    if n <= 3 {
+        if !few_ok(edge, src, s, n) {
+            return false;
+        }
+        put_few(src, s, n, at, out);
+        return true;
+    }
+    if !many_ok(edge, src, s, n) {
+        return false;
+    }
+    put_many(src, s, n, at, out);
+    true
+}
+
+// Row i, put from the place `at` on where it is a variable with an index of n bytes and there is room; or nothing.
+fn put_variable(
+    tree: &[u32],
+    src: &[u8],
+    i: usize,
+    n: usize,
+    edge: &[u8],
+    at: usize,
+    out: &mut [u8],
+) -> bool
+    requires { ⌜ (7 * i + 6 < length (now tree)) × (at ≤ length (now out)) × (1 ≤ n) × (n ≤ 15) × Edge (now edge) ⌝ }
+    ensures { λ r. ⌜ (r ≡ true → Took (now (src .entry)) (now (tree .entry)) i at (n + 3) (now (out .entry)) (now (out .exit))) × (r ≡ false → now (out .exit) ≡ now (out .entry)) ⌝ }
+{
+    let w = 7 * i;
+    let d = tree[w + 1];
+    let alike = is_alike(tree, i, 12, n, src.len()) & letter(d);
+    let more = alike & (19 <= out.len() - at);
+    if !more {
+        return false;
+    }
+    let s = wide(tree[w + 2]);
+    let p = at + 2;
+    if n <= 3 {
+        if !few_ok(edge, src, s, n) {
+            return false;
+        }
+        put_few(src, s, n, p, out);
+        put_pair(low(d), 46, at, out);
+        return true;
+    }
+    if !many_ok(edge, src, s, n) {
+        return false;
+    }
+    put_many(src, s, n, p, out);
+    put_pair(low(d), 46, at, out);
+    true
+}
+
+// The names of n bytes from row `from` on, put from the place `begin` on while there is room. The row after them.
+fn names(
+    tree: &[u32],
+    src: &[u8],
+    from: usize,
+    to: usize,
+    n: usize,
+    edge: &[u8],
+    begin: usize,
+    out: &mut [u8],
+) -> usize
+    requires { ⌜ (from ≤ to) × (7 * to ≤ length (now tree)) × (begin ≤ length (now out)) × (1 ≤ n) × (n ≤ 15) × Edge (now edge) ⌝ }
+    ensures { λ r. ⌜ (from ≤ r) × (r ≤ to) × ((left : ℕ) → Going (now (src .entry)) (now (tree .entry)) from to 9 left begin r 9 (begin + (n + 1) * (r - from)) true (now (out .entry)) (now (out .exit))) ⌝ }
+{
+    let mut i = from;
+    let mut at = begin;
+    while i < to {
+        if !put_name(tree, src, i, n, edge, at, out) {
+            return i;
+        }
+        at += n + 1;
+        i += 1;
+    }
+    i
+}
+
+// The variables with an index of n bytes from row `from` on, put from the place `begin` on while there is room. The row after
+// them.
+fn variables(
+    tree: &[u32],
+    src: &[u8],
+    from: usize,
+    to: usize,
+    n: usize,
+    edge: &[u8],
+    begin: usize,
+    out: &mut [u8],
+) -> usize
+    requires { ⌜ (from ≤ to) × (7 * to ≤ length (now tree)) × (begin ≤ length (now out)) × (1 ≤ n) × (n ≤ 15) × Edge (now edge) ⌝ }
+    ensures { λ r. ⌜ (from ≤ r) × (r ≤ to) × ((left : ℕ) → Going (now (src .entry)) (now (tree .entry)) from to 9 left begin r 9 (begin + (n + 3) * (r - from)) true (now (out .entry)) (now (out .exit))) ⌝ }
+{
+    let mut i = from;
+    let mut at = begin;
+    while i < to {
+        if !put_variable(tree, src, i, n, edge, at, out) {
+            return i;
+        }
+        at += n + 3;
+        i += 1;
+    }
+    i
+}
+
+// Whether three rows from i on look alike. Where the next one differs, a run is not worth its start.
+fn three_alike(tree: &[u32], i: usize, to: usize) -> bool
+    requires { ⌜ (i ≤ to) × (7 * to ≤ length (now tree)) ⌝ }
+    ensures { λ r. ⌜ (r ≡ true → i < to) ⌝ }
+{
+    let end = i + 3;
+    if to < end {
+        return false;
+    }
+    let w = 7 * i;
+    let k = tree[w];
+    let l = tree[w + 3];
+    (tree[w + 7] == k) & ((tree[w + 10] == l) & (tree[w + 17] == l))
+}
+
+// The names or variables of one length from row i on, where there is room for them.
+fn words(
+    tree: &[u32],
+    src: &[u8],
+    i: usize,
+    to: usize,
+    edge: &[u8],
+    at: usize,
+    out: &mut [u8],
+) -> Ran
+    requires { ⌜ (i ≤ to) × (7 * to ≤ length (now tree)) × (to ≤ 33554432) × (at ≤ 1152921504606846976) × Edge (now edge) ⌝ }
+    ensures { λ r. ⌜ (i ≤ r .row) × (r .row ≤ to) × ((left : ℕ) → Going (now (src .entry)) (now (tree .entry)) i to 9 left at (r .row) 9 (r .at) true (now (out .entry)) (now (out .exit))) ⌝ }
+{
+    if !three_alike(tree, i, to) {
+        return Ran { row: i, at };
+    }
+    let w = 7 * i;
+    let k = tree[w];
+    let n = wide(tree[w + 3]);
+    let fits = ((1 <= n) & (n <= 15)) & (at <= out.len());
+    if !fits {
+        return Ran { row: i, at };
+    }
+    if k == 9 {
+        let r = names(tree, src, i, to, n, edge, at, out);
+        return Ran {
+            row: r,
+            at: at + (n + 1) * (r - i),
+        };
+    }
+    if k == 12 {
+        let r = variables(tree, src, i, to, n, edge, at, out);
+        return Ran {
+            row: r,
+            at: at + (n + 3) * (r - i),
+        };
+    }
+    Ran { row: i, at }
+}
+
+// A run from row i on, where there is room for it: plain characters, or names or variables of one length.
+pub fn run(
+    tree: &[u32],
+    src: &[u8],
+    i: usize,
+    to: usize,
+    edge: &[u8],
+    at: usize,
+    out: &mut [u8],
+) -> Ran
+    requires { ⌜ (i ≤ to) × (7 * to ≤ length (now tree)) × (to ≤ 33554432) × (at ≤ 1152921504606846976) × Edge (now edge) ⌝ }
+    ensures { λ r. ⌜ (i ≤ r .row) × (r .row ≤ to) × ((left : ℕ) → Going (now (src .entry)) (now (tree .entry)) i to 9 left at (r .row) 9 (r .at) true (now (out .entry)) (now (out .exit))) ⌝ }
+{
+    let e = chars(tree, i, to, at, out);
+    if i < e {
+        return Ran {
+            row: e,
+            at: at + 4 * (e - i),
+        };
+    }
+    words(tree, src, i, to, edge, at, out)
+}
+
+// The plain characters from row i on, where there is room for them. The row after them.
+fn chars(tree: &[u32], i: usize, to: usize, at: usize, out: &mut [u8]) -> usize
+    requires { ⌜ (i ≤ to) × (7 * to ≤ length (now tree)) ⌝ }
+    ensures { λ r. ⌜ (i ≤ r) × (r ≤ to) × ((src : List ℕ) (left : ℕ) → Going src (now (tree .entry)) i to 9 left at r 9 (at + 4 * (r - i)) true (now (out .entry)) (now (out .exit))) ⌝ }
+{
+    if out.len() < at {
+        return i;
+    }
+    put_chars(tree, i, to, at, out)
+}
