@@ -7,7 +7,7 @@ use mathlib.Core.List.{List, [], _∷_, _++_}
 use mathlib.Core.Path.{_≡_, refl, sym, ap, subst, _∙_}
 use lib.Dec.{eqb, leb}
 use lib.ListN.{length, take, drop, getD}
-use lib.Seq.{getD-drop}
+use lib.Seq.{getD-drop, drop-cons}
 use borrow.Author.Tests.{eqb-true, leb-true}
 use Rattle.refal_rows.specs.Tests.{and-left, and-right, range-lo, range-hi}
 use Rattle.refal_ast.specs.Kinds.{nodeIdentifier, nodeVariable}
@@ -17,9 +17,9 @@ use Rattle.refal_tree.specs.States.{atTerms}
 use Rattle.refal_tree.specs.Ranges.{rowAt}
 use Rattle.refal_tree.specs.Leaves.{leafOk, leafAt}
 use Rattle.refal_tree.specs.FlattenRows.{opening}
-use Rattle.refal_lexer.specs.Classes.{upper}
-use Rattle.refal_writer.specs.Adds.{Adds, adds-as, adds-ahead}
-use Rattle.refal_writer.specs.Going.{Going, going-leaf, going-trans}
+use Rattle.refal_lexer.specs.Classes.{upper, digit, nameByte}
+use Rattle.refal_writer.specs.Adds.{Adds, adds-as, adds-end, adds-ahead, adds-pair}
+use Rattle.refal_writer.specs.Going.{Going, going-leaf}
 use Rattle.refal_writer.specs.SpelledRows.{spelledRow}
 use Rattle.refal_writer.specs.Spellings.{rowSpelled}
 use Rattle.refal_writer.specs.Token.{textOf, name-text, variable-text}
@@ -45,14 +45,6 @@ pub going-as : (src w : List ℕ) (from to left b i at at′ : ℕ) (o₀ o o′
 going-as src w from to left b i at at′ o₀ o o′ e f G =
     subst (λ (x : ℕ). Going src w from to atTerms left b i atTerms x true o₀ o′) e
     (subst (λ (x : List ℕ). Going src w from to atTerms left b i atTerms at true o₀ x) (sym f) G)
-
--- past rows that another walk went over, after one that went over none
-pub going-after : (src w : List ℕ) (from to left b i at j a : ℕ) (o o₁ o₂ : List ℕ) → i ≡ from → at ≡ b → Going src w from to atTerms left b i atTerms at true o o₁
-    → Going src w from to atTerms left b j atTerms a true o₁ o₂ → Going src w from to atTerms left b j atTerms a true o o₂
-going-after src w from to left b i at j a o o₁ o₂ e f G H =
-    going-trans src w from to atTerms left b from atTerms b true o o₁
-    (subst (λ (x : ℕ). Going src w from to atTerms left b x atTerms b true o o₁) e (subst (λ (x : ℕ). Going src w from to atTerms left b i atTerms x true o o₁) f G))
-    j atTerms a true o₂ H
 
 -- ---- the place after the texts of rows that have m bytes each
 pub none-more : (b m from : ℕ) → b ≡ b + m * (from - from)
@@ -155,6 +147,26 @@ letter-byte d h = go (eqb d 115) (eqb d 116) refl refl h
     go true b e f g = let z : d ≡ 115 = eqb-true d 115 e in omega arith
     go false true e f g = let z : d ≡ 116 = eqb-true d 116 f in omega arith
     go false false e f g = let z : d ≡ 101 = eqb-true d 101 g in omega arith
+
+-- ---- a name of one letter
+one-name : (b : ℕ) → upper b ≡ true → nameByte b ≡ true
+one-name b h = ap (λ (t : Bool). (((t || (leb 97 b && leb b 122)) || digit b) || eqb b 95) || eqb b 45) h
+
+pub one-names : (src : List ℕ) (s n : ℕ) → n ≡ 1 → upper (getD src s 0) ≡ true → AllNames (drop s src) n
+one-names src s n e h j l =
+    let z : j ≡ 0 = omega arith in
+    let f : s + 0 ≡ s = omega arith in
+    ap (λ (x : ℕ). nameByte (getD (drop s src) x 0)) z
+    ∙ ap nameByte (getD-drop s src 0 0 ∙ ap (λ (x : ℕ). getD src x 0) f)
+    ∙ one-name (getD src s 0) h
+
+pub one-adds : (src o o′ : List ℕ) (s n at : ℕ) → n ≡ 1 → s < length src → o′ ≡ take at o ++ (getD src s 0 ∷ 32 ∷ drop (at + 2) o) → Adds (take n (drop s src) ++ 32 ∷ []) at (at + n + 1) o o′
+one-adds src o o′ s n at e h p =
+    let f : at + 2 ≡ at + n + 1 = omega arith in
+    adds-end f
+    (adds-as (getD src s 0 ∷ 32 ∷ []) (take n (drop s src) ++ 32 ∷ [])
+    (sym (ap (λ (x : ℕ). take x (drop s src) ++ 32 ∷ []) e ∙ ap (λ (x : List ℕ). take 1 x ++ 32 ∷ []) (drop-cons src s 0 h)))
+    (adds-pair o o′ (getD src s 0) 32 at p))
 
 -- ---- the row, whose text begins at s and is of bytes of names
 module _ (src w : List ℕ) (i s n at : ℕ) (start : s ≡ getD w (7 * i + 2) 0) (all : AllNames (drop s src) n) (some : 1 ≤ n) (few : n ≤ 15) where

@@ -38,6 +38,16 @@ module _ (src : List ℕ) (s n : ℕ) (lo : 1 ≤ n) (hi : n ≤ 3) where
       go (yes a) (yes b) = byte-at j (s + n - 1) (omega arith) (sym ez ∙ and-right y z (and-right x (y && z) h))
       go (yes a) (no b) = byte-at j (s + n / 2) (omega arith) (sym ey ∙ and-left y z (and-right x (y && z) h))
 
+-- one byte more
+pub names-more : (src : List ℕ) (s i : ℕ) (good b : Bool) → (good ≡ true → AllNames (drop s src) i) → b ≡ nameByte (getD src (s + i) 0) → good && b ≡ true → AllNames (drop s src) (i + 1)
+names-more src s i good b I e h j l = go (decLe (suc j) i)
+  where
+    go : Dec (suc j ≤ i) → nameByte (getD (drop s src) j 0) ≡ true
+    go (yes a) = I (and-left good b h) j a
+    go (no a) =
+        let z : i ≡ j = omega arith in
+        subst (λ (k : ℕ). nameByte (getD (drop s src) k 0) ≡ true) z (ap nameByte (getD-drop s src i 0) ∙ sym e ∙ and-right good b h)
+
 -- ---- at most three bytes and a space: the first, the middle and the last, some of them at one place
 abbrev few : List ℕ → List ℕ → ℕ → List ℕ
 few t w n = set (set (set (set t 0 (getD w 0 0)) (n / 2) (getD w (n / 2) 0)) (n - 1) (getD w (n - 1) 0)) n 32

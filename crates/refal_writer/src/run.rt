@@ -1,6 +1,7 @@
 // Runs of leaves that are alike: plain characters; names, or variables, whose texts have one length.
 use crate::chars::put_chars;
 use crate::leaf::low;
+use crate::row::kind;
 use crate::row::wide;
 use crate::short::few_ok;
 use crate::short::many_ok;
@@ -57,8 +58,13 @@ fn put_name(
         return false;
     }
     let s = wide(tree[w + 2]);
-    if !is_upper(src[s]) {
+    let b = src[s];
+    if !is_upper(b) {
         return false;
+    }
+    if n == 1 {
+        put_pair(b, 32, at, out);
+        return true;
     }
     if n <= 3 {
         if !few_ok(edge, src, s, n) {
@@ -230,11 +236,11 @@ pub fn run(
     at: usize,
     out: &mut [u8],
 ) -> Ran
-    requires { ⌜ (i ≤ to) × (7 * to ≤ length (now tree)) × (to ≤ 33554432) × (at ≤ 1152921504606846976) × Edge (now edge) ⌝ }
+    requires { ⌜ (i < to) × (7 * to ≤ length (now tree)) × (to ≤ 33554432) × (at ≤ 1152921504606846976) × Edge (now edge) ⌝ }
     ensures { λ r. ⌜ (i ≤ r .row) × (r .row ≤ to) × ((left : ℕ) → Going (now (src .entry)) (now (tree .entry)) i to 9 left at (r .row) 9 (r .at) true (now (out .entry)) (now (out .exit))) ⌝ }
 {
-    let e = chars(tree, i, to, at, out);
-    if i < e {
+    if kind(tree, i) == 11 {
+        let e = chars(tree, i, to, at, out);
         return Ran {
             row: e,
             at: at + 4 * (e - i),

@@ -1,5 +1,4 @@
 // Texts of at most fifteen bytes, put byte for byte: nothing behind them is touched, so the next text need not wait for it.
-use crate::window::names16;
 ghost use mathlib.Core.Path.{_≡_};
 ghost use mathlib.Core.Bool.{true, false};
 ghost use mathlib.Core.List.{[], _∷_, _++_};
@@ -105,7 +104,14 @@ pub fn many_ok(edge: &[u8], src: &[u8], s: usize, n: usize) -> bool
     requires { ⌜ (n ≤ 16) × (s + 16 ≤ length (now src)) × Edge (now edge) ⌝ }
     ensures { λ r. ⌜ (r ≡ true → AllNames (drop s (now (src .entry))) n) ⌝ }
 {
-    names16(edge, &src[s..], n)
+    let mut good = true;
+    let mut i = 0;
+    while i < n {
+        let at = s + i;
+        good = good & is_in(edge, src[at]);
+        i += 1;
+    }
+    good
 }
 
 // The n bytes from s on, four to sixteen, and a space, from the place `at` on.

@@ -260,7 +260,7 @@ write-terms-run-requires : (t : ℕ) → write-terms-lts.Need-run-requires (
   write-inner-below t,
   write-inner.Post,
 ) (write-terms-at t) write-terms.Post write-terms-Inv-loop write-terms-μ-loop
-write-terms-run-requires t c κs = let a = c .before .before .before .before .before .before .before .before .before .args in let g = c .before .before .before .before .loop in let m : g .i < a .to = c .before .before .before .loop-test .taken in let s : g .at + a .from * widest ≤ a .begin + g .i * widest = g .inv .small in let b : a .begin ≤ a .from * widest = c .before .before .before .before .before .before .before .before .before .pre .1 .3 in let few : a .to ≤ 33554432 = c .before .before .before .before .before .before .before .before .before .pre .1 .2 in let z : g .at ≤ 1152921504606846976 = omega (arith, s, b, few, m) in (g .inv .hi, c .before .before .before .before .before .before .before .before .before .pre .1 .1, c .before .before .before .before .before .before .before .before .before .pre .1 .2, z, c .before .before .before .before .before .before .before .before .before .pre .1 .4)
+write-terms-run-requires t c κs = let a = c .before .before .before .before .before .before .before .before .before .args in let g = c .before .before .before .before .loop in let m : g .i < a .to = c .before .before .before .loop-test .taken in let s : g .at + a .from * widest ≤ a .begin + g .i * widest = g .inv .small in let b : a .begin ≤ a .from * widest = c .before .before .before .before .before .before .before .before .before .pre .1 .3 in let few : a .to ≤ 33554432 = c .before .before .before .before .before .before .before .before .before .pre .1 .2 in let z : g .at ≤ 1152921504606846976 = omega (arith, s, b, few, m) in (m, c .before .before .before .before .before .before .before .before .before .pre .1 .1, c .before .before .before .before .before .before .before .before .before .pre .1 .2, z, c .before .before .before .before .before .before .before .before .before .pre .1 .4)
 
 write-terms-loop-less : (t : ℕ) → write-terms-lts.Need-loop-less (
   kind-reads.Asked,
