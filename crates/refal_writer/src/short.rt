@@ -1,4 +1,5 @@
 // Texts of at most fifteen bytes, put byte for byte: nothing behind them is touched, so the next text need not wait for it.
+use crate::window::names16;
 ghost use mathlib.Core.Path.{_≡_};
 ghost use mathlib.Core.Bool.{true, false};
 ghost use mathlib.Core.List.{[], _∷_, _++_};
@@ -99,11 +100,14 @@ fn copy_many(src: &[u8], n: usize, out: &mut [u8])
     copy8(&src[k..], &mut out[k..]);
 }
 
-// Whether the n bytes from s on are bytes of names.
+// Whether the n bytes from s on are bytes of names: from eight on sixteen at a time.
 pub fn many_ok(edge: &[u8], src: &[u8], s: usize, n: usize) -> bool
     requires { ⌜ (n ≤ 16) × (s + 16 ≤ length (now src)) × Edge (now edge) ⌝ }
     ensures { λ r. ⌜ (r ≡ true → AllNames (drop s (now (src .entry))) n) ⌝ }
 {
+    if 8 <= n {
+        return names16(edge, &src[s..], n);
+    }
     let mut good = true;
     let mut i = 0;
     while i < n {

@@ -56,7 +56,12 @@ wide-requires : tie.Need-wide-requires
 wide-requires c κs = search needs
 
 shared-slice-read-b : tie.Need-shared-slice-read-b
-shared-slice-read-b c = let a = c .before .before .before .before .before .before .before .before .before .before .args in let e = c .before .wide .ensures in let M = more-is (a .tree .now) (a .i) 9 (a .n) (length (a .src .now)) (length (a .out .now) - a .at) (c .before .before .before .before .before .is-alike .result) (eqb (getD (a .tree .now) (7 * a .i + 1) 0) 0) (c .before .before .before .before .before .is-alike .ensures) (not-false _ (c .before .before .before .if1 .left)) in let near = M .alike .near in omega arith
+shared-slice-read-b c =
+    let a = c .before .before .before .before .before .before .before .before .before .before .args in
+    let e = c .before .wide .ensures in
+    let M = more-is (a .tree .now) (a .i) 9 (a .n) (length (a .src .now)) (length (a .out .now) - a .at) (c .before .before .before .before .before .is-alike .result) (eqb (getD (a .tree .now) (7 * a .i + 1) 0) 0) (c .before .before .before .before .before .is-alike .ensures) (not-false _ (c .before .before .before .if1 .left)) in
+    let near = M .alike .near in
+    omega arith
 
 is-upper-requires : tie.Need-is-upper-requires
 is-upper-requires c κs = search needs
@@ -65,43 +70,94 @@ returns-2 : tie.Need-returns-2
 returns-2 c = (λ h. absurd (true≢false (sym h)), λ _. refl)
 
 put-pair-requires : tie.Need-put-pair-requires
-put-pair-requires c κs = let a = c .before .before .before .before .before .before .before .before .before .before .before .before .before .before .args in let M = more-is (a .tree .now) (a .i) 9 (a .n) (length (a .src .now)) (length (a .out .now) - a .at) (c .before .before .before .before .before .before .before .before .before .is-alike .result) (eqb (getD (a .tree .now) (7 * a .i + 1) 0) 0) (c .before .before .before .before .before .before .before .before .before .is-alike .ensures) (not-false _ (c .before .before .before .before .before .before .before .if1 .left)) in let room = M .room in omega arith
+put-pair-requires c κs =
+    let a = c .before .before .before .before .before .before .before .before .before .before .before .before .before .before .args in
+    let M = more-is (a .tree .now) (a .i) 9 (a .n) (length (a .src .now)) (length (a .out .now) - a .at) (c .before .before .before .before .before .before .before .before .before .is-alike .result) (eqb (getD (a .tree .now) (7 * a .i + 1) 0) 0) (c .before .before .before .before .before .before .before .before .before .is-alike .ensures) (not-false _ (c .before .before .before .before .before .before .before .if1 .left)) in
+    let room = M .room in
+    omega arith
 
 same-length : tie.Need-same-length
 same-length c = search needs
 
 returns-3 : tie.Need-returns-3
-returns-3 c = let a = c .before .before .before .before .before .before .before .before .before .before .before .before .before .before .before .before .before .args in let p = c .before .before .before .before .before .before .before .before .before .before .before .before .before .before .before .before .before .pre in let M = more-is (a .tree .now) (a .i) 9 (a .n) (length (a .src .now)) (length (a .out .now) - a .at) (c .before .before .before .before .before .before .before .before .before .before .before .before .is-alike .result) (eqb (getD (a .tree .now) (7 * a .i + 1) 0) 0) (c .before .before .before .before .before .before .before .before .before .before .before .before .is-alike .ensures) (not-false _ (c .before .before .before .before .before .before .before .before .before .before .if1 .left)) in let room = M .room in let near = M .alike .near in let e = c .before .before .before .before .before .before .before .before .wide .ensures in let up : upper (getD (a .src .now) (c .before .before .before .before .before .before .before .before .wide .result) 0) ≡ true = sym (c .before .before .before .before .before .before .is-upper .ensures) ∙ not-false _ (c .before .before .before .before .before .if2 .left) in let in-src : c .before .before .before .before .before .before .before .before .wide .result < length (a .src .now) = omega arith in (λ _. took-name (a .src .now) (a .tree .now) (a .i) (c .before .before .before .before .before .before .before .before .wide .result) (a .n) (a .at) e (one-names (a .src .now) (c .before .before .before .before .before .before .before .before .wide .result) (a .n) (c .before .before .before .before .if3 .taken) up) (p .2) (p .3) (a .out .now) _ (M .alike) (M .own) up (omega arith) (one-adds (a .src .now) (a .out .now) _ (c .before .before .before .before .before .before .before .before .wide .result) (a .n) (a .at) (c .before .before .before .before .if3 .taken) in-src (c .before .before .put-pair .ensures)), λ h. absurd (true≢false h))
+returns-3 c =
+    let a = c .before .before .before .before .before .before .before .before .before .before .before .before .before .before .before .before .before .args in
+    let p = c .before .before .before .before .before .before .before .before .before .before .before .before .before .before .before .before .before .pre in
+    let M = more-is (a .tree .now) (a .i) 9 (a .n) (length (a .src .now)) (length (a .out .now) - a .at) (c .before .before .before .before .before .before .before .before .before .before .before .before .is-alike .result) (eqb (getD (a .tree .now) (7 * a .i + 1) 0) 0) (c .before .before .before .before .before .before .before .before .before .before .before .before .is-alike .ensures) (not-false _ (c .before .before .before .before .before .before .before .before .before .before .if1 .left)) in
+    let room = M .room in
+    let near = M .alike .near in
+    let e = c .before .before .before .before .before .before .before .before .wide .ensures in
+    let up : upper (getD (a .src .now) (c .before .before .before .before .before .before .before .before .wide .result) 0) ≡ true = sym (c .before .before .before .before .before .before .is-upper .ensures) ∙ not-false _ (c .before .before .before .before .before .if2 .left) in
+    let in-src : c .before .before .before .before .before .before .before .before .wide .result < length (a .src .now) = omega arith in
+    (λ _. took-name (a .src .now) (a .tree .now) (a .i) (c .before .before .before .before .before .before .before .before .wide .result) (a .n) (a .at) e (one-names (a .src .now) (c .before .before .before .before .before .before .before .before .wide .result) (a .n) (c .before .before .before .before .if3 .taken) up) (p .2) (p .3) (a .out .now) _ (M .alike) (M .own) up (omega arith) (one-adds (a .src .now) (a .out .now) _ (c .before .before .before .before .before .before .before .before .wide .result) (a .n) (a .at) (c .before .before .before .before .if3 .taken) in-src (c .before .before .put-pair .ensures)), λ h. absurd (true≢false h))
 
 few-ok-requires : tie.Need-few-ok-requires
-few-ok-requires c κs = let a = c .before .before .before .before .before .before .before .before .before .before .before .before .before .before .args in let p = c .before .before .before .before .before .before .before .before .before .before .before .before .before .before .pre in let e = c .before .before .before .before .before .wide .ensures in let M = more-is (a .tree .now) (a .i) 9 (a .n) (length (a .src .now)) (length (a .out .now) - a .at) (c .before .before .before .before .before .before .before .before .before .is-alike .result) (eqb (getD (a .tree .now) (7 * a .i + 1) 0) 0) (c .before .before .before .before .before .before .before .before .before .is-alike .ensures) (not-false _ (c .before .before .before .before .before .before .before .if1 .left)) in let near = M .alike .near in (p .2, c .if4 .taken, omega arith, p .4)
+few-ok-requires c κs =
+    let a = c .before .before .before .before .before .before .before .before .before .before .before .before .before .before .args in
+    let p = c .before .before .before .before .before .before .before .before .before .before .before .before .before .before .pre in
+    let e = c .before .before .before .before .before .wide .ensures in
+    let M = more-is (a .tree .now) (a .i) 9 (a .n) (length (a .src .now)) (length (a .out .now) - a .at) (c .before .before .before .before .before .before .before .before .before .is-alike .result) (eqb (getD (a .tree .now) (7 * a .i + 1) 0) 0) (c .before .before .before .before .before .before .before .before .before .is-alike .ensures) (not-false _ (c .before .before .before .before .before .before .before .if1 .left)) in
+    let near = M .alike .near in
+    (p .2, c .if4 .taken, omega arith, p .4)
 
 returns-4 : tie.Need-returns-4
 returns-4 c = (λ h. absurd (true≢false (sym h)), λ _. refl)
 
 put-few-requires : tie.Need-put-few-requires
-put-few-requires c κs = let a = c .before .before .before .before .before .before .before .before .before .before .before .before .before .before .before .before .before .args in let p = c .before .before .before .before .before .before .before .before .before .before .before .before .before .before .before .before .before .pre in let e = c .before .before .before .before .before .before .before .before .wide .ensures in let M = more-is (a .tree .now) (a .i) 9 (a .n) (length (a .src .now)) (length (a .out .now) - a .at) (c .before .before .before .before .before .before .before .before .before .before .before .before .is-alike .result) (eqb (getD (a .tree .now) (7 * a .i + 1) 0) 0) (c .before .before .before .before .before .before .before .before .before .before .before .before .is-alike .ensures) (not-false _ (c .before .before .before .before .before .before .before .before .before .before .if1 .left)) in let near = M .alike .near in let room = M .room in (p .2, c .before .before .before .if4 .taken, omega arith, omega arith)
+put-few-requires c κs =
+    let a = c .before .before .before .before .before .before .before .before .before .before .before .before .before .before .before .before .before .args in
+    let p = c .before .before .before .before .before .before .before .before .before .before .before .before .before .before .before .before .before .pre in
+    let e = c .before .before .before .before .before .before .before .before .wide .ensures in
+    let M = more-is (a .tree .now) (a .i) 9 (a .n) (length (a .src .now)) (length (a .out .now) - a .at) (c .before .before .before .before .before .before .before .before .before .before .before .before .is-alike .result) (eqb (getD (a .tree .now) (7 * a .i + 1) 0) 0) (c .before .before .before .before .before .before .before .before .before .before .before .before .is-alike .ensures) (not-false _ (c .before .before .before .before .before .before .before .before .before .before .if1 .left)) in
+    let near = M .alike .near in
+    let room = M .room in
+    (p .2, c .before .before .before .if4 .taken, omega arith, omega arith)
 
 same-length-2 : tie.Need-same-length-2
 same-length-2 c = search needs
 
 returns-5 : tie.Need-returns-5
-returns-5 c = let a = c .before .before .before .before .before .before .before .before .before .before .before .before .before .before .before .before .before .before .before .before .args in let p = c .before .before .before .before .before .before .before .before .before .before .before .before .before .before .before .before .before .before .before .before .pre in let M = more-is (a .tree .now) (a .i) 9 (a .n) (length (a .src .now)) (length (a .out .now) - a .at) (c .before .before .before .before .before .before .before .before .before .before .before .before .before .before .before .is-alike .result) (eqb (getD (a .tree .now) (7 * a .i + 1) 0) 0) (c .before .before .before .before .before .before .before .before .before .before .before .before .before .before .before .is-alike .ensures) (not-false _ (c .before .before .before .before .before .before .before .before .before .before .before .before .before .if1 .left)) in let room = M .room in let up : upper (getD (a .src .now) (c .before .before .before .before .before .before .before .before .before .before .before .wide .result) 0) ≡ true = sym (c .before .before .before .before .before .before .before .before .before .is-upper .ensures) ∙ not-false _ (c .before .before .before .before .before .before .before .before .if2 .left) in (λ _. took-name (a .src .now) (a .tree .now) (a .i) (c .before .before .before .before .before .before .before .before .before .before .before .wide .result) (a .n) (a .at) (c .before .before .before .before .before .before .before .before .before .before .before .wide .ensures) (c .before .before .before .before .before .few-ok .ensures (not-false _ (c .before .before .before .before .if5 .left))) (p .2) (p .3) (a .out .now) _ (M .alike) (M .own) up (omega arith) (c .before .before .put-few .ensures), λ h. absurd (true≢false h))
+returns-5 c =
+    let a = c .before .before .before .before .before .before .before .before .before .before .before .before .before .before .before .before .before .before .before .before .args in
+    let p = c .before .before .before .before .before .before .before .before .before .before .before .before .before .before .before .before .before .before .before .before .pre in
+    let M = more-is (a .tree .now) (a .i) 9 (a .n) (length (a .src .now)) (length (a .out .now) - a .at) (c .before .before .before .before .before .before .before .before .before .before .before .before .before .before .before .is-alike .result) (eqb (getD (a .tree .now) (7 * a .i + 1) 0) 0) (c .before .before .before .before .before .before .before .before .before .before .before .before .before .before .before .is-alike .ensures) (not-false _ (c .before .before .before .before .before .before .before .before .before .before .before .before .before .if1 .left)) in
+    let room = M .room in
+    let up : upper (getD (a .src .now) (c .before .before .before .before .before .before .before .before .before .before .before .wide .result) 0) ≡ true = sym (c .before .before .before .before .before .before .before .before .before .is-upper .ensures) ∙ not-false _ (c .before .before .before .before .before .before .before .before .if2 .left) in
+    (λ _. took-name (a .src .now) (a .tree .now) (a .i) (c .before .before .before .before .before .before .before .before .before .before .before .wide .result) (a .n) (a .at) (c .before .before .before .before .before .before .before .before .before .before .before .wide .ensures) (c .before .before .before .before .before .few-ok .ensures (not-false _ (c .before .before .before .before .if5 .left))) (p .2) (p .3) (a .out .now) _ (M .alike) (M .own) up (omega arith) (c .before .before .put-few .ensures), λ h. absurd (true≢false h))
 
 many-ok-requires : tie.Need-many-ok-requires
-many-ok-requires c κs = let a = c .before .before .before .before .before .before .before .before .before .before .before .before .before .before .args in let p = c .before .before .before .before .before .before .before .before .before .before .before .before .before .before .pre in let e = c .before .before .before .before .before .wide .ensures in let M = more-is (a .tree .now) (a .i) 9 (a .n) (length (a .src .now)) (length (a .out .now) - a .at) (c .before .before .before .before .before .before .before .before .before .is-alike .result) (eqb (getD (a .tree .now) (7 * a .i + 1) 0) 0) (c .before .before .before .before .before .before .before .before .before .is-alike .ensures) (not-false _ (c .before .before .before .before .before .before .before .if1 .left)) in let near = M .alike .near in (omega arith, omega arith, p .4)
+many-ok-requires c κs =
+    let a = c .before .before .before .before .before .before .before .before .before .before .before .before .before .before .args in
+    let p = c .before .before .before .before .before .before .before .before .before .before .before .before .before .before .pre in
+    let e = c .before .before .before .before .before .wide .ensures in
+    let M = more-is (a .tree .now) (a .i) 9 (a .n) (length (a .src .now)) (length (a .out .now) - a .at) (c .before .before .before .before .before .before .before .before .before .is-alike .result) (eqb (getD (a .tree .now) (7 * a .i + 1) 0) 0) (c .before .before .before .before .before .before .before .before .before .is-alike .ensures) (not-false _ (c .before .before .before .before .before .before .before .if1 .left)) in
+    let near = M .alike .near in
+    (omega arith, omega arith, p .4)
 
 returns-6 : tie.Need-returns-6
 returns-6 c = (λ h. absurd (true≢false (sym h)), λ _. refl)
 
 put-many-requires : tie.Need-put-many-requires
-put-many-requires c κs = let a = c .before .before .before .before .before .before .before .before .before .before .before .before .before .before .before .before .before .args in let p = c .before .before .before .before .before .before .before .before .before .before .before .before .before .before .before .before .before .pre in let e = c .before .before .before .before .before .before .before .before .wide .ensures in let M = more-is (a .tree .now) (a .i) 9 (a .n) (length (a .src .now)) (length (a .out .now) - a .at) (c .before .before .before .before .before .before .before .before .before .before .before .before .is-alike .result) (eqb (getD (a .tree .now) (7 * a .i + 1) 0) 0) (c .before .before .before .before .before .before .before .before .before .before .before .before .is-alike .ensures) (not-false _ (c .before .before .before .before .before .before .before .before .before .before .if1 .left)) in let near = M .alike .near in let room = M .room in (omega arith, omega arith, omega arith, omega arith)
+put-many-requires c κs =
+    let a = c .before .before .before .before .before .before .before .before .before .before .before .before .before .before .before .before .before .args in
+    let p = c .before .before .before .before .before .before .before .before .before .before .before .before .before .before .before .before .before .pre in
+    let e = c .before .before .before .before .before .before .before .before .wide .ensures in
+    let M = more-is (a .tree .now) (a .i) 9 (a .n) (length (a .src .now)) (length (a .out .now) - a .at) (c .before .before .before .before .before .before .before .before .before .before .before .before .is-alike .result) (eqb (getD (a .tree .now) (7 * a .i + 1) 0) 0) (c .before .before .before .before .before .before .before .before .before .before .before .before .is-alike .ensures) (not-false _ (c .before .before .before .before .before .before .before .before .before .before .if1 .left)) in
+    let near = M .alike .near in
+    let room = M .room in
+    (omega arith, omega arith, omega arith, omega arith)
 
 same-length-3 : tie.Need-same-length-3
 same-length-3 c = search needs
 
 returns-7 : tie.Need-returns-7
-returns-7 c = let a = c .before .before .before .before .before .before .before .before .before .before .before .before .before .before .before .before .before .before .before .before .args in let p = c .before .before .before .before .before .before .before .before .before .before .before .before .before .before .before .before .before .before .before .before .pre in let M = more-is (a .tree .now) (a .i) 9 (a .n) (length (a .src .now)) (length (a .out .now) - a .at) (c .before .before .before .before .before .before .before .before .before .before .before .before .before .before .before .is-alike .result) (eqb (getD (a .tree .now) (7 * a .i + 1) 0) 0) (c .before .before .before .before .before .before .before .before .before .before .before .before .before .before .before .is-alike .ensures) (not-false _ (c .before .before .before .before .before .before .before .before .before .before .before .before .before .if1 .left)) in let room = M .room in let up : upper (getD (a .src .now) (c .before .before .before .before .before .before .before .before .before .before .before .wide .result) 0) ≡ true = sym (c .before .before .before .before .before .before .before .before .before .is-upper .ensures) ∙ not-false _ (c .before .before .before .before .before .before .before .before .if2 .left) in (λ _. took-name (a .src .now) (a .tree .now) (a .i) (c .before .before .before .before .before .before .before .before .before .before .before .wide .result) (a .n) (a .at) (c .before .before .before .before .before .before .before .before .before .before .before .wide .ensures) (c .before .before .before .before .before .many-ok .ensures (not-false _ (c .before .before .before .before .if6 .left))) (p .2) (p .3) (a .out .now) _ (M .alike) (M .own) up (omega arith) (c .before .before .put-many .ensures), λ h. absurd (true≢false h))
+returns-7 c =
+    let a = c .before .before .before .before .before .before .before .before .before .before .before .before .before .before .before .before .before .before .before .before .args in
+    let p = c .before .before .before .before .before .before .before .before .before .before .before .before .before .before .before .before .before .before .before .before .pre in
+    let M = more-is (a .tree .now) (a .i) 9 (a .n) (length (a .src .now)) (length (a .out .now) - a .at) (c .before .before .before .before .before .before .before .before .before .before .before .before .before .before .before .is-alike .result) (eqb (getD (a .tree .now) (7 * a .i + 1) 0) 0) (c .before .before .before .before .before .before .before .before .before .before .before .before .before .before .before .is-alike .ensures) (not-false _ (c .before .before .before .before .before .before .before .before .before .before .before .before .before .if1 .left)) in
+    let room = M .room in
+    let up : upper (getD (a .src .now) (c .before .before .before .before .before .before .before .before .before .before .before .wide .result) 0) ≡ true = sym (c .before .before .before .before .before .before .before .before .before .is-upper .ensures) ∙ not-false _ (c .before .before .before .before .before .before .before .before .if2 .left) in
+    (λ _. took-name (a .src .now) (a .tree .now) (a .i) (c .before .before .before .before .before .before .before .before .before .before .before .wide .result) (a .n) (a .at) (c .before .before .before .before .before .before .before .before .before .before .before .wide .ensures) (c .before .before .before .before .before .many-ok .ensures (not-false _ (c .before .before .before .before .if6 .left))) (p .2) (p .3) (a .out .now) _ (M .alike) (M .own) up (omega arith) (c .before .before .put-many .ensures), λ h. absurd (true≢false h))
 
 pub put-name-spec : {M : Type 1} → statement M
 put-name-spec =

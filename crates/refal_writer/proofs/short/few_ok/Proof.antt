@@ -35,7 +35,9 @@ is-in-requires-3 : tie.Need-is-in-requires-3
 is-in-requires-3 c κs = search needs
 
 returns : tie.Need-returns
-returns c = let a = c .before .before .before .before .before .before .before .before .args in let p = c .before .before .before .before .before .before .before .before .pre in
+returns c =
+    let a = c .before .before .before .before .before .before .before .before .args in
+    let p = c .before .before .before .before .before .before .before .before .pre in
     few-names (a .src .now) (a .s) (a .n) (p .0) (p .1) _ _ _ (c .before .before .before .before .is-in .ensures) (c .before .before .is-in2 .ensures) (c .is-in3 .ensures)
 
 pub few-ok-spec : {M : Type 1} → statement M

@@ -38,7 +38,9 @@ same-length : tie.Need-same-length
 same-length c = search needs
 
 returns : tie.Need-returns
-returns c = let a = c .before .before .before .before .before .before .before .args in let p = c .before .before .before .before .before .before .before .pre in
+returns c =
+    let a = c .before .before .before .before .before .before .before .args in
+    let p = c .before .before .before .before .before .before .before .pre in
     many-adds (a .src .now) (a .out .now) (c .before .before .copy-many .last .1 .1 .0) (a .s) (a .n) (a .at) (p .2) (p .3) (c .before .before .copy-many .ensures)
 
 pub put-many-spec : {M : Type 1} → statement M

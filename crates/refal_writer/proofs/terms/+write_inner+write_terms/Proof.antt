@@ -104,7 +104,14 @@ write-inner-write-terms-requires : (t : ℕ) → write-inner-lts.Need-write-term
   come-up-reads.Asked,
   come-up-reads.Learnt,
 ) (write-inner-at t) write-inner.Post
-write-inner-write-terms-requires t c κs = let D = c .before .before .before .go-down .ensures in let s = D .small in let l = D .lo in let h = D .hi in let b = c .before .before .before .before .before .before .before .before .before .pre .1 .3 in let e = c .before .before .before .before .before .before .before .before .before .pre .0 in (omega arith, (D .hi, c .before .before .before .before .before .before .before .before .before .pre .1 .1, c .before .before .before .before .before .before .before .before .before .pre .1 .2, omega arith, c .before .before .before .before .before .before .before .before .before .pre .1 .4))
+write-inner-write-terms-requires t c κs =
+    let D = c .before .before .before .go-down .ensures in
+    let s = D .small in
+    let l = D .lo in
+    let h = D .hi in
+    let b = c .before .before .before .before .before .before .before .before .before .pre .1 .3 in
+    let e = c .before .before .before .before .before .before .before .before .before .pre .0 in
+    (omega arith, (D .hi, c .before .before .before .before .before .before .before .before .before .pre .1 .1, c .before .before .before .before .before .before .before .before .before .pre .1 .2, omega arith, c .before .before .before .before .before .before .before .before .before .pre .1 .4))
 
 write-inner-unlawful-requires : (t : ℕ) → write-inner-lts.Need-unlawful-requires (
   go-down-reads.Asked,
@@ -140,7 +147,9 @@ write-inner-returns : (t : ℕ) → write-inner-lts.Need-returns (
   come-up-reads.Asked,
   come-up-reads.Learnt,
 ) (write-inner-at t) write-inner.Post
-write-inner-returns t c = let a = c .before .before .before .before .before .before .before .before .before .before .before .before .before .before .before .args in chain-not (a .src .now) (a .tree .now) (a .from) (a .to) (a .left) (a .begin) _ _ _ (a .out .now) _ (c .before .before .before .before .before .before .before .before .before .go-down .ensures) _ _ _ _ (c .unlawful .ensures) (sym (c .before .before .before .before .before .write-terms .ensures .lawful-is) ∙ not-true _ (c .before .if1 .taken))
+write-inner-returns t c =
+    let a = c .before .before .before .before .before .before .before .before .before .before .before .before .before .before .before .args in
+    chain-not (a .src .now) (a .tree .now) (a .from) (a .to) (a .left) (a .begin) _ _ _ (a .out .now) _ (c .before .before .before .before .before .before .before .before .before .go-down .ensures) _ _ _ _ (c .unlawful .ensures) (sym (c .before .before .before .before .before .write-terms .ensures .lawful-is) ∙ not-true _ (c .before .if1 .taken))
 
 write-inner-come-up-requires : (t : ℕ) → write-inner-lts.Need-come-up-requires (
   go-down-reads.Asked,
@@ -152,7 +161,17 @@ write-inner-come-up-requires : (t : ℕ) → write-inner-lts.Need-come-up-requir
   come-up-reads.Asked,
   come-up-reads.Learnt,
 ) (write-inner-at t) write-inner.Post
-write-inner-come-up-requires t c κs = let a = c .before .before .before .before .before .before .before .before .before .before .before .before .before .before .before .args in let D = c .before .before .before .before .before .before .before .before .before .go-down .ensures in let s = D .small in let l = D .lo in let h = D .hi in let b = c .before .before .before .before .before .before .before .before .before .before .before .before .before .before .before .pre .1 .3 in let long = c .before .before .before .before .before .before .before .before .before .before .before .before .before .before .before .pre .1 .1 in let few = c .before .before .before .before .before .before .before .before .before .before .before .before .before .before .before .pre .1 .2 in let r = c .before .before .before .before .before .write-terms .ensures .small (not-false _ (c .before .if1 .left)) in (D .lo, omega arith, omega arith, omega arith)
+write-inner-come-up-requires t c κs =
+    let a = c .before .before .before .before .before .before .before .before .before .before .before .before .before .before .before .args in
+    let D = c .before .before .before .before .before .before .before .before .before .go-down .ensures in
+    let s = D .small in
+    let l = D .lo in
+    let h = D .hi in
+    let b = c .before .before .before .before .before .before .before .before .before .before .before .before .before .before .before .pre .1 .3 in
+    let long = c .before .before .before .before .before .before .before .before .before .before .before .before .before .before .before .pre .1 .1 in
+    let few = c .before .before .before .before .before .before .before .before .before .before .before .before .before .before .before .pre .1 .2 in
+    let r = c .before .before .before .before .before .write-terms .ensures .small (not-false _ (c .before .if1 .left)) in
+    (D .lo, omega arith, omega arith, omega arith)
 
 write-inner-same-length-2 : (t : ℕ) → write-inner-lts.Need-same-length-2 (
   go-down-reads.Asked,
@@ -176,7 +195,9 @@ write-inner-returns-2 : (t : ℕ) → write-inner-lts.Need-returns-2 (
   come-up-reads.Asked,
   come-up-reads.Learnt,
 ) (write-inner-at t) write-inner.Post
-write-inner-returns-2 t c = let a = c .before .before .before .before .before .before .before .before .before .before .before .before .before .before .before .before .before .before .before .before .args in chain-end (a .src .now) (a .tree .now) (a .from) (a .to) (a .left) (a .begin) _ _ _ (a .out .now) _ (c .before .before .before .before .before .before .before .before .before .before .before .before .before .before .go-down .ensures) _ _ _ _ _ _ _ refl (c .before .before .before .before .before .before .before .before .before .before .write-terms .ensures) (not-false _ (c .before .before .before .before .before .before .if1 .left)) (c .before .before .before .before .before .before .before .before .before .before .write-terms .kept .1 .1 .1 .1 .1 .1 .1 .0) (c .before .before .before .before .come-up .ensures)
+write-inner-returns-2 t c =
+    let a = c .before .before .before .before .before .before .before .before .before .before .before .before .before .before .before .before .before .before .before .before .args in
+    chain-end (a .src .now) (a .tree .now) (a .from) (a .to) (a .left) (a .begin) _ _ _ (a .out .now) _ (c .before .before .before .before .before .before .before .before .before .before .before .before .before .before .go-down .ensures) _ _ _ _ _ _ _ refl (c .before .before .before .before .before .before .before .before .before .before .write-terms .ensures) (not-false _ (c .before .before .before .before .before .before .if1 .left)) (c .before .before .before .before .before .before .before .before .before .before .write-terms .kept .1 .1 .1 .1 .1 .1 .1 .0) (c .before .before .before .before .come-up .ensures)
 
 abbrev write-terms-Inv-loop : write-terms-lts.InvT-loop
 write-terms-Inv-loop tree src from to left edge begin out₀ i₀ at₀ good₀ out i at good = Going src tree from to 9 left begin i 9 at good out₀ out
@@ -208,7 +229,9 @@ write-terms-loop-holds : (t : ℕ) → write-terms-lts.Need-loop-holds (
   write-inner-below t,
   write-inner.Post,
 ) (write-terms-at t) write-terms.Post write-terms-Inv-loop write-terms-μ-loop
-write-terms-loop-holds t c = let a = c .before .before .before .before .args in going-start (a .src .now) (a .tree .now) (a .from) (a .to) 9 (a .left) (a .begin) (a .out .now) (c .before .before .before .before .pre .1 .0)
+write-terms-loop-holds t c =
+    let a = c .before .before .before .before .args in
+    going-start (a .src .now) (a .tree .now) (a .from) (a .to) 9 (a .left) (a .begin) (a .out .now) (c .before .before .before .before .pre .1 .0)
 
 write-terms-kind-requires : (t : ℕ) → write-terms-lts.Need-kind-requires (
   kind-reads.Asked,
@@ -260,7 +283,15 @@ write-terms-run-requires : (t : ℕ) → write-terms-lts.Need-run-requires (
   write-inner-below t,
   write-inner.Post,
 ) (write-terms-at t) write-terms.Post write-terms-Inv-loop write-terms-μ-loop
-write-terms-run-requires t c κs = let a = c .before .before .before .before .before .before .before .before .before .args in let g = c .before .before .before .before .loop in let m : g .i < a .to = c .before .before .before .loop-test .taken in let s : g .at + a .from * widest ≤ a .begin + g .i * widest = g .inv .small in let b : a .begin ≤ a .from * widest = c .before .before .before .before .before .before .before .before .before .pre .1 .3 in let few : a .to ≤ 33554432 = c .before .before .before .before .before .before .before .before .before .pre .1 .2 in let z : g .at ≤ 1152921504606846976 = omega (arith, s, b, few, m) in (m, c .before .before .before .before .before .before .before .before .before .pre .1 .1, c .before .before .before .before .before .before .before .before .before .pre .1 .2, z, c .before .before .before .before .before .before .before .before .before .pre .1 .4)
+write-terms-run-requires t c κs =
+    let a = c .before .before .before .before .before .before .before .before .before .args in
+    let g = c .before .before .before .before .loop in
+    let m : g .i < a .to = c .before .before .before .loop-test .taken in
+    let s : g .at + a .from * widest ≤ a .begin + g .i * widest = g .inv .small in
+    let b : a .begin ≤ a .from * widest = c .before .before .before .before .before .before .before .before .before .pre .1 .3 in
+    let few : a .to ≤ 33554432 = c .before .before .before .before .before .before .before .before .before .pre .1 .2 in
+    let z : g .at ≤ 1152921504606846976 = omega (arith, s, b, few, m) in
+    (m, c .before .before .before .before .before .before .before .before .before .pre .1 .1, c .before .before .before .before .before .before .before .before .before .pre .1 .2, z, c .before .before .before .before .before .before .before .before .before .pre .1 .4)
 
 write-terms-loop-less : (t : ℕ) → write-terms-lts.Need-loop-less (
   kind-reads.Asked,
@@ -286,7 +317,11 @@ write-terms-loop-less : (t : ℕ) → write-terms-lts.Need-loop-less (
   write-inner-below t,
   write-inner.Post,
 ) (write-terms-at t) write-terms.Post write-terms-Inv-loop write-terms-μ-loop
-write-terms-loop-less t c = let a = c .before .before .before .before .before .before .before .before .before .before .before .before .before .before .args in let g = c .before .before .before .before .before .before .before .before .before .loop in let h = c .before .before .before .before .run .ensures .1 in omega arith
+write-terms-loop-less t c =
+    let a = c .before .before .before .before .before .before .before .before .before .before .before .before .before .before .args in
+    let g = c .before .before .before .before .before .before .before .before .before .loop in
+    let h = c .before .before .before .before .run .ensures .1 in
+    omega arith
 
 write-terms-loop-again : (t : ℕ) → write-terms-lts.Need-loop-again (
   kind-reads.Asked,
@@ -312,7 +347,10 @@ write-terms-loop-again : (t : ℕ) → write-terms-lts.Need-loop-again (
   write-inner-below t,
   write-inner.Post,
 ) (write-terms-at t) write-terms.Post write-terms-Inv-loop write-terms-μ-loop
-write-terms-loop-again t c = let a = c .before .before .before .before .before .before .before .before .before .before .before .before .before .before .args in let g = c .before .before .before .before .before .before .before .before .before .loop in going-run (a .src .now) (a .tree .now) (a .from) (a .to) 9 (a .left) (a .begin) (g .i) (g .at) (g .good) (a .out .now) (g .out) (g .inv) (c .before .before .before .before .run .result .row) (c .before .before .before .before .run .result .at) _ (c .before .before .before .before .run .ensures .2 (a .left))
+write-terms-loop-again t c =
+    let a = c .before .before .before .before .before .before .before .before .before .before .before .before .before .before .args in
+    let g = c .before .before .before .before .before .before .before .before .before .loop in
+    going-run (a .src .now) (a .tree .now) (a .from) (a .to) 9 (a .left) (a .begin) (g .i) (g .at) (g .good) (a .out .now) (g .out) (g .inv) (c .before .before .before .before .run .result .row) (c .before .before .before .before .run .result .at) _ (c .before .before .before .before .run .ensures .2 (a .left))
 
 write-terms-is-leaf-requires : (t : ℕ) → write-terms-lts.Need-is-leaf-requires (
   kind-reads.Asked,
@@ -416,7 +454,13 @@ write-terms-returns : (t : ℕ) → write-terms-lts.Need-returns (
   write-inner-below t,
   write-inner.Post,
 ) (write-terms-at t) write-terms.Post write-terms-Inv-loop write-terms-μ-loop
-write-terms-returns t c = let a = c .before .before .before .before .before .before .before .before .before .before .before .before .before .before .before .before .before .args in let g = c .before .before .before .before .before .before .before .before .before .before .before .before .loop in let m : g .i < a .to = c .before .before .before .before .before .before .before .before .before .before .before .loop-test .taken in let N = going-none (a .src .now) (a .tree .now) (a .from) (a .to) 9 (a .left) (a .begin) (g .i) (g .at) (g .good) (a .out .now) (g .out) (g .inv) (c .before .before .before .before .before .before .before .run .result .row) (c .before .before .before .before .before .before .before .run .result .at) _ (c .before .before .before .before .before .before .before .run .ensures .2 (a .left)) (omega (arith, c .before .before .before .if2 .left)) in let kl : kindAt (a .tree .now) (g .i) ≤ 12 = subst (λ (y : ℕ). y ≤ 12) (c .before .before .before .before .before .before .before .before .before .before .kind .ensures) (c .before .before .before .before .before .before .before .before .before .if1 .taken) in going-not (a .src .now) (a .tree .now) (a .from) (a .to) 9 (a .left) (a .begin) (g .i) 9 _ (g .good) (a .out .now) _ N _ _ _ _ (c .unlawful .ensures) (leaf-not (a .tree .now) (g .i) (a .to) (a .left) (c .before .before .before .before .before .before .before .before .before .before .before .before .before .before .before .before .before .pre .1 .1) m kl (sym (c .before .before .is-leaf .ensures) ∙ not-true _ (c .before .if3 .taken)))
+write-terms-returns t c =
+    let a = c .before .before .before .before .before .before .before .before .before .before .before .before .before .before .before .before .before .args in
+    let g = c .before .before .before .before .before .before .before .before .before .before .before .before .loop in
+    let m : g .i < a .to = c .before .before .before .before .before .before .before .before .before .before .before .loop-test .taken in
+    let N = going-none (a .src .now) (a .tree .now) (a .from) (a .to) 9 (a .left) (a .begin) (g .i) (g .at) (g .good) (a .out .now) (g .out) (g .inv) (c .before .before .before .before .before .before .before .run .result .row) (c .before .before .before .before .before .before .before .run .result .at) _ (c .before .before .before .before .before .before .before .run .ensures .2 (a .left)) (omega (arith, c .before .before .before .if2 .left)) in
+    let kl : kindAt (a .tree .now) (g .i) ≤ 12 = subst (λ (y : ℕ). y ≤ 12) (c .before .before .before .before .before .before .before .before .before .before .kind .ensures) (c .before .before .before .before .before .before .before .before .before .if1 .taken) in
+    going-not (a .src .now) (a .tree .now) (a .from) (a .to) 9 (a .left) (a .begin) (g .i) 9 _ (g .good) (a .out .now) _ N _ _ _ _ (c .unlawful .ensures) (leaf-not (a .tree .now) (g .i) (a .to) (a .left) (c .before .before .before .before .before .before .before .before .before .before .before .before .before .before .before .before .before .pre .1 .1) m kl (sym (c .before .before .is-leaf .ensures) ∙ not-true _ (c .before .if3 .taken)))
 
 write-terms-open-leaf-requires : (t : ℕ) → write-terms-lts.Need-open-leaf-requires (
   kind-reads.Asked,
@@ -442,7 +486,19 @@ write-terms-open-leaf-requires : (t : ℕ) → write-terms-lts.Need-open-leaf-re
   write-inner-below t,
   write-inner.Post,
 ) (write-terms-at t) write-terms.Post write-terms-Inv-loop write-terms-μ-loop
-write-terms-open-leaf-requires t c κs = let a = c .before .before .before .before .before .before .before .before .before .before .before .before .before .before .before .before .before .args in let g = c .before .before .before .before .before .before .before .before .before .before .before .before .loop in let m : g .i < a .to = c .before .before .before .before .before .before .before .before .before .before .before .loop-test .taken in let N = going-none (a .src .now) (a .tree .now) (a .from) (a .to) 9 (a .left) (a .begin) (g .i) (g .at) (g .good) (a .out .now) (g .out) (g .inv) (c .before .before .before .before .before .before .before .run .result .row) (c .before .before .before .before .before .before .before .run .result .at) _ (c .before .before .before .before .before .before .before .run .ensures .2 (a .left)) (omega (arith, c .before .before .before .if2 .left)) in let s : g .at + a .from * widest ≤ a .begin + g .i * widest = g .inv .small in let b : a .begin ≤ a .from * widest = c .before .before .before .before .before .before .before .before .before .before .before .before .before .before .before .before .before .pre .1 .3 in let few : a .to ≤ 33554432 = c .before .before .before .before .before .before .before .before .before .before .before .before .before .before .before .before .before .pre .1 .2 in let n = N .small in let long = c .before .before .before .before .before .before .before .before .before .before .before .before .before .before .before .before .before .pre .1 .1 in let z : c .before .before .before .before .before .before .before .run .result .at ≤ 1152921504606846976 = omega (arith, n, b, few, m) in let r : 7 * g .i + 6 < length (a .tree .now) = omega (arith, long, m) in (r, sym (c .before .before .is-leaf .ensures) ∙ not-false _ (c .before .if3 .left), z, c .before .before .before .before .before .before .before .before .before .before .before .before .before .before .before .before .before .pre .1 .4)
+write-terms-open-leaf-requires t c κs =
+    let a = c .before .before .before .before .before .before .before .before .before .before .before .before .before .before .before .before .before .args in
+    let g = c .before .before .before .before .before .before .before .before .before .before .before .before .loop in
+    let m : g .i < a .to = c .before .before .before .before .before .before .before .before .before .before .before .loop-test .taken in
+    let N = going-none (a .src .now) (a .tree .now) (a .from) (a .to) 9 (a .left) (a .begin) (g .i) (g .at) (g .good) (a .out .now) (g .out) (g .inv) (c .before .before .before .before .before .before .before .run .result .row) (c .before .before .before .before .before .before .before .run .result .at) _ (c .before .before .before .before .before .before .before .run .ensures .2 (a .left)) (omega (arith, c .before .before .before .if2 .left)) in
+    let s : g .at + a .from * widest ≤ a .begin + g .i * widest = g .inv .small in
+    let b : a .begin ≤ a .from * widest = c .before .before .before .before .before .before .before .before .before .before .before .before .before .before .before .before .before .pre .1 .3 in
+    let few : a .to ≤ 33554432 = c .before .before .before .before .before .before .before .before .before .before .before .before .before .before .before .before .before .pre .1 .2 in
+    let n = N .small in
+    let long = c .before .before .before .before .before .before .before .before .before .before .before .before .before .before .before .before .before .pre .1 .1 in
+    let z : c .before .before .before .before .before .before .before .run .result .at ≤ 1152921504606846976 = omega (arith, n, b, few, m) in
+    let r : 7 * g .i + 6 < length (a .tree .now) = omega (arith, long, m) in
+    (r, sym (c .before .before .is-leaf .ensures) ∙ not-false _ (c .before .if3 .left), z, c .before .before .before .before .before .before .before .before .before .before .before .before .before .before .before .before .before .pre .1 .4)
 
 write-terms-add-i : (t : ℕ) → write-terms-lts.Need-add-i (
   kind-reads.Asked,
@@ -468,7 +524,12 @@ write-terms-add-i : (t : ℕ) → write-terms-lts.Need-add-i (
   write-inner-below t,
   write-inner.Post,
 ) (write-terms-at t) write-terms.Post write-terms-Inv-loop write-terms-μ-loop
-write-terms-add-i t c = let a = c .before .before .before .before .before .before .before .before .before .before .before .before .before .before .before .before .before .before .before .before .before .args in let g = c .before .before .before .before .before .before .before .before .before .before .before .before .before .before .before .before .loop in let m : g .i < a .to = c .before .before .before .before .before .before .before .before .before .before .before .before .before .before .before .loop-test .taken in let few : a .to ≤ 33554432 = c .before .before .before .before .before .before .before .before .before .before .before .before .before .before .before .before .before .before .before .before .before .pre .1 .2 in omega (arith, m, few)
+write-terms-add-i t c =
+    let a = c .before .before .before .before .before .before .before .before .before .before .before .before .before .before .before .before .before .before .before .before .before .args in
+    let g = c .before .before .before .before .before .before .before .before .before .before .before .before .before .before .before .before .loop in
+    let m : g .i < a .to = c .before .before .before .before .before .before .before .before .before .before .before .before .before .before .before .loop-test .taken in
+    let few : a .to ≤ 33554432 = c .before .before .before .before .before .before .before .before .before .before .before .before .before .before .before .before .before .before .before .before .before .pre .1 .2 in
+    omega (arith, m, few)
 
 write-terms-loop-less-2 : (t : ℕ) → write-terms-lts.Need-loop-less-2 (
   kind-reads.Asked,
@@ -494,7 +555,11 @@ write-terms-loop-less-2 : (t : ℕ) → write-terms-lts.Need-loop-less-2 (
   write-inner-below t,
   write-inner.Post,
 ) (write-terms-at t) write-terms.Post write-terms-Inv-loop write-terms-μ-loop
-write-terms-loop-less-2 t c = let a = c .before .before .before .before .before .before .before .before .before .before .before .before .before .before .before .before .before .before .before .before .before .args in let g = c .before .before .before .before .before .before .before .before .before .before .before .before .before .before .before .before .loop in let m : g .i < a .to = c .before .before .before .before .before .before .before .before .before .before .before .before .before .before .before .loop-test .taken in omega arith
+write-terms-loop-less-2 t c =
+    let a = c .before .before .before .before .before .before .before .before .before .before .before .before .before .before .before .before .before .before .before .before .before .args in
+    let g = c .before .before .before .before .before .before .before .before .before .before .before .before .before .before .before .before .loop in
+    let m : g .i < a .to = c .before .before .before .before .before .before .before .before .before .before .before .before .before .before .before .loop-test .taken in
+    omega arith
 
 write-terms-loop-again-2 : (t : ℕ) → write-terms-lts.Need-loop-again-2 (
   kind-reads.Asked,
@@ -520,7 +585,13 @@ write-terms-loop-again-2 : (t : ℕ) → write-terms-lts.Need-loop-again-2 (
   write-inner-below t,
   write-inner.Post,
 ) (write-terms-at t) write-terms.Post write-terms-Inv-loop write-terms-μ-loop
-write-terms-loop-again-2 t c = let a = c .before .before .before .before .before .before .before .before .before .before .before .before .before .before .before .before .before .before .before .before .before .args in let g = c .before .before .before .before .before .before .before .before .before .before .before .before .before .before .before .before .loop in let m : g .i < a .to = c .before .before .before .before .before .before .before .before .before .before .before .before .before .before .before .loop-test .taken in let N = going-none (a .src .now) (a .tree .now) (a .from) (a .to) 9 (a .left) (a .begin) (g .i) (g .at) (g .good) (a .out .now) (g .out) (g .inv) (c .before .before .before .before .before .before .before .before .before .before .before .run .result .row) (c .before .before .before .before .before .before .before .before .before .before .before .run .result .at) _ (c .before .before .before .before .before .before .before .before .before .before .before .run .ensures .2 (a .left)) (omega (arith, c .before .before .before .before .before .before .before .if2 .left)) in let L = sym (c .before .before .before .before .before .before .is-leaf .ensures) ∙ not-false _ (c .before .before .before .before .before .if3 .left) in going-leaf (a .src .now) (a .tree .now) (a .from) (a .to) 9 (a .left) (a .begin) (g .i) 9 _ (g .good) (a .out .now) _ N refl L (c .before .before .before .before .before .before .before .before .before .before .before .before .before .before .before .before .before .before .before .before .before .pre .1 .1) m _ _ _ (c .before .before .before .open-leaf .ensures .0) (c .before .before .before .open-leaf .kept .1 .1 .1 .1 .1 .0) (c .before .before .before .open-leaf .ensures .1) (c .before .before .before .open-leaf .ensures .2)
+write-terms-loop-again-2 t c =
+    let a = c .before .before .before .before .before .before .before .before .before .before .before .before .before .before .before .before .before .before .before .before .before .args in
+    let g = c .before .before .before .before .before .before .before .before .before .before .before .before .before .before .before .before .loop in
+    let m : g .i < a .to = c .before .before .before .before .before .before .before .before .before .before .before .before .before .before .before .loop-test .taken in
+    let N = going-none (a .src .now) (a .tree .now) (a .from) (a .to) 9 (a .left) (a .begin) (g .i) (g .at) (g .good) (a .out .now) (g .out) (g .inv) (c .before .before .before .before .before .before .before .before .before .before .before .run .result .row) (c .before .before .before .before .before .before .before .before .before .before .before .run .result .at) _ (c .before .before .before .before .before .before .before .before .before .before .before .run .ensures .2 (a .left)) (omega (arith, c .before .before .before .before .before .before .before .if2 .left)) in
+    let L = sym (c .before .before .before .before .before .before .is-leaf .ensures) ∙ not-false _ (c .before .before .before .before .before .if3 .left) in
+    going-leaf (a .src .now) (a .tree .now) (a .from) (a .to) 9 (a .left) (a .begin) (g .i) 9 _ (g .good) (a .out .now) _ N refl L (c .before .before .before .before .before .before .before .before .before .before .before .before .before .before .before .before .before .before .before .before .before .pre .1 .1) m _ _ _ (c .before .before .before .open-leaf .ensures .0) (c .before .before .before .open-leaf .kept .1 .1 .1 .1 .1 .0) (c .before .before .before .open-leaf .ensures .1) (c .before .before .before .open-leaf .ensures .2)
 
 write-terms-is-node-requires : (t : ℕ) → write-terms-lts.Need-is-node-requires (
   kind-reads.Asked,
@@ -624,7 +695,12 @@ write-terms-returns-2 : (t : ℕ) → write-terms-lts.Need-returns-2 (
   write-inner-below t,
   write-inner.Post,
 ) (write-terms-at t) write-terms.Post write-terms-Inv-loop write-terms-μ-loop
-write-terms-returns-2 t c = let a = c .before .before .before .before .before .before .before .before .before .before .before .args in let g = c .before .before .before .before .before .before .loop in let m : g .i < a .to = c .before .before .before .before .before .loop-test .taken in let kl : 12 < kindAt (a .tree .now) (g .i) = subst (λ (y : ℕ). 12 < y) (c .before .before .before .before .kind .ensures) (let q = c .before .before .before .if1 .left in omega (arith, q)) in going-not (a .src .now) (a .tree .now) (a .from) (a .to) 9 (a .left) (a .begin) (g .i) 9 (g .at) (g .good) (a .out .now) _ (g .inv) _ _ _ _ (c .unlawful2 .ensures) (node-not (a .tree .now) (g .i) (a .to) (a .left) (c .before .before .before .before .before .before .before .before .before .before .before .pre .1 .1) m kl (sym (c .before .before .is-node .ensures) ∙ not-true _ (c .before .if4 .taken)))
+write-terms-returns-2 t c =
+    let a = c .before .before .before .before .before .before .before .before .before .before .before .args in
+    let g = c .before .before .before .before .before .before .loop in
+    let m : g .i < a .to = c .before .before .before .before .before .loop-test .taken in
+    let kl : 12 < kindAt (a .tree .now) (g .i) = subst (λ (y : ℕ). 12 < y) (c .before .before .before .before .kind .ensures) (let q = c .before .before .before .if1 .left in omega (arith, q)) in
+    going-not (a .src .now) (a .tree .now) (a .from) (a .to) 9 (a .left) (a .begin) (g .i) 9 (g .at) (g .good) (a .out .now) _ (g .inv) _ _ _ _ (c .unlawful2 .ensures) (node-not (a .tree .now) (g .i) (a .to) (a .left) (c .before .before .before .before .before .before .before .before .before .before .before .pre .1 .1) m kl (sym (c .before .before .is-node .ensures) ∙ not-true _ (c .before .if4 .taken)))
 
 write-terms-add-first : (t : ℕ) → write-terms-lts.Need-add-first (
   kind-reads.Asked,
@@ -650,7 +726,12 @@ write-terms-add-first : (t : ℕ) → write-terms-lts.Need-add-first (
   write-inner-below t,
   write-inner.Post,
 ) (write-terms-at t) write-terms.Post write-terms-Inv-loop write-terms-μ-loop
-write-terms-add-first t c = let a = c .before .before .before .before .before .before .before .before .before .before .args in let g = c .before .before .before .before .before .loop in let m : g .i < a .to = c .before .before .before .before .loop-test .taken in let few : a .to ≤ 33554432 = c .before .before .before .before .before .before .before .before .before .before .pre .1 .2 in omega (arith, m, few)
+write-terms-add-first t c =
+    let a = c .before .before .before .before .before .before .before .before .before .before .args in
+    let g = c .before .before .before .before .before .loop in
+    let m : g .i < a .to = c .before .before .before .before .loop-test .taken in
+    let few : a .to ≤ 33554432 = c .before .before .before .before .before .before .before .before .before .before .pre .1 .2 in
+    omega (arith, m, few)
 
 write-terms-next-requires : (t : ℕ) → write-terms-lts.Need-next-requires (
   kind-reads.Asked,
@@ -702,7 +783,18 @@ write-terms-open-node-requires : (t : ℕ) → write-terms-lts.Need-open-node-re
   write-inner-below t,
   write-inner.Post,
 ) (write-terms-at t) write-terms.Post write-terms-Inv-loop write-terms-μ-loop
-write-terms-open-node-requires t c κs = let a = c .before .before .before .before .before .before .before .before .before .before .before .before .args in let g = c .before .before .before .before .before .before .before .loop in let m : g .i < a .to = c .before .before .before .before .before .before .loop-test .taken in let D = sym (c .before .before .before .is-node .ensures) ∙ not-false _ (c .before .before .if4 .left) in let s : g .at + a .from * widest ≤ a .begin + g .i * widest = g .inv .small in let b : a .begin ≤ a .from * widest = c .before .before .before .before .before .before .before .before .before .before .before .before .pre .1 .3 in let few : a .to ≤ 33554432 = c .before .before .before .before .before .before .before .before .before .before .before .before .pre .1 .2 in let long = c .before .before .before .before .before .before .before .before .before .before .before .before .pre .1 .1 in let z : g .at ≤ 1152921504606846976 = omega (arith, s, b, few, m) in let r : 7 * g .i + 6 < length (a .tree .now) = omega (arith, long, m) in (r, node-kind (a .tree .now) (g .i) (a .to) (a .left) (c .before .before .before .before .before .before .before .before .before .before .before .before .pre .1 .1) m D, z, c .before .before .before .before .before .before .before .before .before .before .before .before .pre .1 .4)
+write-terms-open-node-requires t c κs =
+    let a = c .before .before .before .before .before .before .before .before .before .before .before .before .args in
+    let g = c .before .before .before .before .before .before .before .loop in
+    let m : g .i < a .to = c .before .before .before .before .before .before .loop-test .taken in
+    let D = sym (c .before .before .before .is-node .ensures) ∙ not-false _ (c .before .before .if4 .left) in
+    let s : g .at + a .from * widest ≤ a .begin + g .i * widest = g .inv .small in
+    let b : a .begin ≤ a .from * widest = c .before .before .before .before .before .before .before .before .before .before .before .before .pre .1 .3 in
+    let few : a .to ≤ 33554432 = c .before .before .before .before .before .before .before .before .before .before .before .before .pre .1 .2 in
+    let long = c .before .before .before .before .before .before .before .before .before .before .before .before .pre .1 .1 in
+    let z : g .at ≤ 1152921504606846976 = omega (arith, s, b, few, m) in
+    let r : 7 * g .i + 6 < length (a .tree .now) = omega (arith, long, m) in
+    (r, node-kind (a .tree .now) (g .i) (a .to) (a .left) (c .before .before .before .before .before .before .before .before .before .before .before .before .pre .1 .1) m D, z, c .before .before .before .before .before .before .before .before .before .before .before .before .pre .1 .4)
 
 write-terms-closing-mark-requires : (t : ℕ) → write-terms-lts.Need-closing-mark-requires (
   kind-reads.Asked,
@@ -754,7 +846,17 @@ write-terms-put-mark-requires : (t : ℕ) → write-terms-lts.Need-put-mark-requ
   write-inner-below t,
   write-inner.Post,
 ) (write-terms-at t) write-terms.Post write-terms-Inv-loop write-terms-μ-loop
-write-terms-put-mark-requires t c κs = let a = c .before .before .before .before .before .before .before .before .before .before .before .before .before .before .before .before .before .before .args in let g = c .before .before .before .before .before .before .before .before .before .before .before .before .before .loop in let m : g .i < a .to = c .before .before .before .before .before .before .before .before .before .before .before .before .loop-test .taken in let D = sym (c .before .before .before .before .before .before .before .before .before .is-node .ensures) ∙ not-false _ (c .before .before .before .before .before .before .before .before .if4 .left) in let s : g .at + a .from * widest ≤ a .begin + g .i * widest = g .inv .small in let b : a .begin ≤ a .from * widest = c .before .before .before .before .before .before .before .before .before .before .before .before .before .before .before .before .before .before .pre .1 .3 in let few : a .to ≤ 33554432 = c .before .before .before .before .before .before .before .before .before .before .before .before .before .before .before .before .before .before .pre .1 .2 in let o : c .before .before .before .before .before .open-node .result .at ≤ g .at + 8589934710 = c .before .before .before .before .before .open-node .ensures .1 in let z : c .before .before .before .before .before .open-node .result .at ≤ 1152921504606846976 = omega (arith, s, b, o, few, m) in z
+write-terms-put-mark-requires t c κs =
+    let a = c .before .before .before .before .before .before .before .before .before .before .before .before .before .before .before .before .before .before .args in
+    let g = c .before .before .before .before .before .before .before .before .before .before .before .before .before .loop in
+    let m : g .i < a .to = c .before .before .before .before .before .before .before .before .before .before .before .before .loop-test .taken in
+    let D = sym (c .before .before .before .before .before .before .before .before .before .is-node .ensures) ∙ not-false _ (c .before .before .before .before .before .before .before .before .if4 .left) in
+    let s : g .at + a .from * widest ≤ a .begin + g .i * widest = g .inv .small in
+    let b : a .begin ≤ a .from * widest = c .before .before .before .before .before .before .before .before .before .before .before .before .before .before .before .before .before .before .pre .1 .3 in
+    let few : a .to ≤ 33554432 = c .before .before .before .before .before .before .before .before .before .before .before .before .before .before .before .before .before .before .pre .1 .2 in
+    let o : c .before .before .before .before .before .open-node .result .at ≤ g .at + 8589934710 = c .before .before .before .before .before .open-node .ensures .1 in
+    let z : c .before .before .before .before .before .open-node .result .at ≤ 1152921504606846976 = omega (arith, s, b, o, few, m) in
+    z
 
 write-terms-sub-write-inner : (t : ℕ) → write-terms-lts.Need-sub-write-inner (
   kind-reads.Asked,
@@ -780,7 +882,12 @@ write-terms-sub-write-inner : (t : ℕ) → write-terms-lts.Need-sub-write-inner
   write-inner-below t,
   write-inner.Post,
 ) (write-terms-at t) write-terms.Post write-terms-Inv-loop write-terms-μ-loop
-write-terms-sub-write-inner t c = let a = c .before .before .before .before .before .before .before .before .before .before .before .before .before .before .before .before .args in let g = c .before .before .before .before .before .before .before .before .before .before .before .loop in let m : g .i < a .to = c .before .before .before .before .before .before .before .before .before .before .loop-test .taken in let D = sym (c .before .before .before .before .before .before .before .is-node .ensures) ∙ not-false _ (c .before .before .before .before .before .before .if4 .left) in turn-left (a .src .now) (a .tree .now) (a .to) (a .left) (g .i) (c .before .before .before .before .before .before .before .before .before .kind .result) (c .before .before .before .before .before .next .result) (c .before .before .before .before .before .before .before .before .before .before .before .before .before .before .before .before .pre .1 .1) m D (c .before .before .before .before .before .before .before .before .before .kind .ensures) (c .before .before .before .before .before .next .ensures)
+write-terms-sub-write-inner t c =
+    let a = c .before .before .before .before .before .before .before .before .before .before .before .before .before .before .before .before .args in
+    let g = c .before .before .before .before .before .before .before .before .before .before .before .loop in
+    let m : g .i < a .to = c .before .before .before .before .before .before .before .before .before .before .loop-test .taken in
+    let D = sym (c .before .before .before .before .before .before .before .is-node .ensures) ∙ not-false _ (c .before .before .before .before .before .before .if4 .left) in
+    turn-left (a .src .now) (a .tree .now) (a .to) (a .left) (g .i) (c .before .before .before .before .before .before .before .before .before .kind .result) (c .before .before .before .before .before .next .result) (c .before .before .before .before .before .before .before .before .before .before .before .before .before .before .before .before .pre .1 .1) m D (c .before .before .before .before .before .before .before .before .before .kind .ensures) (c .before .before .before .before .before .next .ensures)
 
 write-terms-write-inner-requires : (t : ℕ) → write-terms-lts.Need-write-inner-requires (
   kind-reads.Asked,
@@ -806,7 +913,24 @@ write-terms-write-inner-requires : (t : ℕ) → write-terms-lts.Need-write-inne
   write-inner-below t,
   write-inner.Post,
 ) (write-terms-at t) write-terms.Post write-terms-Inv-loop write-terms-μ-loop
-write-terms-write-inner-requires t c κs = let a = c .before .before .before .before .before .before .before .before .before .before .before .before .before .before .before .before .before .args in let g = c .before .before .before .before .before .before .before .before .before .before .before .before .loop in let m : g .i < a .to = c .before .before .before .before .before .before .before .before .before .before .before .loop-test .taken in let D = sym (c .before .before .before .before .before .before .before .before .is-node .ensures) ∙ not-false _ (c .before .before .before .before .before .before .before .if4 .left) in let lo : g .i < c .before .before .before .before .before .before .next .result = turn-low (a .src .now) (a .tree .now) (a .to) (a .left) (g .i) (c .before .before .before .before .before .before .before .before .before .before .kind .result) (c .before .before .before .before .before .before .next .result) (c .before .before .before .before .before .before .before .before .before .before .before .before .before .before .before .before .before .pre .1 .1) m D (c .before .before .before .before .before .before .before .before .before .before .kind .ensures) (c .before .before .before .before .before .before .next .ensures) in let hi : c .before .before .before .before .before .before .next .result ≤ a .to = turn-high (a .src .now) (a .tree .now) (a .to) (a .left) (g .i) (c .before .before .before .before .before .before .before .before .before .before .kind .result) (c .before .before .before .before .before .before .next .result) (c .before .before .before .before .before .before .before .before .before .before .before .before .before .before .before .before .before .pre .1 .1) m D (c .before .before .before .before .before .before .before .before .before .before .kind .ensures) (c .before .before .before .before .before .before .next .ensures) in let s : g .at + a .from * widest ≤ a .begin + g .i * widest = g .inv .small in let b : a .begin ≤ a .from * widest = c .before .before .before .before .before .before .before .before .before .before .before .before .before .before .before .before .before .pre .1 .3 in let few : a .to ≤ 33554432 = c .before .before .before .before .before .before .before .before .before .before .before .before .before .before .before .before .before .pre .1 .2 in let o : c .before .before .before .before .open-node .result .at ≤ g .at + 8589934710 = c .before .before .before .before .open-node .ensures .1 in let e = c .before .before .before .before .before .before .before .before .before .before .before .before .before .before .before .before .before .pre .0 in let f : c .before .before .before .before .before .before .next .result - (g .i + 1) < a .to - a .from = rows-fall (a .from) (g .i) (c .before .before .before .before .before .before .next .result) (a .to) (g .inv .lo) lo hi in let long : 7 * a .to ≤ length (a .tree .now) = c .before .before .before .before .before .before .before .before .before .before .before .before .before .before .before .before .before .pre .1 .1 in let n1 : 7 * c .before .before .before .before .before .before .next .result ≤ length (a .tree .now) = omega (arith, hi, long) in let n2 : c .before .before .before .before .before .before .next .result ≤ 33554432 = omega (arith, hi, few) in let n3 : c .before .before .before .before .open-node .result .at ≤ (g .i + 1) * widest = omega (arith, s, b, o) in (omega arith, (omega (arith, lo), n1, n2, n3, c .before .before .before .before .before .before .before .before .before .before .before .before .before .before .before .before .before .pre .1 .4))
+write-terms-write-inner-requires t c κs =
+    let a = c .before .before .before .before .before .before .before .before .before .before .before .before .before .before .before .before .before .args in
+    let g = c .before .before .before .before .before .before .before .before .before .before .before .before .loop in
+    let m : g .i < a .to = c .before .before .before .before .before .before .before .before .before .before .before .loop-test .taken in
+    let D = sym (c .before .before .before .before .before .before .before .before .is-node .ensures) ∙ not-false _ (c .before .before .before .before .before .before .before .if4 .left) in
+    let lo : g .i < c .before .before .before .before .before .before .next .result = turn-low (a .src .now) (a .tree .now) (a .to) (a .left) (g .i) (c .before .before .before .before .before .before .before .before .before .before .kind .result) (c .before .before .before .before .before .before .next .result) (c .before .before .before .before .before .before .before .before .before .before .before .before .before .before .before .before .before .pre .1 .1) m D (c .before .before .before .before .before .before .before .before .before .before .kind .ensures) (c .before .before .before .before .before .before .next .ensures) in
+    let hi : c .before .before .before .before .before .before .next .result ≤ a .to = turn-high (a .src .now) (a .tree .now) (a .to) (a .left) (g .i) (c .before .before .before .before .before .before .before .before .before .before .kind .result) (c .before .before .before .before .before .before .next .result) (c .before .before .before .before .before .before .before .before .before .before .before .before .before .before .before .before .before .pre .1 .1) m D (c .before .before .before .before .before .before .before .before .before .before .kind .ensures) (c .before .before .before .before .before .before .next .ensures) in
+    let s : g .at + a .from * widest ≤ a .begin + g .i * widest = g .inv .small in
+    let b : a .begin ≤ a .from * widest = c .before .before .before .before .before .before .before .before .before .before .before .before .before .before .before .before .before .pre .1 .3 in
+    let few : a .to ≤ 33554432 = c .before .before .before .before .before .before .before .before .before .before .before .before .before .before .before .before .before .pre .1 .2 in
+    let o : c .before .before .before .before .open-node .result .at ≤ g .at + 8589934710 = c .before .before .before .before .open-node .ensures .1 in
+    let e = c .before .before .before .before .before .before .before .before .before .before .before .before .before .before .before .before .before .pre .0 in
+    let f : c .before .before .before .before .before .before .next .result - (g .i + 1) < a .to - a .from = rows-fall (a .from) (g .i) (c .before .before .before .before .before .before .next .result) (a .to) (g .inv .lo) lo hi in
+    let long : 7 * a .to ≤ length (a .tree .now) = c .before .before .before .before .before .before .before .before .before .before .before .before .before .before .before .before .before .pre .1 .1 in
+    let n1 : 7 * c .before .before .before .before .before .before .next .result ≤ length (a .tree .now) = omega (arith, hi, long) in
+    let n2 : c .before .before .before .before .before .before .next .result ≤ 33554432 = omega (arith, hi, few) in
+    let n3 : c .before .before .before .before .open-node .result .at ≤ (g .i + 1) * widest = omega (arith, s, b, o) in
+    (omega arith, (omega (arith, lo), n1, n2, n3, c .before .before .before .before .before .before .before .before .before .before .before .before .before .before .before .before .before .pre .1 .4))
 
 write-terms-unlawful-requires-3 : (t : ℕ) → write-terms-lts.Need-unlawful-requires-3 (
   kind-reads.Asked,
@@ -884,7 +1008,12 @@ write-terms-returns-3 : (t : ℕ) → write-terms-lts.Need-returns-3 (
   write-inner-below t,
   write-inner.Post,
 ) (write-terms-at t) write-terms.Post write-terms-Inv-loop write-terms-μ-loop
-write-terms-returns-3 t c = let a = c .before .before .before .before .before .before .before .before .before .before .before .before .before .before .before .before .before .before .before .before .before .before .before .args in let g = c .before .before .before .before .before .before .before .before .before .before .before .before .before .before .before .before .before .before .loop in let m : g .i < a .to = c .before .before .before .before .before .before .before .before .before .before .before .before .before .before .before .before .before .loop-test .taken in let D = sym (c .before .before .before .before .before .before .before .before .before .before .before .before .before .before .is-node .ensures) ∙ not-false _ (c .before .before .before .before .before .before .before .before .before .before .before .before .before .if4 .left) in going-not (a .src .now) (a .tree .now) (a .from) (a .to) 9 (a .left) (a .begin) (g .i) 9 (g .at) (g .good) (a .out .now) _ (g .inv) _ _ _ _ (c .unlawful3 .ensures) (turn-not (a .src .now) (a .tree .now) (a .to) (a .left) (g .i) (c .before .before .before .before .before .before .before .before .before .before .before .before .before .before .before .before .kind .result) (c .before .before .before .before .before .before .before .before .before .before .before .before .next .result) (c .before .before .before .before .before .before .before .before .before .before .before .before .before .before .before .before .before .before .before .before .before .before .before .pre .1 .1) m D (c .before .before .before .before .before .before .before .before .before .before .before .before .before .before .before .before .kind .ensures) (c .before .before .before .before .before .before .before .before .before .before .before .before .next .ensures) (sym (c .before .before .before .before .before .write-inner .ensures .lawful-is) ∙ not-true _ (c .before .if6 .taken)))
+write-terms-returns-3 t c =
+    let a = c .before .before .before .before .before .before .before .before .before .before .before .before .before .before .before .before .before .before .before .before .before .before .before .args in
+    let g = c .before .before .before .before .before .before .before .before .before .before .before .before .before .before .before .before .before .before .loop in
+    let m : g .i < a .to = c .before .before .before .before .before .before .before .before .before .before .before .before .before .before .before .before .before .loop-test .taken in
+    let D = sym (c .before .before .before .before .before .before .before .before .before .before .before .before .before .before .is-node .ensures) ∙ not-false _ (c .before .before .before .before .before .before .before .before .before .before .before .before .before .if4 .left) in
+    going-not (a .src .now) (a .tree .now) (a .from) (a .to) 9 (a .left) (a .begin) (g .i) 9 (g .at) (g .good) (a .out .now) _ (g .inv) _ _ _ _ (c .unlawful3 .ensures) (turn-not (a .src .now) (a .tree .now) (a .to) (a .left) (g .i) (c .before .before .before .before .before .before .before .before .before .before .before .before .before .before .before .before .kind .result) (c .before .before .before .before .before .before .before .before .before .before .before .before .next .result) (c .before .before .before .before .before .before .before .before .before .before .before .before .before .before .before .before .before .before .before .before .before .before .before .pre .1 .1) m D (c .before .before .before .before .before .before .before .before .before .before .before .before .before .before .before .before .kind .ensures) (c .before .before .before .before .before .before .before .before .before .before .before .before .next .ensures) (sym (c .before .before .before .before .before .write-inner .ensures .lawful-is) ∙ not-true _ (c .before .if6 .taken)))
 
 write-terms-closing-mark-requires-2 : (t : ℕ) → write-terms-lts.Need-closing-mark-requires-2 (
   kind-reads.Asked,
@@ -936,7 +1065,20 @@ write-terms-put-mark-requires-2 : (t : ℕ) → write-terms-lts.Need-put-mark-re
   write-inner-below t,
   write-inner.Post,
 ) (write-terms-at t) write-terms.Post write-terms-Inv-loop write-terms-μ-loop
-write-terms-put-mark-requires-2 t c κs = let a = c .before .before .before .before .before .before .before .before .before .before .before .before .before .before .before .before .before .before .before .before .before .before .before .before .args in let g = c .before .before .before .before .before .before .before .before .before .before .before .before .before .before .before .before .before .before .before .loop in let m : g .i < a .to = c .before .before .before .before .before .before .before .before .before .before .before .before .before .before .before .before .before .before .loop-test .taken in let D = sym (c .before .before .before .before .before .before .before .before .before .before .before .before .before .before .before .is-node .ensures) ∙ not-false _ (c .before .before .before .before .before .before .before .before .before .before .before .before .before .before .if4 .left) in let lo : g .i < c .before .before .before .before .before .before .before .before .before .before .before .before .before .next .result = turn-low (a .src .now) (a .tree .now) (a .to) (a .left) (g .i) (c .before .before .before .before .before .before .before .before .before .before .before .before .before .before .before .before .before .kind .result) (c .before .before .before .before .before .before .before .before .before .before .before .before .before .next .result) (c .before .before .before .before .before .before .before .before .before .before .before .before .before .before .before .before .before .before .before .before .before .before .before .before .pre .1 .1) m D (c .before .before .before .before .before .before .before .before .before .before .before .before .before .before .before .before .before .kind .ensures) (c .before .before .before .before .before .before .before .before .before .before .before .before .before .next .ensures) in let hi : c .before .before .before .before .before .before .before .before .before .before .before .before .before .next .result ≤ a .to = turn-high (a .src .now) (a .tree .now) (a .to) (a .left) (g .i) (c .before .before .before .before .before .before .before .before .before .before .before .before .before .before .before .before .before .kind .result) (c .before .before .before .before .before .before .before .before .before .before .before .before .before .next .result) (c .before .before .before .before .before .before .before .before .before .before .before .before .before .before .before .before .before .before .before .before .before .before .before .before .pre .1 .1) m D (c .before .before .before .before .before .before .before .before .before .before .before .before .before .before .before .before .before .kind .ensures) (c .before .before .before .before .before .before .before .before .before .before .before .before .before .next .ensures) in let s : g .at + a .from * widest ≤ a .begin + g .i * widest = g .inv .small in let b : a .begin ≤ a .from * widest = c .before .before .before .before .before .before .before .before .before .before .before .before .before .before .before .before .before .before .before .before .before .before .before .before .pre .1 .3 in let few : a .to ≤ 33554432 = c .before .before .before .before .before .before .before .before .before .before .before .before .before .before .before .before .before .before .before .before .before .before .before .before .pre .1 .2 in let o : c .before .before .before .before .before .before .before .before .before .before .before .open-node .result .at ≤ g .at + 8589934710 = c .before .before .before .before .before .before .before .before .before .before .before .open-node .ensures .1 in let r : c .before .before .before .before .before .before .write-inner .result .at + (g .i + 1) * widest ≤ c .before .before .before .before .before .before .before .before .before .before .before .open-node .result .at + c .before .before .before .before .before .before .before .before .before .before .before .before .before .next .result * widest = c .before .before .before .before .before .before .write-inner .ensures .small (not-false _ (c .before .before .if6 .left)) in let z : c .before .before .before .before .before .before .write-inner .result .at ≤ 1152921504606846976 = omega (arith, s, b, o, few, r, hi) in z
+write-terms-put-mark-requires-2 t c κs =
+    let a = c .before .before .before .before .before .before .before .before .before .before .before .before .before .before .before .before .before .before .before .before .before .before .before .before .args in
+    let g = c .before .before .before .before .before .before .before .before .before .before .before .before .before .before .before .before .before .before .before .loop in
+    let m : g .i < a .to = c .before .before .before .before .before .before .before .before .before .before .before .before .before .before .before .before .before .before .loop-test .taken in
+    let D = sym (c .before .before .before .before .before .before .before .before .before .before .before .before .before .before .before .is-node .ensures) ∙ not-false _ (c .before .before .before .before .before .before .before .before .before .before .before .before .before .before .if4 .left) in
+    let lo : g .i < c .before .before .before .before .before .before .before .before .before .before .before .before .before .next .result = turn-low (a .src .now) (a .tree .now) (a .to) (a .left) (g .i) (c .before .before .before .before .before .before .before .before .before .before .before .before .before .before .before .before .before .kind .result) (c .before .before .before .before .before .before .before .before .before .before .before .before .before .next .result) (c .before .before .before .before .before .before .before .before .before .before .before .before .before .before .before .before .before .before .before .before .before .before .before .before .pre .1 .1) m D (c .before .before .before .before .before .before .before .before .before .before .before .before .before .before .before .before .before .kind .ensures) (c .before .before .before .before .before .before .before .before .before .before .before .before .before .next .ensures) in
+    let hi : c .before .before .before .before .before .before .before .before .before .before .before .before .before .next .result ≤ a .to = turn-high (a .src .now) (a .tree .now) (a .to) (a .left) (g .i) (c .before .before .before .before .before .before .before .before .before .before .before .before .before .before .before .before .before .kind .result) (c .before .before .before .before .before .before .before .before .before .before .before .before .before .next .result) (c .before .before .before .before .before .before .before .before .before .before .before .before .before .before .before .before .before .before .before .before .before .before .before .before .pre .1 .1) m D (c .before .before .before .before .before .before .before .before .before .before .before .before .before .before .before .before .before .kind .ensures) (c .before .before .before .before .before .before .before .before .before .before .before .before .before .next .ensures) in
+    let s : g .at + a .from * widest ≤ a .begin + g .i * widest = g .inv .small in
+    let b : a .begin ≤ a .from * widest = c .before .before .before .before .before .before .before .before .before .before .before .before .before .before .before .before .before .before .before .before .before .before .before .before .pre .1 .3 in
+    let few : a .to ≤ 33554432 = c .before .before .before .before .before .before .before .before .before .before .before .before .before .before .before .before .before .before .before .before .before .before .before .before .pre .1 .2 in
+    let o : c .before .before .before .before .before .before .before .before .before .before .before .open-node .result .at ≤ g .at + 8589934710 = c .before .before .before .before .before .before .before .before .before .before .before .open-node .ensures .1 in
+    let r : c .before .before .before .before .before .before .write-inner .result .at + (g .i + 1) * widest ≤ c .before .before .before .before .before .before .before .before .before .before .before .open-node .result .at + c .before .before .before .before .before .before .before .before .before .before .before .before .before .next .result * widest = c .before .before .before .before .before .before .write-inner .ensures .small (not-false _ (c .before .before .if6 .left)) in
+    let z : c .before .before .before .before .before .before .write-inner .result .at ≤ 1152921504606846976 = omega (arith, s, b, o, few, r, hi) in
+    z
 
 write-terms-loop-less-3 : (t : ℕ) → write-terms-lts.Need-loop-less-3 (
   kind-reads.Asked,
@@ -962,7 +1104,14 @@ write-terms-loop-less-3 : (t : ℕ) → write-terms-lts.Need-loop-less-3 (
   write-inner-below t,
   write-inner.Post,
 ) (write-terms-at t) write-terms.Post write-terms-Inv-loop write-terms-μ-loop
-write-terms-loop-less-3 t c = let a = c .before .before .before .before .before .before .before .before .before .before .before .before .before .before .before .before .before .before .before .before .before .before .args in let g = c .before .before .before .before .before .before .before .before .before .before .before .before .before .before .before .before .before .loop in let m : g .i < a .to = c .before .before .before .before .before .before .before .before .before .before .before .before .before .before .before .before .loop-test .taken in let D = sym (c .before .before .before .before .before .before .before .before .before .before .before .before .before .is-node .ensures) ∙ not-false _ (c .before .before .before .before .before .before .before .before .before .before .before .before .if4 .left) in let lo : g .i < c .before .before .before .before .before .before .before .before .before .before .before .next .result = turn-low (a .src .now) (a .tree .now) (a .to) (a .left) (g .i) (c .before .before .before .before .before .before .before .before .before .before .before .before .before .before .before .kind .result) (c .before .before .before .before .before .before .before .before .before .before .before .next .result) (c .before .before .before .before .before .before .before .before .before .before .before .before .before .before .before .before .before .before .before .before .before .before .pre .1 .1) m D (c .before .before .before .before .before .before .before .before .before .before .before .before .before .before .before .kind .ensures) (c .before .before .before .before .before .before .before .before .before .before .before .next .ensures) in let hi : c .before .before .before .before .before .before .before .before .before .before .before .next .result ≤ a .to = turn-high (a .src .now) (a .tree .now) (a .to) (a .left) (g .i) (c .before .before .before .before .before .before .before .before .before .before .before .before .before .before .before .kind .result) (c .before .before .before .before .before .before .before .before .before .before .before .next .result) (c .before .before .before .before .before .before .before .before .before .before .before .before .before .before .before .before .before .before .before .before .before .before .pre .1 .1) m D (c .before .before .before .before .before .before .before .before .before .before .before .before .before .before .before .kind .ensures) (c .before .before .before .before .before .before .before .before .before .before .before .next .ensures) in left-falls (g .i) (c .before .before .before .before .before .before .before .before .before .before .before .next .result) (a .to) lo hi
+write-terms-loop-less-3 t c =
+    let a = c .before .before .before .before .before .before .before .before .before .before .before .before .before .before .before .before .before .before .before .before .before .before .args in
+    let g = c .before .before .before .before .before .before .before .before .before .before .before .before .before .before .before .before .before .loop in
+    let m : g .i < a .to = c .before .before .before .before .before .before .before .before .before .before .before .before .before .before .before .before .loop-test .taken in
+    let D = sym (c .before .before .before .before .before .before .before .before .before .before .before .before .before .is-node .ensures) ∙ not-false _ (c .before .before .before .before .before .before .before .before .before .before .before .before .if4 .left) in
+    let lo : g .i < c .before .before .before .before .before .before .before .before .before .before .before .next .result = turn-low (a .src .now) (a .tree .now) (a .to) (a .left) (g .i) (c .before .before .before .before .before .before .before .before .before .before .before .before .before .before .before .kind .result) (c .before .before .before .before .before .before .before .before .before .before .before .next .result) (c .before .before .before .before .before .before .before .before .before .before .before .before .before .before .before .before .before .before .before .before .before .before .pre .1 .1) m D (c .before .before .before .before .before .before .before .before .before .before .before .before .before .before .before .kind .ensures) (c .before .before .before .before .before .before .before .before .before .before .before .next .ensures) in
+    let hi : c .before .before .before .before .before .before .before .before .before .before .before .next .result ≤ a .to = turn-high (a .src .now) (a .tree .now) (a .to) (a .left) (g .i) (c .before .before .before .before .before .before .before .before .before .before .before .before .before .before .before .kind .result) (c .before .before .before .before .before .before .before .before .before .before .before .next .result) (c .before .before .before .before .before .before .before .before .before .before .before .before .before .before .before .before .before .before .before .before .before .before .pre .1 .1) m D (c .before .before .before .before .before .before .before .before .before .before .before .before .before .before .before .kind .ensures) (c .before .before .before .before .before .before .before .before .before .before .before .next .ensures) in
+    left-falls (g .i) (c .before .before .before .before .before .before .before .before .before .before .before .next .result) (a .to) lo hi
 
 write-terms-loop-again-3 : (t : ℕ) → write-terms-lts.Need-loop-again-3 (
   kind-reads.Asked,
@@ -988,7 +1137,12 @@ write-terms-loop-again-3 : (t : ℕ) → write-terms-lts.Need-loop-again-3 (
   write-inner-below t,
   write-inner.Post,
 ) (write-terms-at t) write-terms.Post write-terms-Inv-loop write-terms-μ-loop
-write-terms-loop-again-3 t c = let a = c .before .before .before .before .before .before .before .before .before .before .before .before .before .before .before .before .before .before .before .before .before .before .args in let g = c .before .before .before .before .before .before .before .before .before .before .before .before .before .before .before .before .before .loop in let m : g .i < a .to = c .before .before .before .before .before .before .before .before .before .before .before .before .before .before .before .before .loop-test .taken in let D = sym (c .before .before .before .before .before .before .before .before .before .before .before .before .before .is-node .ensures) ∙ not-false _ (c .before .before .before .before .before .before .before .before .before .before .before .before .if4 .left) in going-empty (a .src .now) (a .tree .now) (a .to) (a .left) (g .i) (c .before .before .before .before .before .before .before .before .before .before .before .before .before .before .before .kind .result) (c .before .before .before .before .before .before .before .before .before .before .before .next .result) (c .before .before .before .before .before .before .before .before .before .before .before .before .before .before .before .before .before .before .before .before .before .before .pre .1 .1) m D (c .before .before .before .before .before .before .before .before .before .before .before .before .before .before .before .kind .ensures) (c .before .before .before .before .before .before .before .before .before .before .before .next .ensures) (a .from) 9 (a .begin) (g .at) (g .good) (a .out .now) _ (g .inv) _ _ _ _ _ (c .before .before .before .before .before .before .before .before .before .open-node .ensures .0) (c .before .before .before .before .before .before .before .before .before .open-node .kept .1 .1 .1 .1 .1 .0) (c .before .before .before .before .before .before .before .before .before .open-node .ensures .1) (c .before .before .before .before .before .before .before .before .before .open-node .ensures .2) (c .before .before .before .before .before .before .if5 .taken) _ (c .before .before .before .before .before .closing-mark .ensures) (c .before .before .before .put-mark .ensures) (c .before .before .before .put-mark .kept .1 .1 .0)
+write-terms-loop-again-3 t c =
+    let a = c .before .before .before .before .before .before .before .before .before .before .before .before .before .before .before .before .before .before .before .before .before .before .args in
+    let g = c .before .before .before .before .before .before .before .before .before .before .before .before .before .before .before .before .before .loop in
+    let m : g .i < a .to = c .before .before .before .before .before .before .before .before .before .before .before .before .before .before .before .before .loop-test .taken in
+    let D = sym (c .before .before .before .before .before .before .before .before .before .before .before .before .before .is-node .ensures) ∙ not-false _ (c .before .before .before .before .before .before .before .before .before .before .before .before .if4 .left) in
+    going-empty (a .src .now) (a .tree .now) (a .to) (a .left) (g .i) (c .before .before .before .before .before .before .before .before .before .before .before .before .before .before .before .kind .result) (c .before .before .before .before .before .before .before .before .before .before .before .next .result) (c .before .before .before .before .before .before .before .before .before .before .before .before .before .before .before .before .before .before .before .before .before .before .pre .1 .1) m D (c .before .before .before .before .before .before .before .before .before .before .before .before .before .before .before .kind .ensures) (c .before .before .before .before .before .before .before .before .before .before .before .next .ensures) (a .from) 9 (a .begin) (g .at) (g .good) (a .out .now) _ (g .inv) _ _ _ _ _ (c .before .before .before .before .before .before .before .before .before .open-node .ensures .0) (c .before .before .before .before .before .before .before .before .before .open-node .kept .1 .1 .1 .1 .1 .0) (c .before .before .before .before .before .before .before .before .before .open-node .ensures .1) (c .before .before .before .before .before .before .before .before .before .open-node .ensures .2) (c .before .before .before .before .before .before .if5 .taken) _ (c .before .before .before .before .before .closing-mark .ensures) (c .before .before .before .put-mark .ensures) (c .before .before .before .put-mark .kept .1 .1 .0)
 
 write-terms-loop-less-4 : (t : ℕ) → write-terms-lts.Need-loop-less-4 (
   kind-reads.Asked,
@@ -1014,7 +1168,14 @@ write-terms-loop-less-4 : (t : ℕ) → write-terms-lts.Need-loop-less-4 (
   write-inner-below t,
   write-inner.Post,
 ) (write-terms-at t) write-terms.Post write-terms-Inv-loop write-terms-μ-loop
-write-terms-loop-less-4 t c = let a = c .before .before .before .before .before .before .before .before .before .before .before .before .before .before .before .before .before .before .before .before .before .before .before .before .before .before .before .before .before .args in let g = c .before .before .before .before .before .before .before .before .before .before .before .before .before .before .before .before .before .before .before .before .before .before .before .before .loop in let m : g .i < a .to = c .before .before .before .before .before .before .before .before .before .before .before .before .before .before .before .before .before .before .before .before .before .before .before .loop-test .taken in let D = sym (c .before .before .before .before .before .before .before .before .before .before .before .before .before .before .before .before .before .before .before .before .is-node .ensures) ∙ not-false _ (c .before .before .before .before .before .before .before .before .before .before .before .before .before .before .before .before .before .before .before .if4 .left) in let lo : g .i < c .before .before .before .before .before .before .before .before .before .before .before .before .before .before .before .before .before .before .next .result = turn-low (a .src .now) (a .tree .now) (a .to) (a .left) (g .i) (c .before .before .before .before .before .before .before .before .before .before .before .before .before .before .before .before .before .before .before .before .before .before .kind .result) (c .before .before .before .before .before .before .before .before .before .before .before .before .before .before .before .before .before .before .next .result) (c .before .before .before .before .before .before .before .before .before .before .before .before .before .before .before .before .before .before .before .before .before .before .before .before .before .before .before .before .before .pre .1 .1) m D (c .before .before .before .before .before .before .before .before .before .before .before .before .before .before .before .before .before .before .before .before .before .before .kind .ensures) (c .before .before .before .before .before .before .before .before .before .before .before .before .before .before .before .before .before .before .next .ensures) in let hi : c .before .before .before .before .before .before .before .before .before .before .before .before .before .before .before .before .before .before .next .result ≤ a .to = turn-high (a .src .now) (a .tree .now) (a .to) (a .left) (g .i) (c .before .before .before .before .before .before .before .before .before .before .before .before .before .before .before .before .before .before .before .before .before .before .kind .result) (c .before .before .before .before .before .before .before .before .before .before .before .before .before .before .before .before .before .before .next .result) (c .before .before .before .before .before .before .before .before .before .before .before .before .before .before .before .before .before .before .before .before .before .before .before .before .before .before .before .before .before .pre .1 .1) m D (c .before .before .before .before .before .before .before .before .before .before .before .before .before .before .before .before .before .before .before .before .before .before .kind .ensures) (c .before .before .before .before .before .before .before .before .before .before .before .before .before .before .before .before .before .before .next .ensures) in left-falls (g .i) (c .before .before .before .before .before .before .before .before .before .before .before .before .before .before .before .before .before .before .next .result) (a .to) lo hi
+write-terms-loop-less-4 t c =
+    let a = c .before .before .before .before .before .before .before .before .before .before .before .before .before .before .before .before .before .before .before .before .before .before .before .before .before .before .before .before .before .args in
+    let g = c .before .before .before .before .before .before .before .before .before .before .before .before .before .before .before .before .before .before .before .before .before .before .before .before .loop in
+    let m : g .i < a .to = c .before .before .before .before .before .before .before .before .before .before .before .before .before .before .before .before .before .before .before .before .before .before .before .loop-test .taken in
+    let D = sym (c .before .before .before .before .before .before .before .before .before .before .before .before .before .before .before .before .before .before .before .before .is-node .ensures) ∙ not-false _ (c .before .before .before .before .before .before .before .before .before .before .before .before .before .before .before .before .before .before .before .if4 .left) in
+    let lo : g .i < c .before .before .before .before .before .before .before .before .before .before .before .before .before .before .before .before .before .before .next .result = turn-low (a .src .now) (a .tree .now) (a .to) (a .left) (g .i) (c .before .before .before .before .before .before .before .before .before .before .before .before .before .before .before .before .before .before .before .before .before .before .kind .result) (c .before .before .before .before .before .before .before .before .before .before .before .before .before .before .before .before .before .before .next .result) (c .before .before .before .before .before .before .before .before .before .before .before .before .before .before .before .before .before .before .before .before .before .before .before .before .before .before .before .before .before .pre .1 .1) m D (c .before .before .before .before .before .before .before .before .before .before .before .before .before .before .before .before .before .before .before .before .before .before .kind .ensures) (c .before .before .before .before .before .before .before .before .before .before .before .before .before .before .before .before .before .before .next .ensures) in
+    let hi : c .before .before .before .before .before .before .before .before .before .before .before .before .before .before .before .before .before .before .next .result ≤ a .to = turn-high (a .src .now) (a .tree .now) (a .to) (a .left) (g .i) (c .before .before .before .before .before .before .before .before .before .before .before .before .before .before .before .before .before .before .before .before .before .before .kind .result) (c .before .before .before .before .before .before .before .before .before .before .before .before .before .before .before .before .before .before .next .result) (c .before .before .before .before .before .before .before .before .before .before .before .before .before .before .before .before .before .before .before .before .before .before .before .before .before .before .before .before .before .pre .1 .1) m D (c .before .before .before .before .before .before .before .before .before .before .before .before .before .before .before .before .before .before .before .before .before .before .kind .ensures) (c .before .before .before .before .before .before .before .before .before .before .before .before .before .before .before .before .before .before .next .ensures) in
+    left-falls (g .i) (c .before .before .before .before .before .before .before .before .before .before .before .before .before .before .before .before .before .before .next .result) (a .to) lo hi
 
 write-terms-loop-again-4 : (t : ℕ) → write-terms-lts.Need-loop-again-4 (
   kind-reads.Asked,
@@ -1040,7 +1201,12 @@ write-terms-loop-again-4 : (t : ℕ) → write-terms-lts.Need-loop-again-4 (
   write-inner-below t,
   write-inner.Post,
 ) (write-terms-at t) write-terms.Post write-terms-Inv-loop write-terms-μ-loop
-write-terms-loop-again-4 t c = let a = c .before .before .before .before .before .before .before .before .before .before .before .before .before .before .before .before .before .before .before .before .before .before .before .before .before .before .before .before .before .args in let g = c .before .before .before .before .before .before .before .before .before .before .before .before .before .before .before .before .before .before .before .before .before .before .before .before .loop in let m : g .i < a .to = c .before .before .before .before .before .before .before .before .before .before .before .before .before .before .before .before .before .before .before .before .before .before .before .loop-test .taken in let D = sym (c .before .before .before .before .before .before .before .before .before .before .before .before .before .before .before .before .before .before .before .before .is-node .ensures) ∙ not-false _ (c .before .before .before .before .before .before .before .before .before .before .before .before .before .before .before .before .before .before .before .if4 .left) in going-node (a .src .now) (a .tree .now) (a .to) (a .left) (g .i) (c .before .before .before .before .before .before .before .before .before .before .before .before .before .before .before .before .before .before .before .before .before .before .kind .result) (c .before .before .before .before .before .before .before .before .before .before .before .before .before .before .before .before .before .before .next .result) (c .before .before .before .before .before .before .before .before .before .before .before .before .before .before .before .before .before .before .before .before .before .before .before .before .before .before .before .before .before .pre .1 .1) m D (c .before .before .before .before .before .before .before .before .before .before .before .before .before .before .before .before .before .before .before .before .before .before .kind .ensures) (c .before .before .before .before .before .before .before .before .before .before .before .before .before .before .before .before .before .before .next .ensures) (a .from) 9 (a .begin) (g .at) (g .good) (a .out .now) _ (g .inv) _ _ _ _ _ _ _ _ _ (c .before .before .before .before .before .before .before .before .before .before .before .before .before .before .before .before .open-node .ensures .0) (c .before .before .before .before .before .before .before .before .before .before .before .before .before .before .before .before .open-node .kept .1 .1 .1 .1 .1 .0) (c .before .before .before .before .before .before .before .before .before .before .before .before .before .before .before .before .open-node .ensures .1) (c .before .before .before .before .before .before .before .before .before .before .before .before .before .before .before .before .open-node .ensures .2) (c .before .before .before .before .before .before .before .before .before .before .before .write-inner .ensures) (c .before .before .before .before .before .before .before .before .before .before .before .write-inner .kept .1 .1 .1 .1 .1 .1 .1 .0) (not-false _ (c .before .before .before .before .before .before .before .if6 .left)) _ (c .before .before .before .before .before .before .closing-mark2 .ensures) (c .before .before .before .before .put-mark2 .ensures) (c .before .before .before .before .put-mark2 .kept .1 .1 .0)
+write-terms-loop-again-4 t c =
+    let a = c .before .before .before .before .before .before .before .before .before .before .before .before .before .before .before .before .before .before .before .before .before .before .before .before .before .before .before .before .before .args in
+    let g = c .before .before .before .before .before .before .before .before .before .before .before .before .before .before .before .before .before .before .before .before .before .before .before .before .loop in
+    let m : g .i < a .to = c .before .before .before .before .before .before .before .before .before .before .before .before .before .before .before .before .before .before .before .before .before .before .before .loop-test .taken in
+    let D = sym (c .before .before .before .before .before .before .before .before .before .before .before .before .before .before .before .before .before .before .before .before .is-node .ensures) ∙ not-false _ (c .before .before .before .before .before .before .before .before .before .before .before .before .before .before .before .before .before .before .before .if4 .left) in
+    going-node (a .src .now) (a .tree .now) (a .to) (a .left) (g .i) (c .before .before .before .before .before .before .before .before .before .before .before .before .before .before .before .before .before .before .before .before .before .before .kind .result) (c .before .before .before .before .before .before .before .before .before .before .before .before .before .before .before .before .before .before .next .result) (c .before .before .before .before .before .before .before .before .before .before .before .before .before .before .before .before .before .before .before .before .before .before .before .before .before .before .before .before .before .pre .1 .1) m D (c .before .before .before .before .before .before .before .before .before .before .before .before .before .before .before .before .before .before .before .before .before .before .kind .ensures) (c .before .before .before .before .before .before .before .before .before .before .before .before .before .before .before .before .before .before .next .ensures) (a .from) 9 (a .begin) (g .at) (g .good) (a .out .now) _ (g .inv) _ _ _ _ _ _ _ _ _ (c .before .before .before .before .before .before .before .before .before .before .before .before .before .before .before .before .open-node .ensures .0) (c .before .before .before .before .before .before .before .before .before .before .before .before .before .before .before .before .open-node .kept .1 .1 .1 .1 .1 .0) (c .before .before .before .before .before .before .before .before .before .before .before .before .before .before .before .before .open-node .ensures .1) (c .before .before .before .before .before .before .before .before .before .before .before .before .before .before .before .before .open-node .ensures .2) (c .before .before .before .before .before .before .before .before .before .before .before .write-inner .ensures) (c .before .before .before .before .before .before .before .before .before .before .before .write-inner .kept .1 .1 .1 .1 .1 .1 .1 .0) (not-false _ (c .before .before .before .before .before .before .before .if6 .left)) _ (c .before .before .before .before .before .before .closing-mark2 .ensures) (c .before .before .before .before .put-mark2 .ensures) (c .before .before .before .before .put-mark2 .kept .1 .1 .0)
 
 write-terms-same-length-4 : (t : ℕ) → write-terms-lts.Need-same-length-4 (
   kind-reads.Asked,
@@ -1092,7 +1258,11 @@ write-terms-returns-4 : (t : ℕ) → write-terms-lts.Need-returns-4 (
   write-inner-below t,
   write-inner.Post,
 ) (write-terms-at t) write-terms.Post write-terms-Inv-loop write-terms-μ-loop
-write-terms-returns-4 t c = let a = c .before .before .before .before .before .before .args in let g = c .before .loop in let h = g .inv .hi in going-end (a .src .now) (a .tree .now) (a .from) (a .to) 9 (a .left) (a .begin) (g .i) 9 (g .at) (g .good) (a .out .now) _ (g .inv) (omega arith) refl
+write-terms-returns-4 t c =
+    let a = c .before .before .before .before .before .before .args in
+    let g = c .before .loop in
+    let h = g .inv .hi in
+    going-end (a .src .now) (a .tree .now) (a .from) (a .to) 9 (a .left) (a .begin) (g .i) 9 (g .at) (g .good) (a .out .now) _ (g .inv) (omega arith) refl
 
 pub +write-inner+write-terms-spec : {M : Type 1} → statement M
 +write-inner+write-terms-spec = close μ-write-inner μ-write-terms (λ t. write-inner-lts.spec (

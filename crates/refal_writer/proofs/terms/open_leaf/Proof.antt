@@ -59,7 +59,12 @@ part-open-end : tie.Need-part-open-end
 part-open-end c = search needs
 
 open-requires : tie.Need-open-requires
-open-requires c κs = let w = c .before .before .before .before .before .before .before .before .before .before .args .tree .now in let i = c .before .before .before .before .before .before .before .before .before .before .args .i in let r = c .before .before .before .before .before .before .before .before .before .before .pre .0 in let h = c .before .before .before .before .before .before .before .before .before .before .pre .1 in (leaf-stands w i r h, leaf-low w i r h, leaf-high w i r h, c .before .before .before .before .before .before .before .before .before .before .pre .3)
+open-requires c κs =
+    let w = c .before .before .before .before .before .before .before .before .before .before .args .tree .now in
+    let i = c .before .before .before .before .before .before .before .before .before .before .args .i in
+    let r = c .before .before .before .before .before .before .before .before .before .before .pre .0 in
+    let h = c .before .before .before .before .before .before .before .before .before .before .pre .1 in
+    (leaf-stands w i r h, leaf-low w i r h, leaf-high w i r h, c .before .before .before .before .before .before .before .before .before .before .pre .3)
 
 add-t10 : tie.Need-add-t10
 add-t10 c = search needs

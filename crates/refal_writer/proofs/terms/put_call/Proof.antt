@@ -50,7 +50,10 @@ wide-requires-2 : tie.Need-wide-requires-2
 wide-requires-2 c κs = search needs
 
 shared-slice-read-is-upper : tie.Need-shared-slice-read-is-upper
-shared-slice-read-is-upper c = let n = c .before .before .before .before .near .ensures (not-false _ (c .before .before .before .if1 .left)) in let e = c .before .before .wide .ensures in omega (arith, n .2, e)
+shared-slice-read-is-upper c =
+    let n = c .before .before .before .before .near .ensures (not-false _ (c .before .before .before .if1 .left)) in
+    let e = c .before .before .wide .ensures in
+    omega (arith, n .2, e)
 
 is-upper-requires : tie.Need-is-upper-requires
 is-upper-requires c κs = search needs
@@ -62,7 +65,11 @@ add-name : tie.Need-add-name
 add-name c = search needs
 
 put-names-requires : tie.Need-put-names-requires
-put-names-requires c κs = let n = c .before .before .before .before .before .before .before .near .ensures (not-false _ (c .before .before .before .before .before .before .if1 .left)) in let e = c .before .before .before .before .before .wide .ensures in let f = c .before .before .before .before .wide2 .ensures in (omega (arith, n .0, f), omega (arith, n .1, f), omega (arith, n .2, e), omega (arith, n .1, n .3, f), c .before .before .before .before .before .before .before .before .before .before .before .before .before .before .pre .3)
+put-names-requires c κs =
+    let n = c .before .before .before .before .before .before .before .near .ensures (not-false _ (c .before .before .before .before .before .before .if1 .left)) in
+    let e = c .before .before .before .before .before .wide .ensures in
+    let f = c .before .before .before .before .wide2 .ensures in
+    (omega (arith, n .0, f), omega (arith, n .1, f), omega (arith, n .2, e), omega (arith, n .1, n .3, f), c .before .before .before .before .before .before .before .before .before .before .before .before .before .before .pre .3)
 
 same-length : tie.Need-same-length
 same-length c = search needs
@@ -71,13 +78,19 @@ returns-3 : tie.Need-returns-3
 returns-3 c = ((λ e. absurd (true≢false (sym e))), λ _. c .before .before .before .put-names .ensures .1 (not-true _ (c .if3 .taken)))
 
 put-pair-requires : tie.Need-put-pair-requires
-put-pair-requires c κs = let n = c .before .before .before .before .before .before .before .before .before .before .before .before .near .ensures (not-false _ (c .before .before .before .before .before .before .before .before .before .before .before .if1 .left)) in omega (arith, n .3, c .before .before .before .before .put-names .kept .1 .1 .1 .1 .1 .0)
+put-pair-requires c κs =
+    let n = c .before .before .before .before .before .before .before .before .before .before .before .before .near .ensures (not-false _ (c .before .before .before .before .before .before .before .before .before .before .before .if1 .left)) in
+    omega (arith, n .3, c .before .before .before .before .put-names .kept .1 .1 .1 .1 .1 .0)
 
 same-length-2 : tie.Need-same-length-2
 same-length-2 c = search needs
 
 returns-4 : tie.Need-returns-4
-returns-4 c = let a = c .before .before .before .before .before .before .before .before .before .before .before .before .before .before .before .before .before .before .before .before .before .before .args in let n = c .before .before .before .before .before .before .before .before .before .before .before .before .before .before .before .near .ensures (not-false _ (c .before .before .before .before .before .before .before .before .before .before .before .before .before .before .if1 .left)) in let P = c .before .before .before .before .before .before .before .put-names .ensures .0 (not-false _ (c .before .before .before .before .if3 .left)) in ((λ _. called (a .src .now) (a .tree .now) (a .i) (a .at) _ _ _ (a .out .now) _ (c .before .before .before .before .before .before .before .before .before .before .before .before .before .before .before .before .before .before .before .before .before .before .pre .1) (c .before .before .before .before .before .before .before .before .before .before .before .before .before .wide .ensures) (c .before .before .before .before .before .before .before .before .before .before .before .before .wide2 .ensures) (omega (arith, n .0, c .before .before .before .before .before .before .before .before .before .before .before .before .wide2 .ensures)) (omega (arith, n .1, c .before .before .before .before .before .before .before .before .before .before .before .before .wide2 .ensures)) (omega (arith, n .2, c .before .before .before .before .before .before .before .before .before .before .before .before .before .wide .ensures)) (sym (c .before .before .before .before .before .before .before .before .before .before .is-upper .ensures) ∙ not-false _ (c .before .before .before .before .before .before .before .before .before .if2 .left)) (P .0) (omega arith) (adds-ahead _ (a .out .now) _ _ 60 32 (a .at) _ (P .1) (c .before .before .before .before .before .before .before .put-names .kept .1 .1 .1 .1 .1 .0) (omega (arith, n .1, n .3, c .before .before .before .before .before .before .before .before .before .before .before .before .wide2 .ensures)) (c .before .before .put-pair .ensures))), λ e. absurd (true≢false e))
+returns-4 c =
+    let a = c .before .before .before .before .before .before .before .before .before .before .before .before .before .before .before .before .before .before .before .before .before .before .args in
+    let n = c .before .before .before .before .before .before .before .before .before .before .before .before .before .before .before .near .ensures (not-false _ (c .before .before .before .before .before .before .before .before .before .before .before .before .before .before .if1 .left)) in
+    let P = c .before .before .before .before .before .before .before .put-names .ensures .0 (not-false _ (c .before .before .before .before .if3 .left)) in
+    ((λ _. called (a .src .now) (a .tree .now) (a .i) (a .at) _ _ _ (a .out .now) _ (c .before .before .before .before .before .before .before .before .before .before .before .before .before .before .before .before .before .before .before .before .before .before .pre .1) (c .before .before .before .before .before .before .before .before .before .before .before .before .before .wide .ensures) (c .before .before .before .before .before .before .before .before .before .before .before .before .wide2 .ensures) (omega (arith, n .0, c .before .before .before .before .before .before .before .before .before .before .before .before .wide2 .ensures)) (omega (arith, n .1, c .before .before .before .before .before .before .before .before .before .before .before .before .wide2 .ensures)) (omega (arith, n .2, c .before .before .before .before .before .before .before .before .before .before .before .before .before .wide .ensures)) (sym (c .before .before .before .before .before .before .before .before .before .before .is-upper .ensures) ∙ not-false _ (c .before .before .before .before .before .before .before .before .before .if2 .left)) (P .0) (omega arith) (adds-ahead _ (a .out .now) _ _ 60 32 (a .at) _ (P .1) (c .before .before .before .before .before .before .before .put-names .kept .1 .1 .1 .1 .1 .0) (omega (arith, n .1, n .3, c .before .before .before .before .before .before .before .before .before .before .before .before .wide2 .ensures)) (c .before .before .put-pair .ensures))), λ e. absurd (true≢false e))
 
 pub put-call-spec : {M : Type 1} → statement M
 put-call-spec =
