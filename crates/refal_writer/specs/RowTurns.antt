@@ -1,20 +1,22 @@
--- Turns of the walk over rows: the test of a row, and a row of terms.
-use Prim.Native.Nat.{ℕ, _*_, _≤_, _<_}
+-- Turns of the walk over rows: the test of a row, a sentence, and a row of terms.
+use Prim.Native.Nat.{ℕ, _+_, _*_, _≤_, _<_}
+use native.Mathlib.Omega.{arith}
 use mathlib.Core.Bool.{Bool, true, false, _&&_, true≢false}
 use mathlib.Core.List.{List, [], _∷_}
 use mathlib.Core.Path.{_≡_, refl, sym, ap, _∙_}
 use lib.Dec.{eqb, leb, ltb}
-use lib.ListN.{length}
+use lib.ListN.{length, getD}
 use borrow.Author.Tests.{leb-true, ltb-true, lt-ltb, le-leb}
 use Rattle.refal_rows.specs.Tests.{and-left, and-right}
-use Rattle.refal_ast.specs.Kinds.{nodeTerms}
+use Rattle.refal_ast.specs.Kinds.{nodeSentence, nodeTerms}
 use Rattle.refal_tree.specs.Forest.{row}
-use Rattle.refal_tree.specs.Rules.{rowOk}
+use Rattle.refal_tree.specs.Rules.{usesText, rowOk}
 use Rattle.refal_tree.specs.Ranges.{rowAt, kindAt, nextAt, okAt, ok-bad, stop-row}
-use Rattle.refal_tree.specs.FlattenRows.{opening}
+use Rattle.refal_tree.specs.FlattenRows.{opening, closing}
 use Rattle.refal_spelling.specs.Spell.{text, spelling}
 use Rattle.refal_writer.specs.SpelledRows.{spelledRow}
 use Rattle.refal_writer.specs.Spellings.{rowSpelled}
+use Rattle.refal_writer.specs.SpellingLaws.{row-plain}
 use Rattle.refal_writer.specs.Token.{textOf}
 
 -- row i of rows i to j may stand in the state st, and its next row is behind it and not past j
@@ -49,6 +51,22 @@ module _ (w : List ℕ) (i j st left : ℕ) where
       go false e =
           ok-bad w i j st left long more
           (λ lo hi. true≢false (sym (ap (λ (b : Bool). b && leb (nextAt w i) j) (lt-ltb i (nextAt w i) lo) ∙ le-leb (nextAt w i) j hi) ∙ e))
+
+-- ---- a sentence: nothing stands before it, `;` after it
+module _ (src w : List ℕ) (i st : ℕ) (e : kindAt w i ≡ nodeSentence) where
+  pub sentence-opening : textOf src (opening st (rowAt w i)) ≡ []
+  unfolding text
+  sentence-opening =
+      ap (λ (k : ℕ). textOf src (opening st (row k (getD w (7 * i + 1) 0) (getD w (7 * i + 2) 0) (getD w (7 * i + 3) 0) (getD w (7 * i + 4) 0) (getD w (7 * i + 5) 0)))) e
+
+  pub sentence-spelled : true ≡ spelledRow src w i
+  sentence-spelled =
+      row-plain src (kindAt w i) (getD w (7 * i + 2) 0) (getD w (7 * i + 3) 0) (getD w (7 * i + 1) 0)
+      (λ f. let z : nodeSentence ≡ 11 = sym e ∙ f in omega arith) (ap usesText e)
+
+pub sentence-closing : (src : List ℕ) (st k : ℕ) → k ≡ nodeSentence → 59 ∷ 32 ∷ [] ≡ textOf src (closing st k)
+unfolding text spelling
+sentence-closing src st k e = sym (ap (λ (x : ℕ). textOf src (closing st x)) e)
 
 -- ---- a row of terms: `=` before those that end a sentence
 abbrev pub equalsText : Bool → List ℕ

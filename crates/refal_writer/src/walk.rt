@@ -38,11 +38,14 @@ fn row_fits(tree: &[u32], i: usize, to: usize, st: u32, left: usize) -> bool
     row_ok(tree, i, st, left)
 }
 
-// What stands after the children of a row of the kind k.
+// What stands after the children of a row of the kind k, most often a sentence.
 fn put_closing(src: &[u8], st: u32, k: u32, at: usize, out: &mut [u8]) -> usize
     requires { ⌜ at ≤ 1152921504606846976 ⌝ }
     ensures { λ r. ⌜ Adds (textOf (now (src .entry)) (closing st k)) at r (now (out .entry)) (now (out .exit)) × (r ≤ at + 16) ⌝ }
 {
+    if k == 4 {
+        return put_mark(59, at, out);
+    }
     let from = least(at, out.len());
     let n = write_closing(src, st, k, &mut out[from..]);
     at + n

@@ -1,6 +1,9 @@
 -- `refal_writer::put::put_opening` meets its contract.
 use native.Mathlib.Omega.{arith}
-use Rattle.refal_writer.specs.Adds.{adds-rest}
+use mathlib.Core.List.{[]}
+use mathlib.Core.Path.{sym}
+use Rattle.refal_writer.specs.Adds.{adds-as, adds-none, adds-rest}
+use Rattle.refal_writer.specs.RowTurns.{sentence-opening, sentence-spelled}
 use borrow.Author.Needs.{needs}
 use Rattle.refal_writer.proofs.put.put_opening.Statement.{statement}
 use Rattle.refal_writer.proofs.put.put_opening.Tie as tie
@@ -18,6 +21,11 @@ mul-k c = search needs
 
 shared-slice-read-k : tie.Need-shared-slice-read-k
 shared-slice-read-k c = search needs
+
+returns : tie.Need-returns
+returns c =
+    let a = c .before .before .before .before .before .args in
+    (adds-as [] _ (sym (sentence-opening (a .src .now) (a .tree .now) (a .i) (a .st) (c .if1 .taken))) (adds-none (a .at) (a .out .now)), omega arith, sentence-spelled (a .src .now) (a .tree .now) (a .i) (a .st) (c .if1 .taken))
 
 add-d : tie.Need-add-d
 add-d c = search needs
@@ -70,8 +78,8 @@ row-spelled-requires c κs = search needs
 same-length : tie.Need-same-length
 same-length c = search needs
 
-returns : tie.Need-returns
-returns c = (adds-rest _ _ _ _ _ _ (c .before .before .before .before .before .least .ensures) (c .before .before .before .write-opening .ensures .0), omega arith, c .row-spelled .ensures)
+returns-2 : tie.Need-returns-2
+returns-2 c = (adds-rest _ _ _ _ _ _ (c .before .before .before .before .before .least .ensures) (c .before .before .before .write-opening .ensures .0), omega arith, c .row-spelled .ensures)
 
 pub put-opening-spec : {M : Type 1} → statement M
 put-opening-spec =
@@ -80,6 +88,7 @@ put-opening-spec =
     mul-w
     mul-k
     shared-slice-read-k
+    returns
     add-d
     mul-d
     shared-slice-read-d
@@ -97,4 +106,4 @@ put-opening-spec =
     add-t14
     row-spelled-requires
     same-length
-    returns)
+    returns-2)
