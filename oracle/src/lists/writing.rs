@@ -32,7 +32,37 @@ pub fn cases() -> Vec<Case> {
             put(&mut cases, &mut rng, words, src);
         }
     }
+    for src in runs() {
+        let (rows, bytes) = trees::of_source(src.as_bytes().to_vec());
+        put_around(&mut cases, trees::flat(&rows), bytes);
+    }
+    for small in ["F{Ab Ab Ab=s.c s.c s.c;}", "F{((<G (A)>))=;}"] {
+        let src = format!("{small}{}", " ".repeat(20));
+        for words in each_word_changed(&src) {
+            put(&mut cases, &mut rng, words, src.clone().into_bytes());
+        }
+    }
     cases
+}
+
+/// Names and variables of one length after each other, with bytes of the source behind them and without; brackets and calls that hold nothing but one
+/// another.
+fn runs() -> Vec<String> {
+    let mut all = Vec::new();
+    for length in 1..=15 {
+        let name = &"Ab-cD_9xyzKLmn0"[..length];
+        let index = &"a9_B-cdEfghijk1"[..length];
+        let text = format!("F{{{name} {name} {name} {name}=s.{index} e.{index} t.{index};}}");
+        all.push(format!("{text}{}", " ".repeat(20)));
+        all.push(text);
+    }
+    for inner in ["", "A", "A()", "(A)B"] {
+        all.push(format!(
+            "F{{(<G ((<Ab {inner}>))>)=<G <Ab-9 (<C {inner}>)>>;}}{}",
+            " ".repeat(20)
+        ));
+    }
+    all
 }
 
 /// Sources with every kind of node.
