@@ -1,11 +1,11 @@
 -- `refal_parser::block::block`, `refal_parser::block::condition`, `refal_parser::block::ending`, `refal_parser::block::sentence` meet their contracts: conditions, sentences and blocks as the machine reads them; the falling number is the depth left with the tokens left.
-use mathlib.Core.Path.{_≡_, refl, sym, ap, subst, _∙_}
-use Prim.Native.Nat.{ℕ, zero, suc, _+_, _-_, _<_, _≤_}
+use mathlib.Core.Path.{_≡_, refl, sym, ap, _∙_}
+use Prim.Native.Nat.{ℕ, _+_, _-_, _<_}
 use native.Mathlib.Omega.{arith}
 use lib.ListN.{length, getD}
-use Rattle.refal_ast.specs.Tree.{Terms, Conditions, c0, cTerms, cBlock, Sentences, s0, sTerms, sizeC, sizeS}
-use Rattle.refal_parser.specs.Machine.{State, pattern as inPattern, argument, matching, result, ending as inArgument, inCondition, inEnding, within, between, matched, conditioned, blocked, ended, lastEnd}
-use Rattle.refal_parser.specs.Ready.{Ready, tok, endBefore}
+use Rattle.refal_ast.specs.Tree.{Terms, c0, cTerms, cBlock, s0, sTerms, sizeC, sizeS}
+use Rattle.refal_parser.specs.Machine.{pattern as inPattern, argument, matching, result, ending as inArgument, inCondition, inEnding, between, matched, conditioned, blocked, ended, lastEnd}
+use Rattle.refal_parser.specs.Ready.{tok}
 use Rattle.refal_parser.specs.Writers.{wC, wS, withTerms, withBlock, addC, plain, block as endBlock, addS}
 use Rattle.refal_parser.specs.PostBlock.{CondsInv, BlockInv}
 use Rattle.refal_parser.proofs.TokenLaws.{ready-next, end-before}
@@ -77,69 +77,41 @@ abbrev sentence-below : ℕ → In 2 sentence-kinds.ps
 sentence-below t =
     and 2 sentence-kinds.ps (falls 2 sentence-kinds.ps _<_ μ-sentence t) sentence.Pre
 
+abbrev block-claims : ℕ → block-lts.Claims
+block-claims t = (present-reads.Asked, present-reads.Learnt, kind-reads.Asked, kind-reads.Learnt, sentence-below t, sentence.Post)
+
+abbrev condition-claims : ℕ → condition-lts.Claims
+condition-claims t = (span-from-reads.Asked, span-from-reads.Learnt, clause-reads.Asked, clause-reads.Learnt, kind-reads.Asked, kind-reads.Learnt, block-below t, block.Post, end-before-reads.Asked, end-before-reads.Learnt, put-span-reads.Asked, put-span-reads.Learnt, joins-reads.Asked, joins-reads.Learnt, pattern-reads.Asked, pattern-reads.Learnt)
+
+abbrev ending-claims : ℕ → ending-lts.Claims
+ending-claims t = (kind-reads.Asked, kind-reads.Learnt, clause-reads.Asked, clause-reads.Learnt, span-from-reads.Asked, span-from-reads.Learnt, present-reads.Asked, present-reads.Learnt, block-below t, block.Post, end-before-reads.Asked, end-before-reads.Learnt, put-span-reads.Asked, put-span-reads.Learnt)
+
+abbrev sentence-claims : ℕ → sentence-lts.Claims
+sentence-claims t = (pattern-reads.Asked, pattern-reads.Learnt, kind-reads.Asked, kind-reads.Learnt, condition-below t, condition.Post, ending-below t, ending.Post, span-from-reads.Asked, span-from-reads.Learnt, end-before-reads.Asked, end-before-reads.Learnt, put-span-reads.Asked, put-span-reads.Learnt)
+
 abbrev block-Inv-loop : block-lts.InvT-loop
 block-Inv-loop tokens rows₀ at n left under i₀ m₀ rows i m = BlockInv tokens rows₀ rows at n left i m
 
 abbrev block-μ-loop : block-lts.MeasureT-loop
 block-μ-loop tokens rows₀ at n left under i₀ m₀ rows i m = length tokens - i
 
--- src/block.rt:123:9
-block-present-requires : (t : ℕ) → block-lts.Need-present-requires (
-  present-reads.Asked,
-  present-reads.Learnt,
-  kind-reads.Asked,
-  kind-reads.Learnt,
-  sentence-below t,
-  sentence.Post,
-) (block-at t) block.Post block-Inv-loop block-μ-loop
+block-present-requires : (t : ℕ) → block-lts.Need-present-requires (block-claims t) (block-at t) block.Post block-Inv-loop block-μ-loop
 block-present-requires t c κs = search needs
 
--- src/block.rt:123:9
-block-returns : (t : ℕ) → block-lts.Need-returns (
-  present-reads.Asked,
-  present-reads.Learnt,
-  kind-reads.Asked,
-  kind-reads.Learnt,
-  sentence-below t,
-  sentence.Post,
-) (block-at t) block.Post block-Inv-loop block-μ-loop
+block-returns : (t : ℕ) → block-lts.Need-returns (block-claims t) (block-at t) block.Post block-Inv-loop block-μ-loop
 block-returns t c = let w = c .before .before .before .before .args .tokens .now in
     let at₀ = c .before .before .before .before .args .at in
     let left₀ = c .before .before .before .before .args .left in
     is-no (c .present .ensures) (λ p. open-none w at₀ left₀ (λ (d : ℕ). between d p s0) (c .before .if1 .taken))
 
--- src/block.rt:125:17
-block-sub-under : (t : ℕ) → block-lts.Need-sub-under (
-  present-reads.Asked,
-  present-reads.Learnt,
-  kind-reads.Asked,
-  kind-reads.Learnt,
-  sentence-below t,
-  sentence.Post,
-) (block-at t) block.Post block-Inv-loop block-μ-loop
+block-sub-under : (t : ℕ) → block-lts.Need-sub-under (block-claims t) (block-at t) block.Post block-Inv-loop block-μ-loop
 block-sub-under t c = search needs
 
--- src/block.rt:126:17
-block-add-i : (t : ℕ) → block-lts.Need-add-i (
-  present-reads.Asked,
-  present-reads.Learnt,
-  kind-reads.Asked,
-  kind-reads.Learnt,
-  sentence-below t,
-  sentence.Post,
-) (block-at t) block.Post block-Inv-loop block-μ-loop
+block-add-i : (t : ℕ) → block-lts.Need-add-i (block-claims t) (block-at t) block.Post block-Inv-loop block-μ-loop
 block-add-i t c = let pre₀ = c .before .before .before .pre .1 in
     let R = pre₀ .0 in omega arith
 
--- src/block.rt:128:5
-block-loop-holds : (t : ℕ) → block-lts.Need-loop-holds (
-  present-reads.Asked,
-  present-reads.Learnt,
-  kind-reads.Asked,
-  kind-reads.Learnt,
-  sentence-below t,
-  sentence.Post,
-) (block-at t) block.Post block-Inv-loop block-μ-loop
+block-loop-holds : (t : ℕ) → block-lts.Need-loop-holds (block-claims t) (block-at t) block.Post block-Inv-loop block-μ-loop
 unfolding sizeS wS
 block-loop-holds t c = let w = c .before .before .before .args .tokens .now in
     let at₀ = c .before .before .before .args .at in
@@ -147,143 +119,47 @@ block-loop-holds t c = let w = c .before .before .before .args .tokens .now in
     let pre₀ = c .before .before .before .pre .1 in
     record { v = s0; ready = ready-next _ _ (pre₀ .0) (other _ _ _ (pre₀ .2) refl); on = omega arith; few = omega arith; same = refl; rows = refl; count = omega arith; means = λ p. open-some w at₀ left₀ (λ (d : ℕ). between d p s0) (c .if1 .left) }
 
--- src/block.rt:128:11
-block-kind-requires : (t : ℕ) → block-lts.Need-kind-requires (
-  present-reads.Asked,
-  present-reads.Learnt,
-  kind-reads.Asked,
-  kind-reads.Learnt,
-  sentence-below t,
-  sentence.Post,
-) (block-at t) block.Post block-Inv-loop block-μ-loop
+block-kind-requires : (t : ℕ) → block-lts.Need-kind-requires (block-claims t) (block-at t) block.Post block-Inv-loop block-μ-loop
 block-kind-requires t c κs = c .loop .inv .ready
 
--- src/block.rt:129:12
-block-kind-requires-2 : (t : ℕ) → block-lts.Need-kind-requires-2 (
-  present-reads.Asked,
-  present-reads.Learnt,
-  kind-reads.Asked,
-  kind-reads.Learnt,
-  sentence-below t,
-  sentence.Post,
-) (block-at t) block.Post block-Inv-loop block-μ-loop
+block-kind-requires-2 : (t : ℕ) → block-lts.Need-kind-requires-2 (block-claims t) (block-at t) block.Post block-Inv-loop block-μ-loop
 block-kind-requires-2 t c κs = c .before .before .loop .inv .ready
 
--- src/block.rt:130:13
-block-present-requires-2 : (t : ℕ) → block-lts.Need-present-requires-2 (
-  present-reads.Asked,
-  present-reads.Learnt,
-  kind-reads.Asked,
-  kind-reads.Learnt,
-  sentence-below t,
-  sentence.Post,
-) (block-at t) block.Post block-Inv-loop block-μ-loop
+block-present-requires-2 : (t : ℕ) → block-lts.Need-present-requires-2 (block-claims t) (block-at t) block.Post block-Inv-loop block-μ-loop
 block-present-requires-2 t c κs = c .before .before .before .before .loop .inv .ready
 
--- src/block.rt:130:13
-block-same-length : (t : ℕ) → block-lts.Need-same-length (
-  present-reads.Asked,
-  present-reads.Learnt,
-  kind-reads.Asked,
-  kind-reads.Learnt,
-  sentence-below t,
-  sentence.Post,
-) (block-at t) block.Post block-Inv-loop block-μ-loop
+block-same-length : (t : ℕ) → block-lts.Need-same-length (block-claims t) (block-at t) block.Post block-Inv-loop block-μ-loop
 block-same-length t c = let I = c .before .before .before .before .before .loop .inv in
     I .same
 
--- src/block.rt:130:13
-block-returns-2 : (t : ℕ) → block-lts.Need-returns-2 (
-  present-reads.Asked,
-  present-reads.Learnt,
-  kind-reads.Asked,
-  kind-reads.Learnt,
-  sentence-below t,
-  sentence.Post,
-) (block-at t) block.Post block-Inv-loop block-μ-loop
+block-returns-2 : (t : ℕ) → block-lts.Need-returns-2 (block-claims t) (block-at t) block.Post block-Inv-loop block-μ-loop
 block-returns-2 t c = let I = c .before .before .before .before .before .loop .inv in
     is-no (c .present2 .ensures) (λ p. I .means p ∙ block-eof _ _ (I .ready) _ p (I .v) (λ e. c .before .before .before .if2 .taken (c .before .before .before .before .kind .ensures
     ∙ e)) (sym (c .before .before .kind2 .ensures) ∙ c .before .if3 .taken))
 
--- src/block.rt:132:13
-block-sentence-requires : (t : ℕ) → block-lts.Need-sentence-requires (
-  present-reads.Asked,
-  present-reads.Learnt,
-  kind-reads.Asked,
-  kind-reads.Learnt,
-  sentence-below t,
-  sentence.Post,
-) (block-at t) block.Post block-Inv-loop block-μ-loop
+block-sentence-requires : (t : ℕ) → block-lts.Need-sentence-requires (block-claims t) (block-at t) block.Post block-Inv-loop block-μ-loop
 block-sentence-requires t c κs = let pre₀ = c .before .before .before .before .before .before .before .before .before .pre .1 in
     let I = c .before .before .before .before .before .loop .inv in
     let R = I .ready in let o = I .on in let n = c .before .before .before .before .before .before .if1 .left in let g = pre₀ .0 in (omega arith, (I .ready, I .few))
 
--- src/block.rt:133:21
-block-enum-known-r : (t : ℕ) → block-lts.Need-enum-known-r (
-  present-reads.Asked,
-  present-reads.Learnt,
-  kind-reads.Asked,
-  kind-reads.Learnt,
-  sentence-below t,
-  sentence.Post,
-) (block-at t) block.Post block-Inv-loop block-μ-loop
+block-enum-known-r : (t : ℕ) → block-lts.Need-enum-known-r (block-claims t) (block-at t) block.Post block-Inv-loop block-μ-loop
 block-enum-known-r t c = search needs
 
--- src/block.rt:134:13
-block-enum-told : (t : ℕ) → block-lts.Need-enum-told (
-  present-reads.Asked,
-  present-reads.Learnt,
-  kind-reads.Asked,
-  kind-reads.Learnt,
-  sentence-below t,
-  sentence.Post,
-) (block-at t) block.Post block-Inv-loop block-μ-loop
+block-enum-told : (t : ℕ) → block-lts.Need-enum-told (block-claims t) (block-at t) block.Post block-Inv-loop block-μ-loop
 block-enum-told t c = search needs
 
--- src/block.rt:134:13
-block-same-length-2 : (t : ℕ) → block-lts.Need-same-length-2 (
-  present-reads.Asked,
-  present-reads.Learnt,
-  kind-reads.Asked,
-  kind-reads.Learnt,
-  sentence-below t,
-  sentence.Post,
-) (block-at t) block.Post block-Inv-loop block-μ-loop
+block-same-length-2 : (t : ℕ) → block-lts.Need-same-length-2 (block-claims t) (block-at t) block.Post block-Inv-loop block-μ-loop
 block-same-length-2 t c = search needs
 
--- src/block.rt:134:13
-block-returns-3 : (t : ℕ) → block-lts.Need-returns-3 (
-  present-reads.Asked,
-  present-reads.Learnt,
-  kind-reads.Asked,
-  kind-reads.Learnt,
-  sentence-below t,
-  sentence.Post,
-) (block-at t) block.Post block-Inv-loop block-μ-loop
+block-returns-3 : (t : ℕ) → block-lts.Need-returns-3 (block-claims t) (block-at t) block.Post block-Inv-loop block-μ-loop
 block-returns-3 t c = let I = c .before .before .before .before .before .before .before .before .before .before .loop .inv in
     is-no (c .enum-told .given .1) (λ p. I .means p ∙ block-more _ _ (I .ready) _ p (I .v) (λ e. c .before .before .before .before .before .before .before .before .if2 .taken (c .before .before .before .before .before .before .before .before .before .kind .ensures
     ∙ e)) (λ e. c .before .before .before .before .before .before .if3 .left (c .before .before .before .before .before .before .before .kind2 .ensures ∙ e)) ∙ c .before .before .before .before .sentence .ensures .no _ _ _ _ _ (c .enum-told .given .1) p (I .v))
 
--- src/block.rt:128:5
-block-loop-less : (t : ℕ) → block-lts.Need-loop-less (
-  present-reads.Asked,
-  present-reads.Learnt,
-  kind-reads.Asked,
-  kind-reads.Learnt,
-  sentence-below t,
-  sentence.Post,
-) (block-at t) block.Post block-Inv-loop block-μ-loop
+block-loop-less : (t : ℕ) → block-lts.Need-loop-less (block-claims t) (block-at t) block.Post block-Inv-loop block-μ-loop
 block-loop-less t c = let S = c .before .before .before .before .before .sentence .ensures .at _ _ (c .before .r .given .1) in let R = S .ready in let q = S .on in omega arith
 
--- src/block.rt:128:5
-block-loop-again : (t : ℕ) → block-lts.Need-loop-again (
-  present-reads.Asked,
-  present-reads.Learnt,
-  kind-reads.Asked,
-  kind-reads.Learnt,
-  sentence-below t,
-  sentence.Post,
-) (block-at t) block.Post block-Inv-loop block-μ-loop
+block-loop-again : (t : ℕ) → block-lts.Need-loop-again (block-claims t) (block-at t) block.Post block-Inv-loop block-μ-loop
 block-loop-again t c = let w = c .before .before .before .before .before .before .before .before .before .before .before .before .before .before .before .args .tokens .now in
     let i₀ = c .before .before .before .before .before .before .before .before .before .before .before .loop .i in
     let I = c .before .before .before .before .before .before .before .before .before .before .before .loop .inv in
@@ -300,37 +176,13 @@ block-loop-again t c = let w = c .before .before .before .before .before .before
           ∙ e)) (λ e. c .before .before .before .before .before .before .before .if3 .left (c .before .before .before .before .before .before .before .before .kind2 .ensures ∙ e)) ∙ S .means p (I .v);
     }
 
--- src/block.rt:139:16
-block-add-next : (t : ℕ) → block-lts.Need-add-next (
-  present-reads.Asked,
-  present-reads.Learnt,
-  kind-reads.Asked,
-  kind-reads.Learnt,
-  sentence-below t,
-  sentence.Post,
-) (block-at t) block.Post block-Inv-loop block-μ-loop
+block-add-next : (t : ℕ) → block-lts.Need-add-next (block-claims t) (block-at t) block.Post block-Inv-loop block-μ-loop
 block-add-next t c = let I = c .before .before .loop .inv in let R = I .ready in omega arith
 
--- src/block.rt:118:1
-block-same-length-3 : (t : ℕ) → block-lts.Need-same-length-3 (
-  present-reads.Asked,
-  present-reads.Learnt,
-  kind-reads.Asked,
-  kind-reads.Learnt,
-  sentence-below t,
-  sentence.Post,
-) (block-at t) block.Post block-Inv-loop block-μ-loop
+block-same-length-3 : (t : ℕ) → block-lts.Need-same-length-3 (block-claims t) (block-at t) block.Post block-Inv-loop block-μ-loop
 block-same-length-3 t c = search needs
 
--- src/block.rt:118:1
-block-returns-4 : (t : ℕ) → block-lts.Need-returns-4 (
-  present-reads.Asked,
-  present-reads.Learnt,
-  kind-reads.Asked,
-  kind-reads.Learnt,
-  sentence-below t,
-  sentence.Post,
-) (block-at t) block.Post block-Inv-loop block-μ-loop
+block-returns-4 : (t : ℕ) → block-lts.Need-returns-4 (block-claims t) (block-at t) block.Post block-Inv-loop block-μ-loop
 block-returns-4 t c = let w = c .before .before .before .before .before .before .args .tokens .now in
     let i₀ = c .before .before .loop .i in
     let I = c .before .before .loop .inv in
@@ -348,154 +200,28 @@ block-returns-4 t c = let w = c .before .before .before .before .before .before 
       means = λ p. I .means p ∙ block-close _ _ (I .ready) _ p (I .v) k₈;
     })
 
--- src/block.rt:35:17
-condition-add-start : (t : ℕ) → condition-lts.Need-add-start (
-  span-from-reads.Asked,
-  span-from-reads.Learnt,
-  clause-reads.Asked,
-  clause-reads.Learnt,
-  kind-reads.Asked,
-  kind-reads.Learnt,
-  block-below t,
-  block.Post,
-  end-before-reads.Asked,
-  end-before-reads.Learnt,
-  put-span-reads.Asked,
-  put-span-reads.Learnt,
-  joins-reads.Asked,
-  joins-reads.Learnt,
-  pattern-reads.Asked,
-  pattern-reads.Learnt,
-) (condition-at t) condition.Post
+condition-add-start : (t : ℕ) → condition-lts.Need-add-start (condition-claims t) (condition-at t) condition.Post
 condition-add-start t c = let pre₀ = c .before .before .pre .1 in
     let R = pre₀ .0 in let h = pre₀ .1 in omega arith
 
--- src/block.rt:36:17
-condition-add-first : (t : ℕ) → condition-lts.Need-add-first (
-  span-from-reads.Asked,
-  span-from-reads.Learnt,
-  clause-reads.Asked,
-  clause-reads.Learnt,
-  kind-reads.Asked,
-  kind-reads.Learnt,
-  block-below t,
-  block.Post,
-  end-before-reads.Asked,
-  end-before-reads.Learnt,
-  put-span-reads.Asked,
-  put-span-reads.Learnt,
-  joins-reads.Asked,
-  joins-reads.Learnt,
-  pattern-reads.Asked,
-  pattern-reads.Learnt,
-) (condition-at t) condition.Post
+condition-add-first : (t : ℕ) → condition-lts.Need-add-first (condition-claims t) (condition-at t) condition.Post
 condition-add-first t c = let pre₀ = c .before .before .before .pre .1 in
     let R = pre₀ .0 in let h = pre₀ .1 in omega arith
 
--- src/block.rt:37:9
-condition-clause-requires : (t : ℕ) → condition-lts.Need-clause-requires (
-  span-from-reads.Asked,
-  span-from-reads.Learnt,
-  clause-reads.Asked,
-  clause-reads.Learnt,
-  kind-reads.Asked,
-  kind-reads.Learnt,
-  block-below t,
-  block.Post,
-  end-before-reads.Asked,
-  end-before-reads.Learnt,
-  put-span-reads.Asked,
-  put-span-reads.Learnt,
-  joins-reads.Asked,
-  joins-reads.Learnt,
-  pattern-reads.Asked,
-  pattern-reads.Learnt,
-) (condition-at t) condition.Post
+condition-clause-requires : (t : ℕ) → condition-lts.Need-clause-requires (condition-claims t) (condition-at t) condition.Post
 condition-clause-requires t c κs = let pre₀ = c .before .before .before .before .pre .1 in
     let h = pre₀ .1 in ((ready-next _ _ (pre₀ .0) (other _ _ _ (pre₀ .2) refl)), omega arith, omega arith)
 
--- src/block.rt:38:17
-condition-enum-known-r : (t : ℕ) → condition-lts.Need-enum-known-r (
-  span-from-reads.Asked,
-  span-from-reads.Learnt,
-  clause-reads.Asked,
-  clause-reads.Learnt,
-  kind-reads.Asked,
-  kind-reads.Learnt,
-  block-below t,
-  block.Post,
-  end-before-reads.Asked,
-  end-before-reads.Learnt,
-  put-span-reads.Asked,
-  put-span-reads.Learnt,
-  joins-reads.Asked,
-  joins-reads.Learnt,
-  pattern-reads.Asked,
-  pattern-reads.Learnt,
-) (condition-at t) condition.Post
+condition-enum-known-r : (t : ℕ) → condition-lts.Need-enum-known-r (condition-claims t) (condition-at t) condition.Post
 condition-enum-known-r t c = search needs
 
--- src/block.rt:39:9
-condition-enum-told : (t : ℕ) → condition-lts.Need-enum-told (
-  span-from-reads.Asked,
-  span-from-reads.Learnt,
-  clause-reads.Asked,
-  clause-reads.Learnt,
-  kind-reads.Asked,
-  kind-reads.Learnt,
-  block-below t,
-  block.Post,
-  end-before-reads.Asked,
-  end-before-reads.Learnt,
-  put-span-reads.Asked,
-  put-span-reads.Learnt,
-  joins-reads.Asked,
-  joins-reads.Learnt,
-  pattern-reads.Asked,
-  pattern-reads.Learnt,
-) (condition-at t) condition.Post
+condition-enum-told : (t : ℕ) → condition-lts.Need-enum-told (condition-claims t) (condition-at t) condition.Post
 condition-enum-told t c = search needs
 
--- src/block.rt:39:9
-condition-same-length : (t : ℕ) → condition-lts.Need-same-length (
-  span-from-reads.Asked,
-  span-from-reads.Learnt,
-  clause-reads.Asked,
-  clause-reads.Learnt,
-  kind-reads.Asked,
-  kind-reads.Learnt,
-  block-below t,
-  block.Post,
-  end-before-reads.Asked,
-  end-before-reads.Learnt,
-  put-span-reads.Asked,
-  put-span-reads.Learnt,
-  joins-reads.Asked,
-  joins-reads.Learnt,
-  pattern-reads.Asked,
-  pattern-reads.Learnt,
-) (condition-at t) condition.Post
+condition-same-length : (t : ℕ) → condition-lts.Need-same-length (condition-claims t) (condition-at t) condition.Post
 condition-same-length t c = search needs
 
--- src/block.rt:39:9
-condition-returns : (t : ℕ) → condition-lts.Need-returns (
-  span-from-reads.Asked,
-  span-from-reads.Learnt,
-  clause-reads.Asked,
-  clause-reads.Learnt,
-  kind-reads.Asked,
-  kind-reads.Learnt,
-  block-below t,
-  block.Post,
-  end-before-reads.Asked,
-  end-before-reads.Learnt,
-  put-span-reads.Asked,
-  put-span-reads.Learnt,
-  joins-reads.Asked,
-  joins-reads.Learnt,
-  pattern-reads.Asked,
-  pattern-reads.Learnt,
-) (condition-at t) condition.Post
+condition-returns : (t : ℕ) → condition-lts.Need-returns (condition-claims t) (condition-at t) condition.Post
 condition-returns t c = let w = c .before .before .before .before .before .before .before .before .before .args .tokens .now in
     let at₀ = c .before .before .before .before .before .before .before .before .before .args .at in
     let left₀ = c .before .before .before .before .before .before .before .before .before .args .left in
@@ -503,68 +229,14 @@ condition-returns t c = let w = c .before .before .before .before .before .befor
     is-no (c .enum-told .given .1) (λ p s st f cs. cond-start _ _ (pre₀ .0) _ p s st f cs (ready-next _ _ (pre₀ .0) (other _ _ _ (pre₀ .2) refl)) (pre₀ .2)
     ∙ c .before .before .before .before .clause .ensures .no _ _ _ _ _ (c .enum-told .given .1) (argument p s st f cs (getD w (at₀ + 6 + 4) 0)) (λ (g : Terms) (e : ℕ). matched left₀ p s st f cs (getD w (at₀ + 6 + 4) 0) g e) (λ h t y z. refl))
 
--- src/block.rt:41:8
-condition-kind-requires : (t : ℕ) → condition-lts.Need-kind-requires (
-  span-from-reads.Asked,
-  span-from-reads.Learnt,
-  clause-reads.Asked,
-  clause-reads.Learnt,
-  kind-reads.Asked,
-  kind-reads.Learnt,
-  block-below t,
-  block.Post,
-  end-before-reads.Asked,
-  end-before-reads.Learnt,
-  put-span-reads.Asked,
-  put-span-reads.Learnt,
-  joins-reads.Asked,
-  joins-reads.Learnt,
-  pattern-reads.Asked,
-  pattern-reads.Learnt,
-) (condition-at t) condition.Post
+condition-kind-requires : (t : ℕ) → condition-lts.Need-kind-requires (condition-claims t) (condition-at t) condition.Post
 condition-kind-requires t c κs = let K = c .before .before .before .before .before .clause .ensures .at _ _ (c .before .r .given .1) in K .closed .ready
 
--- src/block.rt:42:19
-condition-add-row : (t : ℕ) → condition-lts.Need-add-row (
-  span-from-reads.Asked,
-  span-from-reads.Learnt,
-  clause-reads.Asked,
-  clause-reads.Learnt,
-  kind-reads.Asked,
-  kind-reads.Learnt,
-  block-below t,
-  block.Post,
-  end-before-reads.Asked,
-  end-before-reads.Learnt,
-  put-span-reads.Asked,
-  put-span-reads.Learnt,
-  joins-reads.Asked,
-  joins-reads.Learnt,
-  pattern-reads.Asked,
-  pattern-reads.Learnt,
-) (condition-at t) condition.Post
+condition-add-row : (t : ℕ) → condition-lts.Need-add-row (condition-claims t) (condition-at t) condition.Post
 condition-add-row t c = let K = c .before .before .before .before .before .before .before .clause .ensures .at _ _ (c .before .before .before .r .given .1) in
     let R = K .closed .ready in let o = K .closed .on in let v₁ = K .few in omega arith
 
--- src/block.rt:43:13
-condition-block-requires : (t : ℕ) → condition-lts.Need-block-requires (
-  span-from-reads.Asked,
-  span-from-reads.Learnt,
-  clause-reads.Asked,
-  clause-reads.Learnt,
-  kind-reads.Asked,
-  kind-reads.Learnt,
-  block-below t,
-  block.Post,
-  end-before-reads.Asked,
-  end-before-reads.Learnt,
-  put-span-reads.Asked,
-  put-span-reads.Learnt,
-  joins-reads.Asked,
-  joins-reads.Learnt,
-  pattern-reads.Asked,
-  pattern-reads.Learnt,
-) (condition-at t) condition.Post
+condition-block-requires : (t : ℕ) → condition-lts.Need-block-requires (condition-claims t) (condition-at t) condition.Post
 condition-block-requires t c κs = let w = c .before .before .before .before .before .before .before .before .before .before .before .before .before .args .tokens .now in
     let j₁ = c .before .before .before .before .r .given .0 .0 in
     let pre₀ = c .before .before .before .before .before .before .before .before .before .before .before .before .before .pre .1 in
@@ -574,88 +246,16 @@ condition-block-requires t c κs = let w = c .before .before .before .before .be
     let v₁ = K .few in
     let k₇ : getD w j₁ 0 ≡ 7 = sym (c .before .before .kind .ensures) ∙ c .before .if1 .taken in let g = pre₀ .0 in (omega arith, (R, omega arith, k₇))
 
--- src/block.rt:44:21
-condition-enum-known-r2 : (t : ℕ) → condition-lts.Need-enum-known-r2 (
-  span-from-reads.Asked,
-  span-from-reads.Learnt,
-  clause-reads.Asked,
-  clause-reads.Learnt,
-  kind-reads.Asked,
-  kind-reads.Learnt,
-  block-below t,
-  block.Post,
-  end-before-reads.Asked,
-  end-before-reads.Learnt,
-  put-span-reads.Asked,
-  put-span-reads.Learnt,
-  joins-reads.Asked,
-  joins-reads.Learnt,
-  pattern-reads.Asked,
-  pattern-reads.Learnt,
-) (condition-at t) condition.Post
+condition-enum-known-r2 : (t : ℕ) → condition-lts.Need-enum-known-r2 (condition-claims t) (condition-at t) condition.Post
 condition-enum-known-r2 t c = search needs
 
--- src/block.rt:45:13
-condition-enum-told-2 : (t : ℕ) → condition-lts.Need-enum-told-2 (
-  span-from-reads.Asked,
-  span-from-reads.Learnt,
-  clause-reads.Asked,
-  clause-reads.Learnt,
-  kind-reads.Asked,
-  kind-reads.Learnt,
-  block-below t,
-  block.Post,
-  end-before-reads.Asked,
-  end-before-reads.Learnt,
-  put-span-reads.Asked,
-  put-span-reads.Learnt,
-  joins-reads.Asked,
-  joins-reads.Learnt,
-  pattern-reads.Asked,
-  pattern-reads.Learnt,
-) (condition-at t) condition.Post
+condition-enum-told-2 : (t : ℕ) → condition-lts.Need-enum-told-2 (condition-claims t) (condition-at t) condition.Post
 condition-enum-told-2 t c = search needs
 
--- src/block.rt:45:13
-condition-same-length-2 : (t : ℕ) → condition-lts.Need-same-length-2 (
-  span-from-reads.Asked,
-  span-from-reads.Learnt,
-  clause-reads.Asked,
-  clause-reads.Learnt,
-  kind-reads.Asked,
-  kind-reads.Learnt,
-  block-below t,
-  block.Post,
-  end-before-reads.Asked,
-  end-before-reads.Learnt,
-  put-span-reads.Asked,
-  put-span-reads.Learnt,
-  joins-reads.Asked,
-  joins-reads.Learnt,
-  pattern-reads.Asked,
-  pattern-reads.Learnt,
-) (condition-at t) condition.Post
+condition-same-length-2 : (t : ℕ) → condition-lts.Need-same-length-2 (condition-claims t) (condition-at t) condition.Post
 condition-same-length-2 t c = search needs
 
--- src/block.rt:45:13
-condition-returns-2 : (t : ℕ) → condition-lts.Need-returns-2 (
-  span-from-reads.Asked,
-  span-from-reads.Learnt,
-  clause-reads.Asked,
-  clause-reads.Learnt,
-  kind-reads.Asked,
-  kind-reads.Learnt,
-  block-below t,
-  block.Post,
-  end-before-reads.Asked,
-  end-before-reads.Learnt,
-  put-span-reads.Asked,
-  put-span-reads.Learnt,
-  joins-reads.Asked,
-  joins-reads.Learnt,
-  pattern-reads.Asked,
-  pattern-reads.Learnt,
-) (condition-at t) condition.Post
+condition-returns-2 : (t : ℕ) → condition-lts.Need-returns-2 (condition-claims t) (condition-at t) condition.Post
 condition-returns-2 t c = let w = c .before .before .before .before .before .before .before .before .before .before .before .before .before .before .before .before .before .before .args .tokens .now in
     let j₁ = c .before .before .before .before .before .before .before .before .before .r .given .0 .0 in
     let at₀ = c .before .before .before .before .before .before .before .before .before .before .before .before .before .before .before .before .before .before .args .at in
@@ -668,183 +268,39 @@ condition-returns-2 t c = let w = c .before .before .before .before .before .bef
     ∙ match-block _ _ (K .closed .ready) _ p s st f cs (getD w (at₀ + 6 + 4) 0) (K .g) (K .closed .e) k₇
     ∙ c .before .before .before .before .block .ensures .no _ _ _ _ _ (c .enum-told2 .given .1) (inCondition p s st f cs (getD w (at₀ + 6 + 4) 0) (K .g)))
 
--- src/block.rt:47:50
-condition-span-from-requires : (t : ℕ) → condition-lts.Need-span-from-requires (
-  span-from-reads.Asked,
-  span-from-reads.Learnt,
-  clause-reads.Asked,
-  clause-reads.Learnt,
-  kind-reads.Asked,
-  kind-reads.Learnt,
-  block-below t,
-  block.Post,
-  end-before-reads.Asked,
-  end-before-reads.Learnt,
-  put-span-reads.Asked,
-  put-span-reads.Learnt,
-  joins-reads.Asked,
-  joins-reads.Learnt,
-  pattern-reads.Asked,
-  pattern-reads.Learnt,
-) (condition-at t) condition.Post
+condition-span-from-requires : (t : ℕ) → condition-lts.Need-span-from-requires (condition-claims t) (condition-at t) condition.Post
 condition-span-from-requires t c κs = let pre₀ = c .before .before .pre .1 in
     (ready-next _ _ (pre₀ .0) (other _ _ _ (pre₀ .2) refl))
 
--- src/block.rt:47:76
-condition-end-before-requires : (t : ℕ) → condition-lts.Need-end-before-requires (
-  span-from-reads.Asked,
-  span-from-reads.Learnt,
-  clause-reads.Asked,
-  clause-reads.Learnt,
-  kind-reads.Asked,
-  kind-reads.Learnt,
-  block-below t,
-  block.Post,
-  end-before-reads.Asked,
-  end-before-reads.Learnt,
-  put-span-reads.Asked,
-  put-span-reads.Learnt,
-  joins-reads.Asked,
-  joins-reads.Learnt,
-  pattern-reads.Asked,
-  pattern-reads.Learnt,
-) (condition-at t) condition.Post
+condition-end-before-requires : (t : ℕ) → condition-lts.Need-end-before-requires (condition-claims t) (condition-at t) condition.Post
 condition-end-before-requires t c κs = let B = c .before .before .before .before .before .block .ensures .at _ _ (c .before .r2 .given .1) in
     let Z = B .ready in let q = B .on in let v = B .few in (B .ready, omega arith)
 
--- src/block.rt:47:9
-condition-put-span-requires : (t : ℕ) → condition-lts.Need-put-span-requires (
-  span-from-reads.Asked,
-  span-from-reads.Learnt,
-  clause-reads.Asked,
-  clause-reads.Learnt,
-  kind-reads.Asked,
-  kind-reads.Learnt,
-  block-below t,
-  block.Post,
-  end-before-reads.Asked,
-  end-before-reads.Learnt,
-  put-span-reads.Asked,
-  put-span-reads.Learnt,
-  joins-reads.Asked,
-  joins-reads.Learnt,
-  pattern-reads.Asked,
-  pattern-reads.Learnt,
-) (condition-at t) condition.Post
+condition-put-span-requires : (t : ℕ) → condition-lts.Need-put-span-requires (condition-claims t) (condition-at t) condition.Post
 condition-put-span-requires t c κs = let K = c .before .before .before .before .before .before .before .before .before .before .before .before .before .before .before .before .clause .ensures .at _ _ (c .before .before .before .before .before .before .before .before .before .before .before .before .r .given .1) in
     let B = c .before .before .before .before .before .before .before .block .ensures .at _ _ (c .before .before .before .r2 .given .1) in
     let R = K .closed .ready in
     let o = K .closed .on in let v₁ = K .few in let Z = B .ready in let q = B .on in let v = B .few in (omega arith, omega arith)
 
--- src/block.rt:48:70
-condition-end-before-requires-2 : (t : ℕ) → condition-lts.Need-end-before-requires-2 (
-  span-from-reads.Asked,
-  span-from-reads.Learnt,
-  clause-reads.Asked,
-  clause-reads.Learnt,
-  kind-reads.Asked,
-  kind-reads.Learnt,
-  block-below t,
-  block.Post,
-  end-before-reads.Asked,
-  end-before-reads.Learnt,
-  put-span-reads.Asked,
-  put-span-reads.Learnt,
-  joins-reads.Asked,
-  joins-reads.Learnt,
-  pattern-reads.Asked,
-  pattern-reads.Learnt,
-) (condition-at t) condition.Post
+condition-end-before-requires-2 : (t : ℕ) → condition-lts.Need-end-before-requires-2 (condition-claims t) (condition-at t) condition.Post
 condition-end-before-requires-2 t c κs = let K = c .before .before .before .before .before .before .before .before .before .before .before .before .before .before .clause .ensures .at _ _ (c .before .before .before .before .before .before .before .before .before .before .r .given .1) in
     let Q = c .before .before .before .before .before .pattern .ensures .at _ _ (c .before .r3 .given .1) in let o = K .closed .on in let q = Q .on in (Q .ready, omega arith)
 
--- src/block.rt:48:9
-condition-put-span-requires-2 : (t : ℕ) → condition-lts.Need-put-span-requires-2 (
-  span-from-reads.Asked,
-  span-from-reads.Learnt,
-  clause-reads.Asked,
-  clause-reads.Learnt,
-  kind-reads.Asked,
-  kind-reads.Learnt,
-  block-below t,
-  block.Post,
-  end-before-reads.Asked,
-  end-before-reads.Learnt,
-  put-span-reads.Asked,
-  put-span-reads.Learnt,
-  joins-reads.Asked,
-  joins-reads.Learnt,
-  pattern-reads.Asked,
-  pattern-reads.Learnt,
-) (condition-at t) condition.Post
+condition-put-span-requires-2 : (t : ℕ) → condition-lts.Need-put-span-requires-2 (condition-claims t) (condition-at t) condition.Post
 condition-put-span-requires-2 t c κs = let pre₀ = c .before .before .before .before .before .before .before .before .before .before .before .before .before .before .before .before .before .before .before .before .before .before .before .before .before .pre .1 in
     let B = c .before .before .before .before .before .before .before .before .before .before .before .block .ensures .at _ _ (c .before .before .before .before .before .before .before .r2 .given .1) in
     let Z = B .ready in let q = B .on in let v = B .few in let h = pre₀ .1 in let g = pre₀ .0 in (omega arith, omega arith)
 
--- src/block.rt:49:9
-condition-joins-requires : (t : ℕ) → condition-lts.Need-joins-requires (
-  span-from-reads.Asked,
-  span-from-reads.Learnt,
-  clause-reads.Asked,
-  clause-reads.Learnt,
-  kind-reads.Asked,
-  kind-reads.Learnt,
-  block-below t,
-  block.Post,
-  end-before-reads.Asked,
-  end-before-reads.Learnt,
-  put-span-reads.Asked,
-  put-span-reads.Learnt,
-  joins-reads.Asked,
-  joins-reads.Learnt,
-  pattern-reads.Asked,
-  pattern-reads.Learnt,
-) (condition-at t) condition.Post
+condition-joins-requires : (t : ℕ) → condition-lts.Need-joins-requires (condition-claims t) (condition-at t) condition.Post
 condition-joins-requires t c κs = let B = c .before .before .before .before .before .before .before .before .before .before .before .before .before .before .block .ensures .at _ _ (c .before .before .before .before .before .before .before .before .before .before .r2 .given .1) in B .ready
 
--- src/block.rt:49:9
-condition-same-length-3 : (t : ℕ) → condition-lts.Need-same-length-3 (
-  span-from-reads.Asked,
-  span-from-reads.Learnt,
-  clause-reads.Asked,
-  clause-reads.Learnt,
-  kind-reads.Asked,
-  kind-reads.Learnt,
-  block-below t,
-  block.Post,
-  end-before-reads.Asked,
-  end-before-reads.Learnt,
-  put-span-reads.Asked,
-  put-span-reads.Learnt,
-  joins-reads.Asked,
-  joins-reads.Learnt,
-  pattern-reads.Asked,
-  pattern-reads.Learnt,
-) (condition-at t) condition.Post
+condition-same-length-3 : (t : ℕ) → condition-lts.Need-same-length-3 (condition-claims t) (condition-at t) condition.Post
 condition-same-length-3 t c = c .before .before .before .put-span2 .kept .0
     ∙ c .before .before .before .before .before .before .before .put-span .kept .0
     ∙ c .before .before .before .before .before .before .before .before .before .before .before .before .before .before .before .block .kept .1 .0
     ∙ c .before .before .before .before .before .before .before .before .before .before .before .before .before .before .before .before .before .before .before .before .before .before .before .before .clause .kept .1 .0
 
--- src/block.rt:49:9
-condition-returns-3 : (t : ℕ) → condition-lts.Need-returns-3 (
-  span-from-reads.Asked,
-  span-from-reads.Learnt,
-  clause-reads.Asked,
-  clause-reads.Learnt,
-  kind-reads.Asked,
-  kind-reads.Learnt,
-  block-below t,
-  block.Post,
-  end-before-reads.Asked,
-  end-before-reads.Learnt,
-  put-span-reads.Asked,
-  put-span-reads.Learnt,
-  joins-reads.Asked,
-  joins-reads.Learnt,
-  pattern-reads.Asked,
-  pattern-reads.Learnt,
-) (condition-at t) condition.Post
+condition-returns-3 : (t : ℕ) → condition-lts.Need-returns-3 (condition-claims t) (condition-at t) condition.Post
 condition-returns-3 t c = let w = c .before .before .before .before .before .before .before .before .before .before .before .before .before .before .before .before .before .before .before .before .before .before .before .before .before .before .before .before .before .args .tokens .now in
     let b₀ = c .before .before .before .before .before .before .before .before .before .before .before .before .before .before .before .before .before .before .before .before .before .before .before .before .before .before .before .before .before .args .rows .now in
     let j₁ = c .before .before .before .before .before .before .before .before .before .before .before .before .before .before .before .before .before .before .before .before .r .given .0 .0 in
@@ -883,110 +339,20 @@ condition-returns-3 t c = let w = c .before .before .before .before .before .bef
           ∙ c .joins .ensures .no a b k d e q left₀ p s st f (cBlock cs (getD w (at₀ + 6 + 4) 0) (K .g) (getD w (at₀ + 6 + 4) 0) (B .v) (B .t .to) (B .t .to));
     }
 
--- src/block.rt:51:9
-condition-pattern-requires : (t : ℕ) → condition-lts.Need-pattern-requires (
-  span-from-reads.Asked,
-  span-from-reads.Learnt,
-  clause-reads.Asked,
-  clause-reads.Learnt,
-  kind-reads.Asked,
-  kind-reads.Learnt,
-  block-below t,
-  block.Post,
-  end-before-reads.Asked,
-  end-before-reads.Learnt,
-  put-span-reads.Asked,
-  put-span-reads.Learnt,
-  joins-reads.Asked,
-  joins-reads.Learnt,
-  pattern-reads.Asked,
-  pattern-reads.Learnt,
-) (condition-at t) condition.Post
+condition-pattern-requires : (t : ℕ) → condition-lts.Need-pattern-requires (condition-claims t) (condition-at t) condition.Post
 condition-pattern-requires t c κs = let K = c .before .before .before .before .before .before .before .before .clause .ensures .at _ _ (c .before .before .before .before .r .given .1) in
     let R = K .closed .ready in let o = K .closed .on in let v₁ = K .few in (R, omega arith)
 
--- src/block.rt:52:17
-condition-enum-known-r3 : (t : ℕ) → condition-lts.Need-enum-known-r3 (
-  span-from-reads.Asked,
-  span-from-reads.Learnt,
-  clause-reads.Asked,
-  clause-reads.Learnt,
-  kind-reads.Asked,
-  kind-reads.Learnt,
-  block-below t,
-  block.Post,
-  end-before-reads.Asked,
-  end-before-reads.Learnt,
-  put-span-reads.Asked,
-  put-span-reads.Learnt,
-  joins-reads.Asked,
-  joins-reads.Learnt,
-  pattern-reads.Asked,
-  pattern-reads.Learnt,
-) (condition-at t) condition.Post
+condition-enum-known-r3 : (t : ℕ) → condition-lts.Need-enum-known-r3 (condition-claims t) (condition-at t) condition.Post
 condition-enum-known-r3 t c = search needs
 
--- src/block.rt:53:9
-condition-enum-told-3 : (t : ℕ) → condition-lts.Need-enum-told-3 (
-  span-from-reads.Asked,
-  span-from-reads.Learnt,
-  clause-reads.Asked,
-  clause-reads.Learnt,
-  kind-reads.Asked,
-  kind-reads.Learnt,
-  block-below t,
-  block.Post,
-  end-before-reads.Asked,
-  end-before-reads.Learnt,
-  put-span-reads.Asked,
-  put-span-reads.Learnt,
-  joins-reads.Asked,
-  joins-reads.Learnt,
-  pattern-reads.Asked,
-  pattern-reads.Learnt,
-) (condition-at t) condition.Post
+condition-enum-told-3 : (t : ℕ) → condition-lts.Need-enum-told-3 (condition-claims t) (condition-at t) condition.Post
 condition-enum-told-3 t c = search needs
 
--- src/block.rt:53:9
-condition-same-length-4 : (t : ℕ) → condition-lts.Need-same-length-4 (
-  span-from-reads.Asked,
-  span-from-reads.Learnt,
-  clause-reads.Asked,
-  clause-reads.Learnt,
-  kind-reads.Asked,
-  kind-reads.Learnt,
-  block-below t,
-  block.Post,
-  end-before-reads.Asked,
-  end-before-reads.Learnt,
-  put-span-reads.Asked,
-  put-span-reads.Learnt,
-  joins-reads.Asked,
-  joins-reads.Learnt,
-  pattern-reads.Asked,
-  pattern-reads.Learnt,
-) (condition-at t) condition.Post
+condition-same-length-4 : (t : ℕ) → condition-lts.Need-same-length-4 (condition-claims t) (condition-at t) condition.Post
 condition-same-length-4 t c = search needs
 
--- src/block.rt:53:9
-condition-returns-4 : (t : ℕ) → condition-lts.Need-returns-4 (
-  span-from-reads.Asked,
-  span-from-reads.Learnt,
-  clause-reads.Asked,
-  clause-reads.Learnt,
-  kind-reads.Asked,
-  kind-reads.Learnt,
-  block-below t,
-  block.Post,
-  end-before-reads.Asked,
-  end-before-reads.Learnt,
-  put-span-reads.Asked,
-  put-span-reads.Learnt,
-  joins-reads.Asked,
-  joins-reads.Learnt,
-  pattern-reads.Asked,
-  pattern-reads.Learnt,
-) (condition-at t) condition.Post
+condition-returns-4 : (t : ℕ) → condition-lts.Need-returns-4 (condition-claims t) (condition-at t) condition.Post
 condition-returns-4 t c = let w = c .before .before .before .before .before .before .before .before .before .before .before .before .before .before .before .before .before .before .args .tokens .now in
     let at₀ = c .before .before .before .before .before .before .before .before .before .before .before .before .before .before .before .before .before .before .args .at in
     let left₀ = c .before .before .before .before .before .before .before .before .before .before .before .before .before .before .before .before .before .before .args .left in
@@ -998,69 +364,15 @@ condition-returns-4 t c = let w = c .before .before .before .before .before .bef
     ∙ e))
     ∙ c .before .before .before .before .pattern .ensures .no _ _ _ _ _ (c .enum-told3 .given .1) (matching p s st f cs (getD w (at₀ + 6 + 4) 0) (K .g) (K .closed .e)) p s st (λ (h : Terms). f) (λ (h : Terms). cTerms cs (getD w (at₀ + 6 + 4) 0) (K .g) h (lastEnd h (K .closed .e))) (λ h t y z. refl))
 
--- src/block.rt:55:5
-condition-put-span-requires-3 : (t : ℕ) → condition-lts.Need-put-span-requires-3 (
-  span-from-reads.Asked,
-  span-from-reads.Learnt,
-  clause-reads.Asked,
-  clause-reads.Learnt,
-  kind-reads.Asked,
-  kind-reads.Learnt,
-  block-below t,
-  block.Post,
-  end-before-reads.Asked,
-  end-before-reads.Learnt,
-  put-span-reads.Asked,
-  put-span-reads.Learnt,
-  joins-reads.Asked,
-  joins-reads.Learnt,
-  pattern-reads.Asked,
-  pattern-reads.Learnt,
-) (condition-at t) condition.Post
+condition-put-span-requires-3 : (t : ℕ) → condition-lts.Need-put-span-requires-3 (condition-claims t) (condition-at t) condition.Post
 condition-put-span-requires-3 t c κs = let pre₀ = c .before .before .before .before .before .before .before .before .before .before .before .before .before .before .before .before .before .before .before .before .before .pre .1 in
     let Q = c .before .before .before .before .before .before .before .pattern .ensures .at _ _ (c .before .before .before .r3 .given .1) in
     let Z = Q .ready in let v = Q .few in let h = pre₀ .1 in let g = pre₀ .0 in (omega arith, omega arith)
 
--- src/block.rt:31:1
-condition-same-length-5 : (t : ℕ) → condition-lts.Need-same-length-5 (
-  span-from-reads.Asked,
-  span-from-reads.Learnt,
-  clause-reads.Asked,
-  clause-reads.Learnt,
-  kind-reads.Asked,
-  kind-reads.Learnt,
-  block-below t,
-  block.Post,
-  end-before-reads.Asked,
-  end-before-reads.Learnt,
-  put-span-reads.Asked,
-  put-span-reads.Learnt,
-  joins-reads.Asked,
-  joins-reads.Learnt,
-  pattern-reads.Asked,
-  pattern-reads.Learnt,
-) (condition-at t) condition.Post
+condition-same-length-5 : (t : ℕ) → condition-lts.Need-same-length-5 (condition-claims t) (condition-at t) condition.Post
 condition-same-length-5 t c = search needs
 
--- src/block.rt:31:1
-condition-returns-5 : (t : ℕ) → condition-lts.Need-returns-5 (
-  span-from-reads.Asked,
-  span-from-reads.Learnt,
-  clause-reads.Asked,
-  clause-reads.Learnt,
-  kind-reads.Asked,
-  kind-reads.Learnt,
-  block-below t,
-  block.Post,
-  end-before-reads.Asked,
-  end-before-reads.Learnt,
-  put-span-reads.Asked,
-  put-span-reads.Learnt,
-  joins-reads.Asked,
-  joins-reads.Learnt,
-  pattern-reads.Asked,
-  pattern-reads.Learnt,
-) (condition-at t) condition.Post
+condition-returns-5 : (t : ℕ) → condition-lts.Need-returns-5 (condition-claims t) (condition-at t) condition.Post
 condition-returns-5 t c = let w = c .before .before .before .before .before .before .before .before .before .before .before .before .before .before .before .before .before .before .before .before .before .before .before .before .args .tokens .now in
     let b₀ = c .before .before .before .before .before .before .before .before .before .before .before .before .before .before .before .before .before .before .before .before .before .before .before .before .args .rows .now in
     let at₀ = c .before .before .before .before .before .before .before .before .before .before .before .before .before .before .before .before .before .before .before .before .before .before .before .before .args .at in
@@ -1086,82 +398,18 @@ condition-returns-5 t c = let w = c .before .before .before .before .before .bef
           ∙ Q .means (matching p s st f cs (getD w (at₀ + 6 + 4) 0) (K .g) (K .closed .e)) p s st (λ (h : Terms). f) (λ (h : Terms). cTerms cs (getD w (at₀ + 6 + 4) 0) (K .g) h (lastEnd h (K .closed .e))) (λ h t y z. refl);
     })
 
--- src/block.rt:64:8
-ending-kind-requires : (t : ℕ) → ending-lts.Need-kind-requires (
-  kind-reads.Asked,
-  kind-reads.Learnt,
-  clause-reads.Asked,
-  clause-reads.Learnt,
-  span-from-reads.Asked,
-  span-from-reads.Learnt,
-  present-reads.Asked,
-  present-reads.Learnt,
-  block-below t,
-  block.Post,
-  end-before-reads.Asked,
-  end-before-reads.Learnt,
-  put-span-reads.Asked,
-  put-span-reads.Learnt,
-) (ending-at t) ending.Post
+ending-kind-requires : (t : ℕ) → ending-lts.Need-kind-requires (ending-claims t) (ending-at t) ending.Post
 ending-kind-requires t c κs = let pre₀ = c .before .before .pre .1 in
     pre₀ .0
 
--- src/block.rt:65:9
-ending-clause-requires : (t : ℕ) → ending-lts.Need-clause-requires (
-  kind-reads.Asked,
-  kind-reads.Learnt,
-  clause-reads.Asked,
-  clause-reads.Learnt,
-  span-from-reads.Asked,
-  span-from-reads.Learnt,
-  present-reads.Asked,
-  present-reads.Learnt,
-  block-below t,
-  block.Post,
-  end-before-reads.Asked,
-  end-before-reads.Learnt,
-  put-span-reads.Asked,
-  put-span-reads.Learnt,
-) (ending-at t) ending.Post
+ending-clause-requires : (t : ℕ) → ending-lts.Need-clause-requires (ending-claims t) (ending-at t) ending.Post
 ending-clause-requires t c κs = let pre₀ = c .before .before .before .before .before .pre .1 in
     let h = pre₀ .1 in (pre₀ .0, omega arith, omega arith)
 
--- src/block.rt:65:9
-ending-same-length : (t : ℕ) → ending-lts.Need-same-length (
-  kind-reads.Asked,
-  kind-reads.Learnt,
-  clause-reads.Asked,
-  clause-reads.Learnt,
-  span-from-reads.Asked,
-  span-from-reads.Learnt,
-  present-reads.Asked,
-  present-reads.Learnt,
-  block-below t,
-  block.Post,
-  end-before-reads.Asked,
-  end-before-reads.Learnt,
-  put-span-reads.Asked,
-  put-span-reads.Learnt,
-) (ending-at t) ending.Post
+ending-same-length : (t : ℕ) → ending-lts.Need-same-length (ending-claims t) (ending-at t) ending.Post
 ending-same-length t c = search needs
 
--- src/block.rt:65:9
-ending-returns : (t : ℕ) → ending-lts.Need-returns (
-  kind-reads.Asked,
-  kind-reads.Learnt,
-  clause-reads.Asked,
-  clause-reads.Learnt,
-  span-from-reads.Asked,
-  span-from-reads.Learnt,
-  present-reads.Asked,
-  present-reads.Learnt,
-  block-below t,
-  block.Post,
-  end-before-reads.Asked,
-  end-before-reads.Learnt,
-  put-span-reads.Asked,
-  put-span-reads.Learnt,
-) (ending-at t) ending.Post
+ending-returns : (t : ℕ) → ending-lts.Need-returns (ending-claims t) (ending-at t) ending.Post
 ending-returns t c = let left₀ = c .before .before .before .before .before .before .before .before .args .left in
     let pre₀ = c .before .before .before .before .before .before .before .before .pre .1 in
     record {
@@ -1183,143 +431,31 @@ ending-returns t c = let left₀ = c .before .before .before .before .before .be
           ∙ c .before .before .clause .ensures .no a b k d e q (result p s st f cs) (λ (g : Terms) (b : ℕ). between left₀ p (sTerms s st f cs g b)) (λ h t y z. refl);
     }
 
--- src/block.rt:67:17
-ending-add-start : (t : ℕ) → ending-lts.Need-add-start (
-  kind-reads.Asked,
-  kind-reads.Learnt,
-  clause-reads.Asked,
-  clause-reads.Learnt,
-  span-from-reads.Asked,
-  span-from-reads.Learnt,
-  present-reads.Asked,
-  present-reads.Learnt,
-  block-below t,
-  block.Post,
-  end-before-reads.Asked,
-  end-before-reads.Learnt,
-  put-span-reads.Asked,
-  put-span-reads.Learnt,
-) (ending-at t) ending.Post
+ending-add-start : (t : ℕ) → ending-lts.Need-add-start (ending-claims t) (ending-at t) ending.Post
 ending-add-start t c = let pre₀ = c .before .before .before .before .pre .1 in
     let R = pre₀ .0 in let h = pre₀ .1 in omega arith
 
--- src/block.rt:68:17
-ending-add-first : (t : ℕ) → ending-lts.Need-add-first (
-  kind-reads.Asked,
-  kind-reads.Learnt,
-  clause-reads.Asked,
-  clause-reads.Learnt,
-  span-from-reads.Asked,
-  span-from-reads.Learnt,
-  present-reads.Asked,
-  present-reads.Learnt,
-  block-below t,
-  block.Post,
-  end-before-reads.Asked,
-  end-before-reads.Learnt,
-  put-span-reads.Asked,
-  put-span-reads.Learnt,
-) (ending-at t) ending.Post
+ending-add-first : (t : ℕ) → ending-lts.Need-add-first (ending-claims t) (ending-at t) ending.Post
 ending-add-first t c = let pre₀ = c .before .before .before .before .before .pre .1 in
     let R = pre₀ .0 in let h = pre₀ .1 in omega arith
 
--- src/block.rt:69:9
-ending-clause-requires-2 : (t : ℕ) → ending-lts.Need-clause-requires-2 (
-  kind-reads.Asked,
-  kind-reads.Learnt,
-  clause-reads.Asked,
-  clause-reads.Learnt,
-  span-from-reads.Asked,
-  span-from-reads.Learnt,
-  present-reads.Asked,
-  present-reads.Learnt,
-  block-below t,
-  block.Post,
-  end-before-reads.Asked,
-  end-before-reads.Learnt,
-  put-span-reads.Asked,
-  put-span-reads.Learnt,
-) (ending-at t) ending.Post
+ending-clause-requires-2 : (t : ℕ) → ending-lts.Need-clause-requires-2 (ending-claims t) (ending-at t) ending.Post
 ending-clause-requires-2 t c κs = let w = c .before .before .before .before .before .before .args .tokens .now in
     let at₀ = c .before .before .before .before .before .before .args .at in
     let pre₀ = c .before .before .before .before .before .before .pre .1 in
     let k₁₃ : getD w at₀ 0 ≡ 13 = sym (c .before .before .before .kind .ensures) ∙ c .before .before .if1 .left in
     let h = pre₀ .1 in ((ready-next _ _ (pre₀ .0) (other _ _ _ k₁₃ refl)), omega arith, omega arith)
 
--- src/block.rt:70:17
-ending-enum-known-r : (t : ℕ) → ending-lts.Need-enum-known-r (
-  kind-reads.Asked,
-  kind-reads.Learnt,
-  clause-reads.Asked,
-  clause-reads.Learnt,
-  span-from-reads.Asked,
-  span-from-reads.Learnt,
-  present-reads.Asked,
-  present-reads.Learnt,
-  block-below t,
-  block.Post,
-  end-before-reads.Asked,
-  end-before-reads.Learnt,
-  put-span-reads.Asked,
-  put-span-reads.Learnt,
-) (ending-at t) ending.Post
+ending-enum-known-r : (t : ℕ) → ending-lts.Need-enum-known-r (ending-claims t) (ending-at t) ending.Post
 ending-enum-known-r t c = search needs
 
--- src/block.rt:71:9
-ending-enum-told : (t : ℕ) → ending-lts.Need-enum-told (
-  kind-reads.Asked,
-  kind-reads.Learnt,
-  clause-reads.Asked,
-  clause-reads.Learnt,
-  span-from-reads.Asked,
-  span-from-reads.Learnt,
-  present-reads.Asked,
-  present-reads.Learnt,
-  block-below t,
-  block.Post,
-  end-before-reads.Asked,
-  end-before-reads.Learnt,
-  put-span-reads.Asked,
-  put-span-reads.Learnt,
-) (ending-at t) ending.Post
+ending-enum-told : (t : ℕ) → ending-lts.Need-enum-told (ending-claims t) (ending-at t) ending.Post
 ending-enum-told t c = search needs
 
--- src/block.rt:71:9
-ending-same-length-2 : (t : ℕ) → ending-lts.Need-same-length-2 (
-  kind-reads.Asked,
-  kind-reads.Learnt,
-  clause-reads.Asked,
-  clause-reads.Learnt,
-  span-from-reads.Asked,
-  span-from-reads.Learnt,
-  present-reads.Asked,
-  present-reads.Learnt,
-  block-below t,
-  block.Post,
-  end-before-reads.Asked,
-  end-before-reads.Learnt,
-  put-span-reads.Asked,
-  put-span-reads.Learnt,
-) (ending-at t) ending.Post
+ending-same-length-2 : (t : ℕ) → ending-lts.Need-same-length-2 (ending-claims t) (ending-at t) ending.Post
 ending-same-length-2 t c = search needs
 
--- src/block.rt:71:9
-ending-returns-2 : (t : ℕ) → ending-lts.Need-returns-2 (
-  kind-reads.Asked,
-  kind-reads.Learnt,
-  clause-reads.Asked,
-  clause-reads.Learnt,
-  span-from-reads.Asked,
-  span-from-reads.Learnt,
-  present-reads.Asked,
-  present-reads.Learnt,
-  block-below t,
-  block.Post,
-  end-before-reads.Asked,
-  end-before-reads.Learnt,
-  put-span-reads.Asked,
-  put-span-reads.Learnt,
-) (ending-at t) ending.Post
+ending-returns-2 : (t : ℕ) → ending-lts.Need-returns-2 (ending-claims t) (ending-at t) ending.Post
 ending-returns-2 t c = let w = c .before .before .before .before .before .before .before .before .before .before .before .args .tokens .now in
     let at₀ = c .before .before .before .before .before .before .before .before .before .before .before .args .at in
     let left₀ = c .before .before .before .before .before .before .before .before .before .before .before .args .left in
@@ -1328,80 +464,16 @@ ending-returns-2 t c = let w = c .before .before .before .before .before .before
     is-no (c .enum-told .given .1) (λ p s st f cs. end-start _ _ (pre₀ .0) _ p s st f cs (ready-next _ _ (pre₀ .0) (other _ _ _ k₁₃ refl)) k₁₃
     ∙ c .before .before .before .before .clause2 .ensures .no _ _ _ _ _ (c .enum-told .given .1) (inArgument p s st f cs (getD w (at₀ + 6 + 4) 0)) (λ (g : Terms) (e : ℕ). blocked left₀ p s st f cs (getD w (at₀ + 6 + 4) 0) g) (λ h t y z. refl))
 
--- src/block.rt:73:8
-ending-kind-requires-2 : (t : ℕ) → ending-lts.Need-kind-requires-2 (
-  kind-reads.Asked,
-  kind-reads.Learnt,
-  clause-reads.Asked,
-  clause-reads.Learnt,
-  span-from-reads.Asked,
-  span-from-reads.Learnt,
-  present-reads.Asked,
-  present-reads.Learnt,
-  block-below t,
-  block.Post,
-  end-before-reads.Asked,
-  end-before-reads.Learnt,
-  put-span-reads.Asked,
-  put-span-reads.Learnt,
-) (ending-at t) ending.Post
+ending-kind-requires-2 : (t : ℕ) → ending-lts.Need-kind-requires-2 (ending-claims t) (ending-at t) ending.Post
 ending-kind-requires-2 t c κs = let K = c .before .before .before .before .before .clause2 .ensures .at _ _ (c .before .r .given .1) in K .closed .ready
 
--- src/block.rt:74:9
-ending-present-requires : (t : ℕ) → ending-lts.Need-present-requires (
-  kind-reads.Asked,
-  kind-reads.Learnt,
-  clause-reads.Asked,
-  clause-reads.Learnt,
-  span-from-reads.Asked,
-  span-from-reads.Learnt,
-  present-reads.Asked,
-  present-reads.Learnt,
-  block-below t,
-  block.Post,
-  end-before-reads.Asked,
-  end-before-reads.Learnt,
-  put-span-reads.Asked,
-  put-span-reads.Learnt,
-) (ending-at t) ending.Post
+ending-present-requires : (t : ℕ) → ending-lts.Need-present-requires (ending-claims t) (ending-at t) ending.Post
 ending-present-requires t c κs = let K = c .before .before .before .before .before .before .before .clause2 .ensures .at _ _ (c .before .before .before .r .given .1) in K .closed .ready
 
--- src/block.rt:74:9
-ending-same-length-3 : (t : ℕ) → ending-lts.Need-same-length-3 (
-  kind-reads.Asked,
-  kind-reads.Learnt,
-  clause-reads.Asked,
-  clause-reads.Learnt,
-  span-from-reads.Asked,
-  span-from-reads.Learnt,
-  present-reads.Asked,
-  present-reads.Learnt,
-  block-below t,
-  block.Post,
-  end-before-reads.Asked,
-  end-before-reads.Learnt,
-  put-span-reads.Asked,
-  put-span-reads.Learnt,
-) (ending-at t) ending.Post
+ending-same-length-3 : (t : ℕ) → ending-lts.Need-same-length-3 (ending-claims t) (ending-at t) ending.Post
 ending-same-length-3 t c = search needs
 
--- src/block.rt:74:9
-ending-returns-3 : (t : ℕ) → ending-lts.Need-returns-3 (
-  kind-reads.Asked,
-  kind-reads.Learnt,
-  clause-reads.Asked,
-  clause-reads.Learnt,
-  span-from-reads.Asked,
-  span-from-reads.Learnt,
-  present-reads.Asked,
-  present-reads.Learnt,
-  block-below t,
-  block.Post,
-  end-before-reads.Asked,
-  end-before-reads.Learnt,
-  put-span-reads.Asked,
-  put-span-reads.Learnt,
-) (ending-at t) ending.Post
+ending-returns-3 : (t : ℕ) → ending-lts.Need-returns-3 (ending-claims t) (ending-at t) ending.Post
 ending-returns-3 t c = let w = c .before .before .before .before .before .before .before .before .before .before .before .before .before .before .before .args .tokens .now in
     let at₀ = c .before .before .before .before .before .before .before .before .before .before .before .before .before .before .before .args .at in
     let left₀ = c .before .before .before .before .before .before .before .before .before .before .before .before .before .before .before .args .left in
@@ -1413,23 +485,7 @@ ending-returns-3 t c = let w = c .before .before .before .before .before .before
     ∙ end-unopened _ _ (K .closed .ready) _ p s st f cs (getD w (at₀ + 6 + 4) 0) (K .g) (λ e. c .before .if2 .taken (c .before .before .kind2 .ensures
     ∙ e)))
 
--- src/block.rt:76:9
-ending-block-requires : (t : ℕ) → ending-lts.Need-block-requires (
-  kind-reads.Asked,
-  kind-reads.Learnt,
-  clause-reads.Asked,
-  clause-reads.Learnt,
-  span-from-reads.Asked,
-  span-from-reads.Learnt,
-  present-reads.Asked,
-  present-reads.Learnt,
-  block-below t,
-  block.Post,
-  end-before-reads.Asked,
-  end-before-reads.Learnt,
-  put-span-reads.Asked,
-  put-span-reads.Learnt,
-) (ending-at t) ending.Post
+ending-block-requires : (t : ℕ) → ending-lts.Need-block-requires (ending-claims t) (ending-at t) ending.Post
 ending-block-requires t c κs = let w = c .before .before .before .before .before .before .before .before .before .before .before .before .before .before .before .args .tokens .now in
     let j₁ = c .before .before .before .before .r .given .0 .0 in
     let pre₀ = c .before .before .before .before .before .before .before .before .before .before .before .before .before .before .before .pre .1 in
@@ -1439,80 +495,16 @@ ending-block-requires t c κs = let w = c .before .before .before .before .befor
     let v₁ = K .few in
     let k₇ : getD w j₁ 0 ≡ 7 = sym (c .before .before .kind2 .ensures) ∙ c .before .if2 .left in let g = pre₀ .0 in (omega arith, (R, omega arith, k₇))
 
--- src/block.rt:77:17
-ending-enum-known-r2 : (t : ℕ) → ending-lts.Need-enum-known-r2 (
-  kind-reads.Asked,
-  kind-reads.Learnt,
-  clause-reads.Asked,
-  clause-reads.Learnt,
-  span-from-reads.Asked,
-  span-from-reads.Learnt,
-  present-reads.Asked,
-  present-reads.Learnt,
-  block-below t,
-  block.Post,
-  end-before-reads.Asked,
-  end-before-reads.Learnt,
-  put-span-reads.Asked,
-  put-span-reads.Learnt,
-) (ending-at t) ending.Post
+ending-enum-known-r2 : (t : ℕ) → ending-lts.Need-enum-known-r2 (ending-claims t) (ending-at t) ending.Post
 ending-enum-known-r2 t c = search needs
 
--- src/block.rt:78:9
-ending-enum-told-2 : (t : ℕ) → ending-lts.Need-enum-told-2 (
-  kind-reads.Asked,
-  kind-reads.Learnt,
-  clause-reads.Asked,
-  clause-reads.Learnt,
-  span-from-reads.Asked,
-  span-from-reads.Learnt,
-  present-reads.Asked,
-  present-reads.Learnt,
-  block-below t,
-  block.Post,
-  end-before-reads.Asked,
-  end-before-reads.Learnt,
-  put-span-reads.Asked,
-  put-span-reads.Learnt,
-) (ending-at t) ending.Post
+ending-enum-told-2 : (t : ℕ) → ending-lts.Need-enum-told-2 (ending-claims t) (ending-at t) ending.Post
 ending-enum-told-2 t c = search needs
 
--- src/block.rt:78:9
-ending-same-length-4 : (t : ℕ) → ending-lts.Need-same-length-4 (
-  kind-reads.Asked,
-  kind-reads.Learnt,
-  clause-reads.Asked,
-  clause-reads.Learnt,
-  span-from-reads.Asked,
-  span-from-reads.Learnt,
-  present-reads.Asked,
-  present-reads.Learnt,
-  block-below t,
-  block.Post,
-  end-before-reads.Asked,
-  end-before-reads.Learnt,
-  put-span-reads.Asked,
-  put-span-reads.Learnt,
-) (ending-at t) ending.Post
+ending-same-length-4 : (t : ℕ) → ending-lts.Need-same-length-4 (ending-claims t) (ending-at t) ending.Post
 ending-same-length-4 t c = search needs
 
--- src/block.rt:78:9
-ending-returns-4 : (t : ℕ) → ending-lts.Need-returns-4 (
-  kind-reads.Asked,
-  kind-reads.Learnt,
-  clause-reads.Asked,
-  clause-reads.Learnt,
-  span-from-reads.Asked,
-  span-from-reads.Learnt,
-  present-reads.Asked,
-  present-reads.Learnt,
-  block-below t,
-  block.Post,
-  end-before-reads.Asked,
-  end-before-reads.Learnt,
-  put-span-reads.Asked,
-  put-span-reads.Learnt,
-) (ending-at t) ending.Post
+ending-returns-4 : (t : ℕ) → ending-lts.Need-returns-4 (ending-claims t) (ending-at t) ending.Post
 ending-returns-4 t c = let w = c .before .before .before .before .before .before .before .before .before .before .before .before .before .before .before .before .before .before .before .before .args .tokens .now in
     let j₁ = c .before .before .before .before .before .before .before .before .before .r .given .0 .0 in
     let at₀ = c .before .before .before .before .before .before .before .before .before .before .before .before .before .before .before .before .before .before .before .before .args .at in
@@ -1526,80 +518,16 @@ ending-returns-4 t c = let w = c .before .before .before .before .before .before
     ∙ end-block _ _ (K .closed .ready) _ p s st f cs (getD w (at₀ + 6 + 4) 0) (K .g) k₇
     ∙ c .before .before .before .before .block .ensures .no _ _ _ _ _ (c .enum-told2 .given .1) (inEnding p s st f cs (getD w (at₀ + 6 + 4) 0) (K .g)))
 
--- src/block.rt:80:8
-ending-kind-requires-3 : (t : ℕ) → ending-lts.Need-kind-requires-3 (
-  kind-reads.Asked,
-  kind-reads.Learnt,
-  clause-reads.Asked,
-  clause-reads.Learnt,
-  span-from-reads.Asked,
-  span-from-reads.Learnt,
-  present-reads.Asked,
-  present-reads.Learnt,
-  block-below t,
-  block.Post,
-  end-before-reads.Asked,
-  end-before-reads.Learnt,
-  put-span-reads.Asked,
-  put-span-reads.Learnt,
-) (ending-at t) ending.Post
+ending-kind-requires-3 : (t : ℕ) → ending-lts.Need-kind-requires-3 (ending-claims t) (ending-at t) ending.Post
 ending-kind-requires-3 t c κs = let B = c .before .before .before .before .before .block .ensures .at _ _ (c .before .r2 .given .1) in B .ready
 
--- src/block.rt:81:9
-ending-present-requires-2 : (t : ℕ) → ending-lts.Need-present-requires-2 (
-  kind-reads.Asked,
-  kind-reads.Learnt,
-  clause-reads.Asked,
-  clause-reads.Learnt,
-  span-from-reads.Asked,
-  span-from-reads.Learnt,
-  present-reads.Asked,
-  present-reads.Learnt,
-  block-below t,
-  block.Post,
-  end-before-reads.Asked,
-  end-before-reads.Learnt,
-  put-span-reads.Asked,
-  put-span-reads.Learnt,
-) (ending-at t) ending.Post
+ending-present-requires-2 : (t : ℕ) → ending-lts.Need-present-requires-2 (ending-claims t) (ending-at t) ending.Post
 ending-present-requires-2 t c κs = let B = c .before .before .before .before .before .before .before .block .ensures .at _ _ (c .before .before .before .r2 .given .1) in B .ready
 
--- src/block.rt:81:9
-ending-same-length-5 : (t : ℕ) → ending-lts.Need-same-length-5 (
-  kind-reads.Asked,
-  kind-reads.Learnt,
-  clause-reads.Asked,
-  clause-reads.Learnt,
-  span-from-reads.Asked,
-  span-from-reads.Learnt,
-  present-reads.Asked,
-  present-reads.Learnt,
-  block-below t,
-  block.Post,
-  end-before-reads.Asked,
-  end-before-reads.Learnt,
-  put-span-reads.Asked,
-  put-span-reads.Learnt,
-) (ending-at t) ending.Post
+ending-same-length-5 : (t : ℕ) → ending-lts.Need-same-length-5 (ending-claims t) (ending-at t) ending.Post
 ending-same-length-5 t c = search needs
 
--- src/block.rt:81:9
-ending-returns-5 : (t : ℕ) → ending-lts.Need-returns-5 (
-  kind-reads.Asked,
-  kind-reads.Learnt,
-  clause-reads.Asked,
-  clause-reads.Learnt,
-  span-from-reads.Asked,
-  span-from-reads.Learnt,
-  present-reads.Asked,
-  present-reads.Learnt,
-  block-below t,
-  block.Post,
-  end-before-reads.Asked,
-  end-before-reads.Learnt,
-  put-span-reads.Asked,
-  put-span-reads.Learnt,
-) (ending-at t) ending.Post
+ending-returns-5 : (t : ℕ) → ending-lts.Need-returns-5 (ending-claims t) (ending-at t) ending.Post
 ending-returns-5 t c = let w = c .before .before .before .before .before .before .before .before .before .before .before .before .before .before .before .before .before .before .before .before .before .before .before .before .args .tokens .now in
     let j₁ = c .before .before .before .before .before .before .before .before .before .before .before .before .before .r .given .0 .0 in
     let j₂ = c .before .before .before .before .r2 .given .0 .0 in
@@ -1618,124 +546,28 @@ ending-returns-5 t c = let w = c .before .before .before .before .before .before
     ∙ end-unclosed _ _ (B .ready) _ p s st f cs (getD w (at₀ + 6 + 4) 0) (K .g) (B .v) (B .t .to) (λ e. c .before .if3 .taken (c .before .before .kind3 .ensures
     ∙ e)))
 
--- src/block.rt:83:43
-ending-span-from-requires : (t : ℕ) → ending-lts.Need-span-from-requires (
-  kind-reads.Asked,
-  kind-reads.Learnt,
-  clause-reads.Asked,
-  clause-reads.Learnt,
-  span-from-reads.Asked,
-  span-from-reads.Learnt,
-  present-reads.Asked,
-  present-reads.Learnt,
-  block-below t,
-  block.Post,
-  end-before-reads.Asked,
-  end-before-reads.Learnt,
-  put-span-reads.Asked,
-  put-span-reads.Learnt,
-) (ending-at t) ending.Post
+ending-span-from-requires : (t : ℕ) → ending-lts.Need-span-from-requires (ending-claims t) (ending-at t) ending.Post
 ending-span-from-requires t c κs = let w = c .before .before .before .before .args .tokens .now in
     let at₀ = c .before .before .before .before .args .at in
     let pre₀ = c .before .before .before .before .pre .1 in
     let k₁₃ : getD w at₀ 0 ≡ 13 = sym (c .before .kind .ensures) ∙ c .if1 .left in (ready-next _ _ (pre₀ .0) (other _ _ _ k₁₃ refl))
 
--- src/block.rt:83:69
-ending-end-before-requires : (t : ℕ) → ending-lts.Need-end-before-requires (
-  kind-reads.Asked,
-  kind-reads.Learnt,
-  clause-reads.Asked,
-  clause-reads.Learnt,
-  span-from-reads.Asked,
-  span-from-reads.Learnt,
-  present-reads.Asked,
-  present-reads.Learnt,
-  block-below t,
-  block.Post,
-  end-before-reads.Asked,
-  end-before-reads.Learnt,
-  put-span-reads.Asked,
-  put-span-reads.Learnt,
-) (ending-at t) ending.Post
+ending-end-before-requires : (t : ℕ) → ending-lts.Need-end-before-requires (ending-claims t) (ending-at t) ending.Post
 ending-end-before-requires t c κs = let B = c .before .before .before .before .before .before .before .block .ensures .at _ _ (c .before .before .before .r2 .given .1) in
     let Z = B .ready in let q = B .on in let v = B .few in (B .ready, omega arith)
 
--- src/block.rt:83:5
-ending-put-span-requires : (t : ℕ) → ending-lts.Need-put-span-requires (
-  kind-reads.Asked,
-  kind-reads.Learnt,
-  clause-reads.Asked,
-  clause-reads.Learnt,
-  span-from-reads.Asked,
-  span-from-reads.Learnt,
-  present-reads.Asked,
-  present-reads.Learnt,
-  block-below t,
-  block.Post,
-  end-before-reads.Asked,
-  end-before-reads.Learnt,
-  put-span-reads.Asked,
-  put-span-reads.Learnt,
-) (ending-at t) ending.Post
+ending-put-span-requires : (t : ℕ) → ending-lts.Need-put-span-requires (ending-claims t) (ending-at t) ending.Post
 ending-put-span-requires t c κs = let pre₀ = c .before .before .before .before .before .before .before .before .before .before .before .before .before .before .before .before .before .before .before .before .before .before .before .before .before .pre .1 in
     let B = c .before .before .before .before .before .before .before .before .before .block .ensures .at _ _ (c .before .before .before .before .before .r2 .given .1) in
     let Z = B .ready in let q = B .on in let v = B .few in let h = pre₀ .1 in let g = pre₀ .0 in (omega arith, omega arith)
 
--- src/block.rt:84:16
-ending-add-next : (t : ℕ) → ending-lts.Need-add-next (
-  kind-reads.Asked,
-  kind-reads.Learnt,
-  clause-reads.Asked,
-  clause-reads.Learnt,
-  span-from-reads.Asked,
-  span-from-reads.Learnt,
-  present-reads.Asked,
-  present-reads.Learnt,
-  block-below t,
-  block.Post,
-  end-before-reads.Asked,
-  end-before-reads.Learnt,
-  put-span-reads.Asked,
-  put-span-reads.Learnt,
-) (ending-at t) ending.Post
+ending-add-next : (t : ℕ) → ending-lts.Need-add-next (ending-claims t) (ending-at t) ending.Post
 ending-add-next t c = let B = c .before .before .before .before .before .before .before .before .before .before .before .before .block .ensures .at _ _ (c .before .before .before .before .before .before .before .before .r2 .given .1) in let Z = B .ready in let q = B .on in let v = B .few in omega arith
 
--- src/block.rt:60:1
-ending-same-length-6 : (t : ℕ) → ending-lts.Need-same-length-6 (
-  kind-reads.Asked,
-  kind-reads.Learnt,
-  clause-reads.Asked,
-  clause-reads.Learnt,
-  span-from-reads.Asked,
-  span-from-reads.Learnt,
-  present-reads.Asked,
-  present-reads.Learnt,
-  block-below t,
-  block.Post,
-  end-before-reads.Asked,
-  end-before-reads.Learnt,
-  put-span-reads.Asked,
-  put-span-reads.Learnt,
-) (ending-at t) ending.Post
+ending-same-length-6 : (t : ℕ) → ending-lts.Need-same-length-6 (ending-claims t) (ending-at t) ending.Post
 ending-same-length-6 t c = search needs
 
--- src/block.rt:60:1
-ending-returns-6 : (t : ℕ) → ending-lts.Need-returns-6 (
-  kind-reads.Asked,
-  kind-reads.Learnt,
-  clause-reads.Asked,
-  clause-reads.Learnt,
-  span-from-reads.Asked,
-  span-from-reads.Learnt,
-  present-reads.Asked,
-  present-reads.Learnt,
-  block-below t,
-  block.Post,
-  end-before-reads.Asked,
-  end-before-reads.Learnt,
-  put-span-reads.Asked,
-  put-span-reads.Learnt,
-) (ending-at t) ending.Post
+ending-returns-6 : (t : ℕ) → ending-lts.Need-returns-6 (ending-claims t) (ending-at t) ending.Post
 ending-returns-6 t c = let w = c .before .before .before .before .before .before .before .before .before .before .before .before .before .before .before .before .before .before .before .before .before .before .before .before .before .before .before .before .args .tokens .now in
     let b₀ = c .before .before .before .before .before .before .before .before .before .before .before .before .before .before .before .before .before .before .before .before .before .before .before .before .before .before .before .before .args .rows .now in
     let j₁ = c .before .before .before .before .before .before .before .before .before .before .before .before .before .before .before .before .before .r .given .0 .0 in
@@ -1773,181 +605,37 @@ sentence-Inv-loop tokens rows₀ at n left first j m i₀ k₀ rows i k = CondsI
 abbrev sentence-μ-loop : sentence-lts.MeasureT-loop
 sentence-μ-loop tokens rows₀ at n left first j m i₀ k₀ rows i k = length tokens - i
 
--- src/block.rt:93:17
-sentence-add-first : (t : ℕ) → sentence-lts.Need-add-first (
-  pattern-reads.Asked,
-  pattern-reads.Learnt,
-  kind-reads.Asked,
-  kind-reads.Learnt,
-  condition-below t,
-  condition.Post,
-  ending-below t,
-  ending.Post,
-  span-from-reads.Asked,
-  span-from-reads.Learnt,
-  end-before-reads.Asked,
-  end-before-reads.Learnt,
-  put-span-reads.Asked,
-  put-span-reads.Learnt,
-) (sentence-at t) sentence.Post sentence-Inv-loop sentence-μ-loop
+sentence-add-first : (t : ℕ) → sentence-lts.Need-add-first (sentence-claims t) (sentence-at t) sentence.Post sentence-Inv-loop sentence-μ-loop
 sentence-add-first t c = let pre₀ = c .before .before .pre .1 in
     let R = pre₀ .0 in let h = pre₀ .1 in omega arith
 
--- src/block.rt:94:9
-sentence-pattern-requires : (t : ℕ) → sentence-lts.Need-pattern-requires (
-  pattern-reads.Asked,
-  pattern-reads.Learnt,
-  kind-reads.Asked,
-  kind-reads.Learnt,
-  condition-below t,
-  condition.Post,
-  ending-below t,
-  ending.Post,
-  span-from-reads.Asked,
-  span-from-reads.Learnt,
-  end-before-reads.Asked,
-  end-before-reads.Learnt,
-  put-span-reads.Asked,
-  put-span-reads.Learnt,
-) (sentence-at t) sentence.Post sentence-Inv-loop sentence-μ-loop
+sentence-pattern-requires : (t : ℕ) → sentence-lts.Need-pattern-requires (sentence-claims t) (sentence-at t) sentence.Post sentence-Inv-loop sentence-μ-loop
 sentence-pattern-requires t c κs = let pre₀ = c .before .before .before .pre .1 in
     let h = pre₀ .1 in (pre₀ .0, omega arith)
 
--- src/block.rt:95:17
-sentence-enum-known-r : (t : ℕ) → sentence-lts.Need-enum-known-r (
-  pattern-reads.Asked,
-  pattern-reads.Learnt,
-  kind-reads.Asked,
-  kind-reads.Learnt,
-  condition-below t,
-  condition.Post,
-  ending-below t,
-  ending.Post,
-  span-from-reads.Asked,
-  span-from-reads.Learnt,
-  end-before-reads.Asked,
-  end-before-reads.Learnt,
-  put-span-reads.Asked,
-  put-span-reads.Learnt,
-) (sentence-at t) sentence.Post sentence-Inv-loop sentence-μ-loop
+sentence-enum-known-r : (t : ℕ) → sentence-lts.Need-enum-known-r (sentence-claims t) (sentence-at t) sentence.Post sentence-Inv-loop sentence-μ-loop
 sentence-enum-known-r t c = search needs
 
--- src/block.rt:96:9
-sentence-enum-told : (t : ℕ) → sentence-lts.Need-enum-told (
-  pattern-reads.Asked,
-  pattern-reads.Learnt,
-  kind-reads.Asked,
-  kind-reads.Learnt,
-  condition-below t,
-  condition.Post,
-  ending-below t,
-  ending.Post,
-  span-from-reads.Asked,
-  span-from-reads.Learnt,
-  end-before-reads.Asked,
-  end-before-reads.Learnt,
-  put-span-reads.Asked,
-  put-span-reads.Learnt,
-) (sentence-at t) sentence.Post sentence-Inv-loop sentence-μ-loop
+sentence-enum-told : (t : ℕ) → sentence-lts.Need-enum-told (sentence-claims t) (sentence-at t) sentence.Post sentence-Inv-loop sentence-μ-loop
 sentence-enum-told t c = search needs
 
--- src/block.rt:96:9
-sentence-same-length : (t : ℕ) → sentence-lts.Need-same-length (
-  pattern-reads.Asked,
-  pattern-reads.Learnt,
-  kind-reads.Asked,
-  kind-reads.Learnt,
-  condition-below t,
-  condition.Post,
-  ending-below t,
-  ending.Post,
-  span-from-reads.Asked,
-  span-from-reads.Learnt,
-  end-before-reads.Asked,
-  end-before-reads.Learnt,
-  put-span-reads.Asked,
-  put-span-reads.Learnt,
-) (sentence-at t) sentence.Post sentence-Inv-loop sentence-μ-loop
+sentence-same-length : (t : ℕ) → sentence-lts.Need-same-length (sentence-claims t) (sentence-at t) sentence.Post sentence-Inv-loop sentence-μ-loop
 sentence-same-length t c = search needs
 
--- src/block.rt:96:9
-sentence-returns : (t : ℕ) → sentence-lts.Need-returns (
-  pattern-reads.Asked,
-  pattern-reads.Learnt,
-  kind-reads.Asked,
-  kind-reads.Learnt,
-  condition-below t,
-  condition.Post,
-  ending-below t,
-  ending.Post,
-  span-from-reads.Asked,
-  span-from-reads.Learnt,
-  end-before-reads.Asked,
-  end-before-reads.Learnt,
-  put-span-reads.Asked,
-  put-span-reads.Learnt,
-) (sentence-at t) sentence.Post sentence-Inv-loop sentence-μ-loop
+sentence-returns : (t : ℕ) → sentence-lts.Need-returns (sentence-claims t) (sentence-at t) sentence.Post sentence-Inv-loop sentence-μ-loop
 sentence-returns t c = let w = c .before .before .before .before .before .before .before .before .args .tokens .now in
     let at₀ = c .before .before .before .before .before .before .before .before .args .at in
     is-no (c .enum-told .given .1) (λ p s. c .before .before .before .before .pattern .ensures .no _ _ _ _ _ (c .enum-told .given .1) (inPattern p s (getD w (at₀ + 4) 0)) p s (getD w (at₀ + 4) 0) (λ (g : Terms). g) (λ (g : Terms). c0) (λ h t y z. refl))
 
--- src/block.rt:100:5
-sentence-loop-holds : (t : ℕ) → sentence-lts.Need-loop-holds (
-  pattern-reads.Asked,
-  pattern-reads.Learnt,
-  kind-reads.Asked,
-  kind-reads.Learnt,
-  condition-below t,
-  condition.Post,
-  ending-below t,
-  ending.Post,
-  span-from-reads.Asked,
-  span-from-reads.Learnt,
-  end-before-reads.Asked,
-  end-before-reads.Learnt,
-  put-span-reads.Asked,
-  put-span-reads.Learnt,
-) (sentence-at t) sentence.Post sentence-Inv-loop sentence-μ-loop
+sentence-loop-holds : (t : ℕ) → sentence-lts.Need-loop-holds (sentence-claims t) (sentence-at t) sentence.Post sentence-Inv-loop sentence-μ-loop
 unfolding sizeC wC
 sentence-loop-holds t c = let Q = c .before .before .before .before .before .pattern .ensures .at _ _ (c .before .r .given .1) in
     record { cs = c0; ready = Q .ready; joint = Q .joint; on = omega arith; few = Q .few; same = refl; rows = refl; count = omega arith; means = λ p s st f. refl }
 
--- src/block.rt:100:11
-sentence-kind-requires : (t : ℕ) → sentence-lts.Need-kind-requires (
-  pattern-reads.Asked,
-  pattern-reads.Learnt,
-  kind-reads.Asked,
-  kind-reads.Learnt,
-  condition-below t,
-  condition.Post,
-  ending-below t,
-  ending.Post,
-  span-from-reads.Asked,
-  span-from-reads.Learnt,
-  end-before-reads.Asked,
-  end-before-reads.Learnt,
-  put-span-reads.Asked,
-  put-span-reads.Learnt,
-) (sentence-at t) sentence.Post sentence-Inv-loop sentence-μ-loop
+sentence-kind-requires : (t : ℕ) → sentence-lts.Need-kind-requires (sentence-claims t) (sentence-at t) sentence.Post sentence-Inv-loop sentence-μ-loop
 sentence-kind-requires t c κs = c .loop .inv .ready
 
--- src/block.rt:101:13
-sentence-condition-requires : (t : ℕ) → sentence-lts.Need-condition-requires (
-  pattern-reads.Asked,
-  pattern-reads.Learnt,
-  kind-reads.Asked,
-  kind-reads.Learnt,
-  condition-below t,
-  condition.Post,
-  ending-below t,
-  ending.Post,
-  span-from-reads.Asked,
-  span-from-reads.Learnt,
-  end-before-reads.Asked,
-  end-before-reads.Learnt,
-  put-span-reads.Asked,
-  put-span-reads.Learnt,
-) (sentence-at t) sentence.Post sentence-Inv-loop sentence-μ-loop
+sentence-condition-requires : (t : ℕ) → sentence-lts.Need-condition-requires (sentence-claims t) (sentence-at t) sentence.Post sentence-Inv-loop sentence-μ-loop
 sentence-condition-requires t c κs = let w = c .before .before .before .before .before .before .before .before .before .before .before .before .before .args .tokens .now in
     let i₀ = c .before .before .before .loop .i in
     let pre₀ = c .before .before .before .before .before .before .before .before .before .before .before .before .before .pre .1 in
@@ -1956,83 +644,19 @@ sentence-condition-requires t c κs = let w = c .before .before .before .before 
     let k₁₃ : getD w i₀ 0 ≡ 13 = sym (c .before .before .kind .ensures) ∙ c .before .if1 .taken in
     let o = I .on in let q = Q .on in let R = I .ready in let g = pre₀ .0 in (omega arith, (I .ready, I .few, k₁₃))
 
--- src/block.rt:102:21
-sentence-enum-known-r2 : (t : ℕ) → sentence-lts.Need-enum-known-r2 (
-  pattern-reads.Asked,
-  pattern-reads.Learnt,
-  kind-reads.Asked,
-  kind-reads.Learnt,
-  condition-below t,
-  condition.Post,
-  ending-below t,
-  ending.Post,
-  span-from-reads.Asked,
-  span-from-reads.Learnt,
-  end-before-reads.Asked,
-  end-before-reads.Learnt,
-  put-span-reads.Asked,
-  put-span-reads.Learnt,
-) (sentence-at t) sentence.Post sentence-Inv-loop sentence-μ-loop
+sentence-enum-known-r2 : (t : ℕ) → sentence-lts.Need-enum-known-r2 (sentence-claims t) (sentence-at t) sentence.Post sentence-Inv-loop sentence-μ-loop
 sentence-enum-known-r2 t c = search needs
 
--- src/block.rt:103:13
-sentence-enum-told-2 : (t : ℕ) → sentence-lts.Need-enum-told-2 (
-  pattern-reads.Asked,
-  pattern-reads.Learnt,
-  kind-reads.Asked,
-  kind-reads.Learnt,
-  condition-below t,
-  condition.Post,
-  ending-below t,
-  ending.Post,
-  span-from-reads.Asked,
-  span-from-reads.Learnt,
-  end-before-reads.Asked,
-  end-before-reads.Learnt,
-  put-span-reads.Asked,
-  put-span-reads.Learnt,
-) (sentence-at t) sentence.Post sentence-Inv-loop sentence-μ-loop
+sentence-enum-told-2 : (t : ℕ) → sentence-lts.Need-enum-told-2 (sentence-claims t) (sentence-at t) sentence.Post sentence-Inv-loop sentence-μ-loop
 sentence-enum-told-2 t c = search needs
 
--- src/block.rt:103:13
-sentence-same-length-2 : (t : ℕ) → sentence-lts.Need-same-length-2 (
-  pattern-reads.Asked,
-  pattern-reads.Learnt,
-  kind-reads.Asked,
-  kind-reads.Learnt,
-  condition-below t,
-  condition.Post,
-  ending-below t,
-  ending.Post,
-  span-from-reads.Asked,
-  span-from-reads.Learnt,
-  end-before-reads.Asked,
-  end-before-reads.Learnt,
-  put-span-reads.Asked,
-  put-span-reads.Learnt,
-) (sentence-at t) sentence.Post sentence-Inv-loop sentence-μ-loop
+sentence-same-length-2 : (t : ℕ) → sentence-lts.Need-same-length-2 (sentence-claims t) (sentence-at t) sentence.Post sentence-Inv-loop sentence-μ-loop
 sentence-same-length-2 t c = let I = c .before .before .before .before .before .before .before .before .loop .inv in
     c .before .before .before .before .condition .kept .1 .0
     ∙ I .same
     ∙ c .before .before .before .before .before .before .before .before .before .before .before .before .before .before .pattern .kept .1 .0
 
--- src/block.rt:103:13
-sentence-returns-2 : (t : ℕ) → sentence-lts.Need-returns-2 (
-  pattern-reads.Asked,
-  pattern-reads.Learnt,
-  kind-reads.Asked,
-  kind-reads.Learnt,
-  condition-below t,
-  condition.Post,
-  ending-below t,
-  ending.Post,
-  span-from-reads.Asked,
-  span-from-reads.Learnt,
-  end-before-reads.Asked,
-  end-before-reads.Learnt,
-  put-span-reads.Asked,
-  put-span-reads.Learnt,
-) (sentence-at t) sentence.Post sentence-Inv-loop sentence-μ-loop
+sentence-returns-2 : (t : ℕ) → sentence-lts.Need-returns-2 (sentence-claims t) (sentence-at t) sentence.Post sentence-Inv-loop sentence-μ-loop
 sentence-returns-2 t c = let w = c .before .before .before .before .before .before .before .before .before .before .before .before .before .before .before .before .before .before .args .tokens .now in
     let at₀ = c .before .before .before .before .before .before .before .before .before .before .before .before .before .before .before .before .before .before .args .at in
     let Q = c .before .before .before .before .before .before .before .before .before .before .before .before .before .before .pattern .ensures .at _ _ (c .before .before .before .before .before .before .before .before .before .before .r .given .1) in
@@ -2041,42 +665,10 @@ sentence-returns-2 t c = let w = c .before .before .before .before .before .befo
     ∙ I .means p s (getD w (at₀ + 4) 0) (Q .g)
     ∙ c .before .before .before .before .condition .ensures .no _ _ _ _ _ (c .enum-told2 .given .1) p s (getD w (at₀ + 4) 0) (Q .g) (I .cs))
 
--- src/block.rt:100:5
-sentence-loop-less : (t : ℕ) → sentence-lts.Need-loop-less (
-  pattern-reads.Asked,
-  pattern-reads.Learnt,
-  kind-reads.Asked,
-  kind-reads.Learnt,
-  condition-below t,
-  condition.Post,
-  ending-below t,
-  ending.Post,
-  span-from-reads.Asked,
-  span-from-reads.Learnt,
-  end-before-reads.Asked,
-  end-before-reads.Learnt,
-  put-span-reads.Asked,
-  put-span-reads.Learnt,
-) (sentence-at t) sentence.Post sentence-Inv-loop sentence-μ-loop
+sentence-loop-less : (t : ℕ) → sentence-lts.Need-loop-less (sentence-claims t) (sentence-at t) sentence.Post sentence-Inv-loop sentence-μ-loop
 sentence-loop-less t c = let X = c .before .before .before .before .before .condition .ensures .at _ _ (c .before .r2 .given .1) in let R = X .ready in let q = X .on in omega arith
 
--- src/block.rt:100:5
-sentence-loop-again : (t : ℕ) → sentence-lts.Need-loop-again (
-  pattern-reads.Asked,
-  pattern-reads.Learnt,
-  kind-reads.Asked,
-  kind-reads.Learnt,
-  condition-below t,
-  condition.Post,
-  ending-below t,
-  ending.Post,
-  span-from-reads.Asked,
-  span-from-reads.Learnt,
-  end-before-reads.Asked,
-  end-before-reads.Learnt,
-  put-span-reads.Asked,
-  put-span-reads.Learnt,
-) (sentence-at t) sentence.Post sentence-Inv-loop sentence-μ-loop
+sentence-loop-again : (t : ℕ) → sentence-lts.Need-loop-again (sentence-claims t) (sentence-at t) sentence.Post sentence-Inv-loop sentence-μ-loop
 sentence-loop-again t c = let I = c .before .before .before .before .before .before .before .before .before .loop .inv in
     let X = c .before .before .before .before .before .condition .ensures .at _ _ (c .before .r2 .given .1) in
     record {
@@ -2091,42 +683,10 @@ sentence-loop-again t c = let I = c .before .before .before .before .before .bef
       means = λ p s st f. I .means p s st f ∙ X .means p s st f (I .cs);
     }
 
--- src/block.rt:108:17
-sentence-add-after : (t : ℕ) → sentence-lts.Need-add-after (
-  pattern-reads.Asked,
-  pattern-reads.Learnt,
-  kind-reads.Asked,
-  kind-reads.Learnt,
-  condition-below t,
-  condition.Post,
-  ending-below t,
-  ending.Post,
-  span-from-reads.Asked,
-  span-from-reads.Learnt,
-  end-before-reads.Asked,
-  end-before-reads.Learnt,
-  put-span-reads.Asked,
-  put-span-reads.Learnt,
-) (sentence-at t) sentence.Post sentence-Inv-loop sentence-μ-loop
+sentence-add-after : (t : ℕ) → sentence-lts.Need-add-after (sentence-claims t) (sentence-at t) sentence.Post sentence-Inv-loop sentence-μ-loop
 sentence-add-after t c = let I = c .before .before .loop .inv in let R = I .ready in omega arith
 
--- src/block.rt:109:9
-sentence-ending-requires : (t : ℕ) → sentence-lts.Need-ending-requires (
-  pattern-reads.Asked,
-  pattern-reads.Learnt,
-  kind-reads.Asked,
-  kind-reads.Learnt,
-  condition-below t,
-  condition.Post,
-  ending-below t,
-  ending.Post,
-  span-from-reads.Asked,
-  span-from-reads.Learnt,
-  end-before-reads.Asked,
-  end-before-reads.Learnt,
-  put-span-reads.Asked,
-  put-span-reads.Learnt,
-) (sentence-at t) sentence.Post sentence-Inv-loop sentence-μ-loop
+sentence-ending-requires : (t : ℕ) → sentence-lts.Need-ending-requires (sentence-claims t) (sentence-at t) sentence.Post sentence-Inv-loop sentence-μ-loop
 sentence-ending-requires t c κs = let w = c .before .before .before .before .before .before .before .before .before .before .before .before .before .args .tokens .now in
     let i₀ = c .before .before .before .loop .i in
     let pre₀ = c .before .before .before .before .before .before .before .before .before .before .before .before .before .pre .1 in
@@ -2138,83 +698,19 @@ sentence-ending-requires t c κs = let w = c .before .before .before .before .be
     let R = I .ready in
     let v = I .few in let g = pre₀ .0 in (omega arith, (ready-next _ _ (I .ready) (other _ _ _ k₁₅ refl), omega arith))
 
--- src/block.rt:110:17
-sentence-enum-known-r3 : (t : ℕ) → sentence-lts.Need-enum-known-r3 (
-  pattern-reads.Asked,
-  pattern-reads.Learnt,
-  kind-reads.Asked,
-  kind-reads.Learnt,
-  condition-below t,
-  condition.Post,
-  ending-below t,
-  ending.Post,
-  span-from-reads.Asked,
-  span-from-reads.Learnt,
-  end-before-reads.Asked,
-  end-before-reads.Learnt,
-  put-span-reads.Asked,
-  put-span-reads.Learnt,
-) (sentence-at t) sentence.Post sentence-Inv-loop sentence-μ-loop
+sentence-enum-known-r3 : (t : ℕ) → sentence-lts.Need-enum-known-r3 (sentence-claims t) (sentence-at t) sentence.Post sentence-Inv-loop sentence-μ-loop
 sentence-enum-known-r3 t c = search needs
 
--- src/block.rt:111:9
-sentence-enum-told-3 : (t : ℕ) → sentence-lts.Need-enum-told-3 (
-  pattern-reads.Asked,
-  pattern-reads.Learnt,
-  kind-reads.Asked,
-  kind-reads.Learnt,
-  condition-below t,
-  condition.Post,
-  ending-below t,
-  ending.Post,
-  span-from-reads.Asked,
-  span-from-reads.Learnt,
-  end-before-reads.Asked,
-  end-before-reads.Learnt,
-  put-span-reads.Asked,
-  put-span-reads.Learnt,
-) (sentence-at t) sentence.Post sentence-Inv-loop sentence-μ-loop
+sentence-enum-told-3 : (t : ℕ) → sentence-lts.Need-enum-told-3 (sentence-claims t) (sentence-at t) sentence.Post sentence-Inv-loop sentence-μ-loop
 sentence-enum-told-3 t c = search needs
 
--- src/block.rt:111:9
-sentence-same-length-3 : (t : ℕ) → sentence-lts.Need-same-length-3 (
-  pattern-reads.Asked,
-  pattern-reads.Learnt,
-  kind-reads.Asked,
-  kind-reads.Learnt,
-  condition-below t,
-  condition.Post,
-  ending-below t,
-  ending.Post,
-  span-from-reads.Asked,
-  span-from-reads.Learnt,
-  end-before-reads.Asked,
-  end-before-reads.Learnt,
-  put-span-reads.Asked,
-  put-span-reads.Learnt,
-) (sentence-at t) sentence.Post sentence-Inv-loop sentence-μ-loop
+sentence-same-length-3 : (t : ℕ) → sentence-lts.Need-same-length-3 (sentence-claims t) (sentence-at t) sentence.Post sentence-Inv-loop sentence-μ-loop
 sentence-same-length-3 t c = let I = c .before .before .before .before .before .before .before .before .loop .inv in
     c .before .before .before .before .ending .kept .1 .0
     ∙ I .same
     ∙ c .before .before .before .before .before .before .before .before .before .before .before .before .before .before .pattern .kept .1 .0
 
--- src/block.rt:111:9
-sentence-returns-3 : (t : ℕ) → sentence-lts.Need-returns-3 (
-  pattern-reads.Asked,
-  pattern-reads.Learnt,
-  kind-reads.Asked,
-  kind-reads.Learnt,
-  condition-below t,
-  condition.Post,
-  ending-below t,
-  ending.Post,
-  span-from-reads.Asked,
-  span-from-reads.Learnt,
-  end-before-reads.Asked,
-  end-before-reads.Learnt,
-  put-span-reads.Asked,
-  put-span-reads.Learnt,
-) (sentence-at t) sentence.Post sentence-Inv-loop sentence-μ-loop
+sentence-returns-3 : (t : ℕ) → sentence-lts.Need-returns-3 (sentence-claims t) (sentence-at t) sentence.Post sentence-Inv-loop sentence-μ-loop
 sentence-returns-3 t c = let w = c .before .before .before .before .before .before .before .before .before .before .before .before .before .before .before .before .before .before .args .tokens .now in
     let at₀ = c .before .before .before .before .before .before .before .before .before .before .before .before .before .before .before .before .before .before .args .at in
     let i₀ = c .before .before .before .before .before .before .before .before .loop .i in
@@ -2225,106 +721,26 @@ sentence-returns-3 t c = let w = c .before .before .before .before .before .befo
     ∙ I .means p s (getD w (at₀ + 4) 0) (Q .g) ∙ cond-equals _ _ (I .ready) _ p s (getD w (at₀ + 4) 0) (Q .g) (I .cs) k₁₅
     ∙ c .before .before .before .before .ending .ensures .no _ _ _ _ _ (c .enum-told3 .given .1) p s (getD w (at₀ + 4) 0) (Q .g) (I .cs))
 
--- src/block.rt:113:39
-sentence-span-from-requires : (t : ℕ) → sentence-lts.Need-span-from-requires (
-  pattern-reads.Asked,
-  pattern-reads.Learnt,
-  kind-reads.Asked,
-  kind-reads.Learnt,
-  condition-below t,
-  condition.Post,
-  ending-below t,
-  ending.Post,
-  span-from-reads.Asked,
-  span-from-reads.Learnt,
-  end-before-reads.Asked,
-  end-before-reads.Learnt,
-  put-span-reads.Asked,
-  put-span-reads.Learnt,
-) (sentence-at t) sentence.Post sentence-Inv-loop sentence-μ-loop
+sentence-span-from-requires : (t : ℕ) → sentence-lts.Need-span-from-requires (sentence-claims t) (sentence-at t) sentence.Post sentence-Inv-loop sentence-μ-loop
 sentence-span-from-requires t c κs = let pre₀ = c .before .before .before .before .before .before .before .before .before .before .before .before .before .before .before .before .before .before .before .pre .1 in
     pre₀ .0
 
--- src/block.rt:113:62
-sentence-end-before-requires : (t : ℕ) → sentence-lts.Need-end-before-requires (
-  pattern-reads.Asked,
-  pattern-reads.Learnt,
-  kind-reads.Asked,
-  kind-reads.Learnt,
-  condition-below t,
-  condition.Post,
-  ending-below t,
-  ending.Post,
-  span-from-reads.Asked,
-  span-from-reads.Learnt,
-  end-before-reads.Asked,
-  end-before-reads.Learnt,
-  put-span-reads.Asked,
-  put-span-reads.Learnt,
-) (sentence-at t) sentence.Post sentence-Inv-loop sentence-μ-loop
+sentence-end-before-requires : (t : ℕ) → sentence-lts.Need-end-before-requires (sentence-claims t) (sentence-at t) sentence.Post sentence-Inv-loop sentence-μ-loop
 sentence-end-before-requires t c κs = let N = c .before .before .before .before .before .before .ending .ensures .at _ _ (c .before .before .r3 .given .1) in let q = N .on in (N .ready, omega arith)
 
--- src/block.rt:113:5
-sentence-put-span-requires : (t : ℕ) → sentence-lts.Need-put-span-requires (
-  pattern-reads.Asked,
-  pattern-reads.Learnt,
-  kind-reads.Asked,
-  kind-reads.Learnt,
-  condition-below t,
-  condition.Post,
-  ending-below t,
-  ending.Post,
-  span-from-reads.Asked,
-  span-from-reads.Learnt,
-  end-before-reads.Asked,
-  end-before-reads.Learnt,
-  put-span-reads.Asked,
-  put-span-reads.Learnt,
-) (sentence-at t) sentence.Post sentence-Inv-loop sentence-μ-loop
+sentence-put-span-requires : (t : ℕ) → sentence-lts.Need-put-span-requires (sentence-claims t) (sentence-at t) sentence.Post sentence-Inv-loop sentence-μ-loop
 sentence-put-span-requires t c κs = let pre₀ = c .before .before .before .before .before .before .before .before .before .before .before .before .before .before .before .before .before .before .before .before .before .before .pre .1 in
     let N = c .before .before .before .before .before .before .before .before .ending .ensures .at _ _ (c .before .before .before .before .r3 .given .1) in
     let R = N .ready in let v = N .few in let h = pre₀ .1 in let g = pre₀ .0 in (omega arith, omega arith)
 
--- src/block.rt:89:1
-sentence-same-length-4 : (t : ℕ) → sentence-lts.Need-same-length-4 (
-  pattern-reads.Asked,
-  pattern-reads.Learnt,
-  kind-reads.Asked,
-  kind-reads.Learnt,
-  condition-below t,
-  condition.Post,
-  ending-below t,
-  ending.Post,
-  span-from-reads.Asked,
-  span-from-reads.Learnt,
-  end-before-reads.Asked,
-  end-before-reads.Learnt,
-  put-span-reads.Asked,
-  put-span-reads.Learnt,
-) (sentence-at t) sentence.Post sentence-Inv-loop sentence-μ-loop
+sentence-same-length-4 : (t : ℕ) → sentence-lts.Need-same-length-4 (sentence-claims t) (sentence-at t) sentence.Post sentence-Inv-loop sentence-μ-loop
 sentence-same-length-4 t c = let I = c .before .before .before .before .before .before .before .before .before .before .before .before .before .before .before .loop .inv in
     c .before .before .put-span .kept .0
     ∙ c .before .before .before .before .before .before .before .before .before .before .before .ending .kept .1 .0
     ∙ I .same
     ∙ c .before .before .before .before .before .before .before .before .before .before .before .before .before .before .before .before .before .before .before .before .before .pattern .kept .1 .0
 
--- src/block.rt:89:1
-sentence-returns-4 : (t : ℕ) → sentence-lts.Need-returns-4 (
-  pattern-reads.Asked,
-  pattern-reads.Learnt,
-  kind-reads.Asked,
-  kind-reads.Learnt,
-  condition-below t,
-  condition.Post,
-  ending-below t,
-  ending.Post,
-  span-from-reads.Asked,
-  span-from-reads.Learnt,
-  end-before-reads.Asked,
-  end-before-reads.Learnt,
-  put-span-reads.Asked,
-  put-span-reads.Learnt,
-) (sentence-at t) sentence.Post sentence-Inv-loop sentence-μ-loop
+sentence-returns-4 : (t : ℕ) → sentence-lts.Need-returns-4 (sentence-claims t) (sentence-at t) sentence.Post sentence-Inv-loop sentence-μ-loop
 sentence-returns-4 t c = let w = c .before .before .before .before .before .before .before .before .before .before .before .before .before .before .before .before .before .before .before .before .before .before .before .before .before .args .tokens .now in
     let at₀ = c .before .before .before .before .before .before .before .before .before .before .before .before .before .before .before .before .before .before .before .before .before .before .before .before .before .args .at in
     let i₀ = c .before .before .before .before .before .before .before .before .before .before .before .before .before .before .before .loop .i in
@@ -2349,14 +765,7 @@ sentence-returns-4 t c = let w = c .before .before .before .before .before .befo
 
 pub +block+condition+ending+sentence-spec : {M : Type 1} → statement M
 +block+condition+ending+sentence-spec =
-    close μ-block μ-condition μ-ending μ-sentence (λ t. block-lts.spec (
-      present-reads.Asked,
-      present-reads.Learnt,
-      kind-reads.Asked,
-      kind-reads.Learnt,
-      sentence-below t,
-      sentence.Post,
-    )
+    close μ-block μ-condition μ-ending μ-sentence (λ t. block-lts.spec (block-claims t)
     (block-at t)
     block.Post
     block-Inv-loop
@@ -2381,24 +790,7 @@ pub +block+condition+ending+sentence-spec : {M : Type 1} → statement M
     (block-add-next t)
     (block-same-length-3 t)
     (block-returns-4 t))
-    (λ t. condition-lts.spec (
-      span-from-reads.Asked,
-      span-from-reads.Learnt,
-      clause-reads.Asked,
-      clause-reads.Learnt,
-      kind-reads.Asked,
-      kind-reads.Learnt,
-      block-below t,
-      block.Post,
-      end-before-reads.Asked,
-      end-before-reads.Learnt,
-      put-span-reads.Asked,
-      put-span-reads.Learnt,
-      joins-reads.Asked,
-      joins-reads.Learnt,
-      pattern-reads.Asked,
-      pattern-reads.Learnt,
-    )
+    (λ t. condition-lts.spec (condition-claims t)
     (condition-at t)
     condition.Post
     (condition-add-start t)
@@ -2431,22 +823,7 @@ pub +block+condition+ending+sentence-spec : {M : Type 1} → statement M
     (condition-put-span-requires-3 t)
     (condition-same-length-5 t)
     (condition-returns-5 t))
-    (λ t. ending-lts.spec (
-      kind-reads.Asked,
-      kind-reads.Learnt,
-      clause-reads.Asked,
-      clause-reads.Learnt,
-      span-from-reads.Asked,
-      span-from-reads.Learnt,
-      present-reads.Asked,
-      present-reads.Learnt,
-      block-below t,
-      block.Post,
-      end-before-reads.Asked,
-      end-before-reads.Learnt,
-      put-span-reads.Asked,
-      put-span-reads.Learnt,
-    )
+    (λ t. ending-lts.spec (ending-claims t)
     (ending-at t)
     ending.Post
     (ending-kind-requires t)
@@ -2479,22 +856,7 @@ pub +block+condition+ending+sentence-spec : {M : Type 1} → statement M
     (ending-add-next t)
     (ending-same-length-6 t)
     (ending-returns-6 t))
-    λ t. sentence-lts.spec (
-      pattern-reads.Asked,
-      pattern-reads.Learnt,
-      kind-reads.Asked,
-      kind-reads.Learnt,
-      condition-below t,
-      condition.Post,
-      ending-below t,
-      ending.Post,
-      span-from-reads.Asked,
-      span-from-reads.Learnt,
-      end-before-reads.Asked,
-      end-before-reads.Learnt,
-      put-span-reads.Asked,
-      put-span-reads.Learnt,
-    )
+    λ t. sentence-lts.spec (sentence-claims t)
     (sentence-at t)
     sentence.Post
     sentence-Inv-loop

@@ -58,52 +58,22 @@ abbrev write-terms-below : ℕ → In 4 write-terms-kinds.ps
 write-terms-below t =
     and 4 write-terms-kinds.ps (falls 4 write-terms-kinds.ps _<_ μ-write-terms t) write-terms.Pre
 
-write-inner-go-down-requires : (t : ℕ) → write-inner-lts.Need-go-down-requires (
-  go-down-reads.Asked,
-  go-down-reads.Learnt,
-  write-terms-below t,
-  write-terms.Post,
-  unlawful-reads.Asked,
-  unlawful-reads.Learnt,
-  come-up-reads.Asked,
-  come-up-reads.Learnt,
-) (write-inner-at t) write-inner.Post
+abbrev write-inner-claims : ℕ → write-inner-lts.Claims
+write-inner-claims t = (go-down-reads.Asked, go-down-reads.Learnt, write-terms-below t, write-terms.Post, unlawful-reads.Asked, unlawful-reads.Learnt, come-up-reads.Asked, come-up-reads.Learnt)
+
+abbrev write-terms-claims : ℕ → write-terms-lts.Claims
+write-terms-claims t = (kind-reads.Asked, kind-reads.Learnt, run-reads.Asked, run-reads.Learnt, is-leaf-reads.Asked, is-leaf-reads.Learnt, unlawful-reads.Asked, unlawful-reads.Learnt, open-leaf-reads.Asked, open-leaf-reads.Learnt, is-node-reads.Asked, is-node-reads.Learnt, next-reads.Asked, next-reads.Learnt, open-node-reads.Asked, open-node-reads.Learnt, closing-mark-reads.Asked, closing-mark-reads.Learnt, put-mark-reads.Asked, put-mark-reads.Learnt, write-inner-below t, write-inner.Post)
+
+write-inner-go-down-requires : (t : ℕ) → write-inner-lts.Need-go-down-requires (write-inner-claims t) (write-inner-at t) write-inner.Post
 write-inner-go-down-requires t c κs = (c .before .before .before .before .before .pre .1 .0, c .before .before .before .before .before .pre .1 .1, c .before .before .before .before .before .pre .1 .2, c .before .before .before .before .before .pre .1 .3, c .before .before .before .before .before .pre .1 .4)
 
-write-inner-sub-below : (t : ℕ) → write-inner-lts.Need-sub-below (
-  go-down-reads.Asked,
-  go-down-reads.Learnt,
-  write-terms-below t,
-  write-terms.Post,
-  unlawful-reads.Asked,
-  unlawful-reads.Learnt,
-  come-up-reads.Asked,
-  come-up-reads.Learnt,
-) (write-inner-at t) write-inner.Post
+write-inner-sub-below : (t : ℕ) → write-inner-lts.Need-sub-below (write-inner-claims t) (write-inner-at t) write-inner.Post
 write-inner-sub-below t c = c .before .before .go-down .ensures .lo
 
-write-inner-sub-below-2 : (t : ℕ) → write-inner-lts.Need-sub-below-2 (
-  go-down-reads.Asked,
-  go-down-reads.Learnt,
-  write-terms-below t,
-  write-terms.Post,
-  unlawful-reads.Asked,
-  unlawful-reads.Learnt,
-  come-up-reads.Asked,
-  come-up-reads.Learnt,
-) (write-inner-at t) write-inner.Post
+write-inner-sub-below-2 : (t : ℕ) → write-inner-lts.Need-sub-below-2 (write-inner-claims t) (write-inner-at t) write-inner.Post
 write-inner-sub-below-2 t c = c .before .before .go-down .ensures .levels
 
-write-inner-write-terms-requires : (t : ℕ) → write-inner-lts.Need-write-terms-requires (
-  go-down-reads.Asked,
-  go-down-reads.Learnt,
-  write-terms-below t,
-  write-terms.Post,
-  unlawful-reads.Asked,
-  unlawful-reads.Learnt,
-  come-up-reads.Asked,
-  come-up-reads.Learnt,
-) (write-inner-at t) write-inner.Post
+write-inner-write-terms-requires : (t : ℕ) → write-inner-lts.Need-write-terms-requires (write-inner-claims t) (write-inner-at t) write-inner.Post
 write-inner-write-terms-requires t c κs =
     let D = c .before .before .before .go-down .ensures in
     let s = D .small in
@@ -113,54 +83,18 @@ write-inner-write-terms-requires t c κs =
     let e = c .before .before .before .before .before .before .before .before .before .pre .0 in
     (omega arith, (D .hi, c .before .before .before .before .before .before .before .before .before .pre .1 .1, c .before .before .before .before .before .before .before .before .before .pre .1 .2, omega arith, c .before .before .before .before .before .before .before .before .before .pre .1 .4))
 
-write-inner-unlawful-requires : (t : ℕ) → write-inner-lts.Need-unlawful-requires (
-  go-down-reads.Asked,
-  go-down-reads.Learnt,
-  write-terms-below t,
-  write-terms.Post,
-  unlawful-reads.Asked,
-  unlawful-reads.Learnt,
-  come-up-reads.Asked,
-  come-up-reads.Learnt,
-) (write-inner-at t) write-inner.Post
+write-inner-unlawful-requires : (t : ℕ) → write-inner-lts.Need-unlawful-requires (write-inner-claims t) (write-inner-at t) write-inner.Post
 write-inner-unlawful-requires t c κs = search needs
 
-write-inner-same-length : (t : ℕ) → write-inner-lts.Need-same-length (
-  go-down-reads.Asked,
-  go-down-reads.Learnt,
-  write-terms-below t,
-  write-terms.Post,
-  unlawful-reads.Asked,
-  unlawful-reads.Learnt,
-  come-up-reads.Asked,
-  come-up-reads.Learnt,
-) (write-inner-at t) write-inner.Post
+write-inner-same-length : (t : ℕ) → write-inner-lts.Need-same-length (write-inner-claims t) (write-inner-at t) write-inner.Post
 write-inner-same-length t c = c .before .before .before .before .before .write-terms .kept .1 .1 .1 .1 .1 .1 .1 .0 ∙ c .before .before .before .before .before .before .before .before .before .go-down .kept .1 .1 .1 .1 .1 .1 .1 .0
 
-write-inner-returns : (t : ℕ) → write-inner-lts.Need-returns (
-  go-down-reads.Asked,
-  go-down-reads.Learnt,
-  write-terms-below t,
-  write-terms.Post,
-  unlawful-reads.Asked,
-  unlawful-reads.Learnt,
-  come-up-reads.Asked,
-  come-up-reads.Learnt,
-) (write-inner-at t) write-inner.Post
+write-inner-returns : (t : ℕ) → write-inner-lts.Need-returns (write-inner-claims t) (write-inner-at t) write-inner.Post
 write-inner-returns t c =
     let a = c .before .before .before .before .before .before .before .before .before .before .before .before .before .before .before .args in
     chain-not (a .src .now) (a .tree .now) (a .from) (a .to) (a .left) (a .begin) _ _ _ (a .out .now) _ (c .before .before .before .before .before .before .before .before .before .go-down .ensures) _ _ _ _ (c .unlawful .ensures) (sym (c .before .before .before .before .before .write-terms .ensures .lawful-is) ∙ not-true _ (c .before .if1 .taken))
 
-write-inner-come-up-requires : (t : ℕ) → write-inner-lts.Need-come-up-requires (
-  go-down-reads.Asked,
-  go-down-reads.Learnt,
-  write-terms-below t,
-  write-terms.Post,
-  unlawful-reads.Asked,
-  unlawful-reads.Learnt,
-  come-up-reads.Asked,
-  come-up-reads.Learnt,
-) (write-inner-at t) write-inner.Post
+write-inner-come-up-requires : (t : ℕ) → write-inner-lts.Need-come-up-requires (write-inner-claims t) (write-inner-at t) write-inner.Post
 write-inner-come-up-requires t c κs =
     let a = c .before .before .before .before .before .before .before .before .before .before .before .before .before .before .before .args in
     let D = c .before .before .before .before .before .before .before .before .before .go-down .ensures in
@@ -173,28 +107,10 @@ write-inner-come-up-requires t c κs =
     let r = c .before .before .before .before .before .write-terms .ensures .small (not-false _ (c .before .if1 .left)) in
     (D .lo, omega arith, omega arith, omega arith)
 
-write-inner-same-length-2 : (t : ℕ) → write-inner-lts.Need-same-length-2 (
-  go-down-reads.Asked,
-  go-down-reads.Learnt,
-  write-terms-below t,
-  write-terms.Post,
-  unlawful-reads.Asked,
-  unlawful-reads.Learnt,
-  come-up-reads.Asked,
-  come-up-reads.Learnt,
-) (write-inner-at t) write-inner.Post
+write-inner-same-length-2 : (t : ℕ) → write-inner-lts.Need-same-length-2 (write-inner-claims t) (write-inner-at t) write-inner.Post
 write-inner-same-length-2 t c = c .before .before .before .before .come-up .kept .1 .1 .1 .1 .0 ∙ c .before .before .before .before .before .before .before .before .before .before .write-terms .kept .1 .1 .1 .1 .1 .1 .1 .0 ∙ c .before .before .before .before .before .before .before .before .before .before .before .before .before .before .go-down .kept .1 .1 .1 .1 .1 .1 .1 .0
 
-write-inner-returns-2 : (t : ℕ) → write-inner-lts.Need-returns-2 (
-  go-down-reads.Asked,
-  go-down-reads.Learnt,
-  write-terms-below t,
-  write-terms.Post,
-  unlawful-reads.Asked,
-  unlawful-reads.Learnt,
-  come-up-reads.Asked,
-  come-up-reads.Learnt,
-) (write-inner-at t) write-inner.Post
+write-inner-returns-2 : (t : ℕ) → write-inner-lts.Need-returns-2 (write-inner-claims t) (write-inner-at t) write-inner.Post
 write-inner-returns-2 t c =
     let a = c .before .before .before .before .before .before .before .before .before .before .before .before .before .before .before .before .before .before .before .before .args in
     chain-end (a .src .now) (a .tree .now) (a .from) (a .to) (a .left) (a .begin) _ _ _ (a .out .now) _ (c .before .before .before .before .before .before .before .before .before .before .before .before .before .before .go-down .ensures) _ _ _ _ _ _ _ refl (c .before .before .before .before .before .before .before .before .before .before .write-terms .ensures) (not-false _ (c .before .before .before .before .before .before .if1 .left)) (c .before .before .before .before .before .before .before .before .before .before .write-terms .kept .1 .1 .1 .1 .1 .1 .1 .0) (c .before .before .before .before .come-up .ensures)
@@ -205,84 +121,15 @@ write-terms-Inv-loop tree src from to left edge begin out₀ i₀ at₀ good₀ 
 abbrev write-terms-μ-loop : write-terms-lts.MeasureT-loop
 write-terms-μ-loop tree src from to left edge begin out₀ i₀ at₀ good₀ out i at good = to - i
 
-write-terms-loop-holds : (t : ℕ) → write-terms-lts.Need-loop-holds (
-  kind-reads.Asked,
-  kind-reads.Learnt,
-  run-reads.Asked,
-  run-reads.Learnt,
-  is-leaf-reads.Asked,
-  is-leaf-reads.Learnt,
-  unlawful-reads.Asked,
-  unlawful-reads.Learnt,
-  open-leaf-reads.Asked,
-  open-leaf-reads.Learnt,
-  is-node-reads.Asked,
-  is-node-reads.Learnt,
-  next-reads.Asked,
-  next-reads.Learnt,
-  open-node-reads.Asked,
-  open-node-reads.Learnt,
-  closing-mark-reads.Asked,
-  closing-mark-reads.Learnt,
-  put-mark-reads.Asked,
-  put-mark-reads.Learnt,
-  write-inner-below t,
-  write-inner.Post,
-) (write-terms-at t) write-terms.Post write-terms-Inv-loop write-terms-μ-loop
+write-terms-loop-holds : (t : ℕ) → write-terms-lts.Need-loop-holds (write-terms-claims t) (write-terms-at t) write-terms.Post write-terms-Inv-loop write-terms-μ-loop
 write-terms-loop-holds t c =
     let a = c .before .before .before .before .args in
     going-start (a .src .now) (a .tree .now) (a .from) (a .to) 9 (a .left) (a .begin) (a .out .now) (c .before .before .before .before .pre .1 .0)
 
-write-terms-kind-requires : (t : ℕ) → write-terms-lts.Need-kind-requires (
-  kind-reads.Asked,
-  kind-reads.Learnt,
-  run-reads.Asked,
-  run-reads.Learnt,
-  is-leaf-reads.Asked,
-  is-leaf-reads.Learnt,
-  unlawful-reads.Asked,
-  unlawful-reads.Learnt,
-  open-leaf-reads.Asked,
-  open-leaf-reads.Learnt,
-  is-node-reads.Asked,
-  is-node-reads.Learnt,
-  next-reads.Asked,
-  next-reads.Learnt,
-  open-node-reads.Asked,
-  open-node-reads.Learnt,
-  closing-mark-reads.Asked,
-  closing-mark-reads.Learnt,
-  put-mark-reads.Asked,
-  put-mark-reads.Learnt,
-  write-inner-below t,
-  write-inner.Post,
-) (write-terms-at t) write-terms.Post write-terms-Inv-loop write-terms-μ-loop
+write-terms-kind-requires : (t : ℕ) → write-terms-lts.Need-kind-requires (write-terms-claims t) (write-terms-at t) write-terms.Post write-terms-Inv-loop write-terms-μ-loop
 write-terms-kind-requires t c κs = search needs
 
-write-terms-run-requires : (t : ℕ) → write-terms-lts.Need-run-requires (
-  kind-reads.Asked,
-  kind-reads.Learnt,
-  run-reads.Asked,
-  run-reads.Learnt,
-  is-leaf-reads.Asked,
-  is-leaf-reads.Learnt,
-  unlawful-reads.Asked,
-  unlawful-reads.Learnt,
-  open-leaf-reads.Asked,
-  open-leaf-reads.Learnt,
-  is-node-reads.Asked,
-  is-node-reads.Learnt,
-  next-reads.Asked,
-  next-reads.Learnt,
-  open-node-reads.Asked,
-  open-node-reads.Learnt,
-  closing-mark-reads.Asked,
-  closing-mark-reads.Learnt,
-  put-mark-reads.Asked,
-  put-mark-reads.Learnt,
-  write-inner-below t,
-  write-inner.Post,
-) (write-terms-at t) write-terms.Post write-terms-Inv-loop write-terms-μ-loop
+write-terms-run-requires : (t : ℕ) → write-terms-lts.Need-run-requires (write-terms-claims t) (write-terms-at t) write-terms.Post write-terms-Inv-loop write-terms-μ-loop
 write-terms-run-requires t c κs =
     let a = c .before .before .before .before .before .before .before .before .before .args in
     let g = c .before .before .before .before .loop in
@@ -293,167 +140,29 @@ write-terms-run-requires t c κs =
     let z : g .at ≤ 1152921504606846976 = omega (arith, s, b, few, m) in
     (m, c .before .before .before .before .before .before .before .before .before .pre .1 .1, c .before .before .before .before .before .before .before .before .before .pre .1 .2, z, c .before .before .before .before .before .before .before .before .before .pre .1 .4)
 
-write-terms-loop-less : (t : ℕ) → write-terms-lts.Need-loop-less (
-  kind-reads.Asked,
-  kind-reads.Learnt,
-  run-reads.Asked,
-  run-reads.Learnt,
-  is-leaf-reads.Asked,
-  is-leaf-reads.Learnt,
-  unlawful-reads.Asked,
-  unlawful-reads.Learnt,
-  open-leaf-reads.Asked,
-  open-leaf-reads.Learnt,
-  is-node-reads.Asked,
-  is-node-reads.Learnt,
-  next-reads.Asked,
-  next-reads.Learnt,
-  open-node-reads.Asked,
-  open-node-reads.Learnt,
-  closing-mark-reads.Asked,
-  closing-mark-reads.Learnt,
-  put-mark-reads.Asked,
-  put-mark-reads.Learnt,
-  write-inner-below t,
-  write-inner.Post,
-) (write-terms-at t) write-terms.Post write-terms-Inv-loop write-terms-μ-loop
+write-terms-loop-less : (t : ℕ) → write-terms-lts.Need-loop-less (write-terms-claims t) (write-terms-at t) write-terms.Post write-terms-Inv-loop write-terms-μ-loop
 write-terms-loop-less t c =
     let a = c .before .before .before .before .before .before .before .before .before .before .before .before .before .before .args in
     let g = c .before .before .before .before .before .before .before .before .before .loop in
     let h = c .before .before .before .before .run .ensures .1 in
     omega arith
 
-write-terms-loop-again : (t : ℕ) → write-terms-lts.Need-loop-again (
-  kind-reads.Asked,
-  kind-reads.Learnt,
-  run-reads.Asked,
-  run-reads.Learnt,
-  is-leaf-reads.Asked,
-  is-leaf-reads.Learnt,
-  unlawful-reads.Asked,
-  unlawful-reads.Learnt,
-  open-leaf-reads.Asked,
-  open-leaf-reads.Learnt,
-  is-node-reads.Asked,
-  is-node-reads.Learnt,
-  next-reads.Asked,
-  next-reads.Learnt,
-  open-node-reads.Asked,
-  open-node-reads.Learnt,
-  closing-mark-reads.Asked,
-  closing-mark-reads.Learnt,
-  put-mark-reads.Asked,
-  put-mark-reads.Learnt,
-  write-inner-below t,
-  write-inner.Post,
-) (write-terms-at t) write-terms.Post write-terms-Inv-loop write-terms-μ-loop
+write-terms-loop-again : (t : ℕ) → write-terms-lts.Need-loop-again (write-terms-claims t) (write-terms-at t) write-terms.Post write-terms-Inv-loop write-terms-μ-loop
 write-terms-loop-again t c =
     let a = c .before .before .before .before .before .before .before .before .before .before .before .before .before .before .args in
     let g = c .before .before .before .before .before .before .before .before .before .loop in
     going-run (a .src .now) (a .tree .now) (a .from) (a .to) 9 (a .left) (a .begin) (g .i) (g .at) (g .good) (a .out .now) (g .out) (g .inv) (c .before .before .before .before .run .result .row) (c .before .before .before .before .run .result .at) _ (c .before .before .before .before .run .ensures .2 (a .left))
 
-write-terms-is-leaf-requires : (t : ℕ) → write-terms-lts.Need-is-leaf-requires (
-  kind-reads.Asked,
-  kind-reads.Learnt,
-  run-reads.Asked,
-  run-reads.Learnt,
-  is-leaf-reads.Asked,
-  is-leaf-reads.Learnt,
-  unlawful-reads.Asked,
-  unlawful-reads.Learnt,
-  open-leaf-reads.Asked,
-  open-leaf-reads.Learnt,
-  is-node-reads.Asked,
-  is-node-reads.Learnt,
-  next-reads.Asked,
-  next-reads.Learnt,
-  open-node-reads.Asked,
-  open-node-reads.Learnt,
-  closing-mark-reads.Asked,
-  closing-mark-reads.Learnt,
-  put-mark-reads.Asked,
-  put-mark-reads.Learnt,
-  write-inner-below t,
-  write-inner.Post,
-) (write-terms-at t) write-terms.Post write-terms-Inv-loop write-terms-μ-loop
+write-terms-is-leaf-requires : (t : ℕ) → write-terms-lts.Need-is-leaf-requires (write-terms-claims t) (write-terms-at t) write-terms.Post write-terms-Inv-loop write-terms-μ-loop
 write-terms-is-leaf-requires t c κs = search needs
 
-write-terms-unlawful-requires : (t : ℕ) → write-terms-lts.Need-unlawful-requires (
-  kind-reads.Asked,
-  kind-reads.Learnt,
-  run-reads.Asked,
-  run-reads.Learnt,
-  is-leaf-reads.Asked,
-  is-leaf-reads.Learnt,
-  unlawful-reads.Asked,
-  unlawful-reads.Learnt,
-  open-leaf-reads.Asked,
-  open-leaf-reads.Learnt,
-  is-node-reads.Asked,
-  is-node-reads.Learnt,
-  next-reads.Asked,
-  next-reads.Learnt,
-  open-node-reads.Asked,
-  open-node-reads.Learnt,
-  closing-mark-reads.Asked,
-  closing-mark-reads.Learnt,
-  put-mark-reads.Asked,
-  put-mark-reads.Learnt,
-  write-inner-below t,
-  write-inner.Post,
-) (write-terms-at t) write-terms.Post write-terms-Inv-loop write-terms-μ-loop
+write-terms-unlawful-requires : (t : ℕ) → write-terms-lts.Need-unlawful-requires (write-terms-claims t) (write-terms-at t) write-terms.Post write-terms-Inv-loop write-terms-μ-loop
 write-terms-unlawful-requires t c κs = search needs
 
-write-terms-same-length : (t : ℕ) → write-terms-lts.Need-same-length (
-  kind-reads.Asked,
-  kind-reads.Learnt,
-  run-reads.Asked,
-  run-reads.Learnt,
-  is-leaf-reads.Asked,
-  is-leaf-reads.Learnt,
-  unlawful-reads.Asked,
-  unlawful-reads.Learnt,
-  open-leaf-reads.Asked,
-  open-leaf-reads.Learnt,
-  is-node-reads.Asked,
-  is-node-reads.Learnt,
-  next-reads.Asked,
-  next-reads.Learnt,
-  open-node-reads.Asked,
-  open-node-reads.Learnt,
-  closing-mark-reads.Asked,
-  closing-mark-reads.Learnt,
-  put-mark-reads.Asked,
-  put-mark-reads.Learnt,
-  write-inner-below t,
-  write-inner.Post,
-) (write-terms-at t) write-terms.Post write-terms-Inv-loop write-terms-μ-loop
+write-terms-same-length : (t : ℕ) → write-terms-lts.Need-same-length (write-terms-claims t) (write-terms-at t) write-terms.Post write-terms-Inv-loop write-terms-μ-loop
 write-terms-same-length t c = c .before .before .before .before .before .before .before .run .kept .1 .1 .1 .1 .1 .1 .0 ∙ c .before .before .before .before .before .before .before .before .before .before .before .before .loop .inv .same
 
-write-terms-returns : (t : ℕ) → write-terms-lts.Need-returns (
-  kind-reads.Asked,
-  kind-reads.Learnt,
-  run-reads.Asked,
-  run-reads.Learnt,
-  is-leaf-reads.Asked,
-  is-leaf-reads.Learnt,
-  unlawful-reads.Asked,
-  unlawful-reads.Learnt,
-  open-leaf-reads.Asked,
-  open-leaf-reads.Learnt,
-  is-node-reads.Asked,
-  is-node-reads.Learnt,
-  next-reads.Asked,
-  next-reads.Learnt,
-  open-node-reads.Asked,
-  open-node-reads.Learnt,
-  closing-mark-reads.Asked,
-  closing-mark-reads.Learnt,
-  put-mark-reads.Asked,
-  put-mark-reads.Learnt,
-  write-inner-below t,
-  write-inner.Post,
-) (write-terms-at t) write-terms.Post write-terms-Inv-loop write-terms-μ-loop
+write-terms-returns : (t : ℕ) → write-terms-lts.Need-returns (write-terms-claims t) (write-terms-at t) write-terms.Post write-terms-Inv-loop write-terms-μ-loop
 write-terms-returns t c =
     let a = c .before .before .before .before .before .before .before .before .before .before .before .before .before .before .before .before .before .args in
     let g = c .before .before .before .before .before .before .before .before .before .before .before .before .loop in
@@ -462,30 +171,7 @@ write-terms-returns t c =
     let kl : kindAt (a .tree .now) (g .i) ≤ 12 = subst (λ (y : ℕ). y ≤ 12) (c .before .before .before .before .before .before .before .before .before .before .kind .ensures) (c .before .before .before .before .before .before .before .before .before .if1 .taken) in
     going-not (a .src .now) (a .tree .now) (a .from) (a .to) 9 (a .left) (a .begin) (g .i) 9 _ (g .good) (a .out .now) _ N _ _ _ _ (c .unlawful .ensures) (leaf-not (a .tree .now) (g .i) (a .to) (a .left) (c .before .before .before .before .before .before .before .before .before .before .before .before .before .before .before .before .before .pre .1 .1) m kl (sym (c .before .before .is-leaf .ensures) ∙ not-true _ (c .before .if3 .taken)))
 
-write-terms-open-leaf-requires : (t : ℕ) → write-terms-lts.Need-open-leaf-requires (
-  kind-reads.Asked,
-  kind-reads.Learnt,
-  run-reads.Asked,
-  run-reads.Learnt,
-  is-leaf-reads.Asked,
-  is-leaf-reads.Learnt,
-  unlawful-reads.Asked,
-  unlawful-reads.Learnt,
-  open-leaf-reads.Asked,
-  open-leaf-reads.Learnt,
-  is-node-reads.Asked,
-  is-node-reads.Learnt,
-  next-reads.Asked,
-  next-reads.Learnt,
-  open-node-reads.Asked,
-  open-node-reads.Learnt,
-  closing-mark-reads.Asked,
-  closing-mark-reads.Learnt,
-  put-mark-reads.Asked,
-  put-mark-reads.Learnt,
-  write-inner-below t,
-  write-inner.Post,
-) (write-terms-at t) write-terms.Post write-terms-Inv-loop write-terms-μ-loop
+write-terms-open-leaf-requires : (t : ℕ) → write-terms-lts.Need-open-leaf-requires (write-terms-claims t) (write-terms-at t) write-terms.Post write-terms-Inv-loop write-terms-μ-loop
 write-terms-open-leaf-requires t c κs =
     let a = c .before .before .before .before .before .before .before .before .before .before .before .before .before .before .before .before .before .args in
     let g = c .before .before .before .before .before .before .before .before .before .before .before .before .loop in
@@ -500,30 +186,7 @@ write-terms-open-leaf-requires t c κs =
     let r : 7 * g .i + 6 < length (a .tree .now) = omega (arith, long, m) in
     (r, sym (c .before .before .is-leaf .ensures) ∙ not-false _ (c .before .if3 .left), z, c .before .before .before .before .before .before .before .before .before .before .before .before .before .before .before .before .before .pre .1 .4)
 
-write-terms-add-i : (t : ℕ) → write-terms-lts.Need-add-i (
-  kind-reads.Asked,
-  kind-reads.Learnt,
-  run-reads.Asked,
-  run-reads.Learnt,
-  is-leaf-reads.Asked,
-  is-leaf-reads.Learnt,
-  unlawful-reads.Asked,
-  unlawful-reads.Learnt,
-  open-leaf-reads.Asked,
-  open-leaf-reads.Learnt,
-  is-node-reads.Asked,
-  is-node-reads.Learnt,
-  next-reads.Asked,
-  next-reads.Learnt,
-  open-node-reads.Asked,
-  open-node-reads.Learnt,
-  closing-mark-reads.Asked,
-  closing-mark-reads.Learnt,
-  put-mark-reads.Asked,
-  put-mark-reads.Learnt,
-  write-inner-below t,
-  write-inner.Post,
-) (write-terms-at t) write-terms.Post write-terms-Inv-loop write-terms-μ-loop
+write-terms-add-i : (t : ℕ) → write-terms-lts.Need-add-i (write-terms-claims t) (write-terms-at t) write-terms.Post write-terms-Inv-loop write-terms-μ-loop
 write-terms-add-i t c =
     let a = c .before .before .before .before .before .before .before .before .before .before .before .before .before .before .before .before .before .before .before .before .before .args in
     let g = c .before .before .before .before .before .before .before .before .before .before .before .before .before .before .before .before .loop in
@@ -531,60 +194,14 @@ write-terms-add-i t c =
     let few : a .to ≤ 33554432 = c .before .before .before .before .before .before .before .before .before .before .before .before .before .before .before .before .before .before .before .before .before .pre .1 .2 in
     omega (arith, m, few)
 
-write-terms-loop-less-2 : (t : ℕ) → write-terms-lts.Need-loop-less-2 (
-  kind-reads.Asked,
-  kind-reads.Learnt,
-  run-reads.Asked,
-  run-reads.Learnt,
-  is-leaf-reads.Asked,
-  is-leaf-reads.Learnt,
-  unlawful-reads.Asked,
-  unlawful-reads.Learnt,
-  open-leaf-reads.Asked,
-  open-leaf-reads.Learnt,
-  is-node-reads.Asked,
-  is-node-reads.Learnt,
-  next-reads.Asked,
-  next-reads.Learnt,
-  open-node-reads.Asked,
-  open-node-reads.Learnt,
-  closing-mark-reads.Asked,
-  closing-mark-reads.Learnt,
-  put-mark-reads.Asked,
-  put-mark-reads.Learnt,
-  write-inner-below t,
-  write-inner.Post,
-) (write-terms-at t) write-terms.Post write-terms-Inv-loop write-terms-μ-loop
+write-terms-loop-less-2 : (t : ℕ) → write-terms-lts.Need-loop-less-2 (write-terms-claims t) (write-terms-at t) write-terms.Post write-terms-Inv-loop write-terms-μ-loop
 write-terms-loop-less-2 t c =
     let a = c .before .before .before .before .before .before .before .before .before .before .before .before .before .before .before .before .before .before .before .before .before .args in
     let g = c .before .before .before .before .before .before .before .before .before .before .before .before .before .before .before .before .loop in
     let m : g .i < a .to = c .before .before .before .before .before .before .before .before .before .before .before .before .before .before .before .loop-test .taken in
     omega arith
 
-write-terms-loop-again-2 : (t : ℕ) → write-terms-lts.Need-loop-again-2 (
-  kind-reads.Asked,
-  kind-reads.Learnt,
-  run-reads.Asked,
-  run-reads.Learnt,
-  is-leaf-reads.Asked,
-  is-leaf-reads.Learnt,
-  unlawful-reads.Asked,
-  unlawful-reads.Learnt,
-  open-leaf-reads.Asked,
-  open-leaf-reads.Learnt,
-  is-node-reads.Asked,
-  is-node-reads.Learnt,
-  next-reads.Asked,
-  next-reads.Learnt,
-  open-node-reads.Asked,
-  open-node-reads.Learnt,
-  closing-mark-reads.Asked,
-  closing-mark-reads.Learnt,
-  put-mark-reads.Asked,
-  put-mark-reads.Learnt,
-  write-inner-below t,
-  write-inner.Post,
-) (write-terms-at t) write-terms.Post write-terms-Inv-loop write-terms-μ-loop
+write-terms-loop-again-2 : (t : ℕ) → write-terms-lts.Need-loop-again-2 (write-terms-claims t) (write-terms-at t) write-terms.Post write-terms-Inv-loop write-terms-μ-loop
 write-terms-loop-again-2 t c =
     let a = c .before .before .before .before .before .before .before .before .before .before .before .before .before .before .before .before .before .before .before .before .before .args in
     let g = c .before .before .before .before .before .before .before .before .before .before .before .before .before .before .before .before .loop in
@@ -593,108 +210,16 @@ write-terms-loop-again-2 t c =
     let L = sym (c .before .before .before .before .before .before .is-leaf .ensures) ∙ not-false _ (c .before .before .before .before .before .if3 .left) in
     going-leaf (a .src .now) (a .tree .now) (a .from) (a .to) 9 (a .left) (a .begin) (g .i) 9 _ (g .good) (a .out .now) _ N refl L (c .before .before .before .before .before .before .before .before .before .before .before .before .before .before .before .before .before .before .before .before .before .pre .1 .1) m _ _ _ (c .before .before .before .open-leaf .ensures .0) (c .before .before .before .open-leaf .kept .1 .1 .1 .1 .1 .0) (c .before .before .before .open-leaf .ensures .1) (c .before .before .before .open-leaf .ensures .2)
 
-write-terms-is-node-requires : (t : ℕ) → write-terms-lts.Need-is-node-requires (
-  kind-reads.Asked,
-  kind-reads.Learnt,
-  run-reads.Asked,
-  run-reads.Learnt,
-  is-leaf-reads.Asked,
-  is-leaf-reads.Learnt,
-  unlawful-reads.Asked,
-  unlawful-reads.Learnt,
-  open-leaf-reads.Asked,
-  open-leaf-reads.Learnt,
-  is-node-reads.Asked,
-  is-node-reads.Learnt,
-  next-reads.Asked,
-  next-reads.Learnt,
-  open-node-reads.Asked,
-  open-node-reads.Learnt,
-  closing-mark-reads.Asked,
-  closing-mark-reads.Learnt,
-  put-mark-reads.Asked,
-  put-mark-reads.Learnt,
-  write-inner-below t,
-  write-inner.Post,
-) (write-terms-at t) write-terms.Post write-terms-Inv-loop write-terms-μ-loop
+write-terms-is-node-requires : (t : ℕ) → write-terms-lts.Need-is-node-requires (write-terms-claims t) (write-terms-at t) write-terms.Post write-terms-Inv-loop write-terms-μ-loop
 write-terms-is-node-requires t c κs = search needs
 
-write-terms-unlawful-requires-2 : (t : ℕ) → write-terms-lts.Need-unlawful-requires-2 (
-  kind-reads.Asked,
-  kind-reads.Learnt,
-  run-reads.Asked,
-  run-reads.Learnt,
-  is-leaf-reads.Asked,
-  is-leaf-reads.Learnt,
-  unlawful-reads.Asked,
-  unlawful-reads.Learnt,
-  open-leaf-reads.Asked,
-  open-leaf-reads.Learnt,
-  is-node-reads.Asked,
-  is-node-reads.Learnt,
-  next-reads.Asked,
-  next-reads.Learnt,
-  open-node-reads.Asked,
-  open-node-reads.Learnt,
-  closing-mark-reads.Asked,
-  closing-mark-reads.Learnt,
-  put-mark-reads.Asked,
-  put-mark-reads.Learnt,
-  write-inner-below t,
-  write-inner.Post,
-) (write-terms-at t) write-terms.Post write-terms-Inv-loop write-terms-μ-loop
+write-terms-unlawful-requires-2 : (t : ℕ) → write-terms-lts.Need-unlawful-requires-2 (write-terms-claims t) (write-terms-at t) write-terms.Post write-terms-Inv-loop write-terms-μ-loop
 write-terms-unlawful-requires-2 t c κs = search needs
 
-write-terms-same-length-2 : (t : ℕ) → write-terms-lts.Need-same-length-2 (
-  kind-reads.Asked,
-  kind-reads.Learnt,
-  run-reads.Asked,
-  run-reads.Learnt,
-  is-leaf-reads.Asked,
-  is-leaf-reads.Learnt,
-  unlawful-reads.Asked,
-  unlawful-reads.Learnt,
-  open-leaf-reads.Asked,
-  open-leaf-reads.Learnt,
-  is-node-reads.Asked,
-  is-node-reads.Learnt,
-  next-reads.Asked,
-  next-reads.Learnt,
-  open-node-reads.Asked,
-  open-node-reads.Learnt,
-  closing-mark-reads.Asked,
-  closing-mark-reads.Learnt,
-  put-mark-reads.Asked,
-  put-mark-reads.Learnt,
-  write-inner-below t,
-  write-inner.Post,
-) (write-terms-at t) write-terms.Post write-terms-Inv-loop write-terms-μ-loop
+write-terms-same-length-2 : (t : ℕ) → write-terms-lts.Need-same-length-2 (write-terms-claims t) (write-terms-at t) write-terms.Post write-terms-Inv-loop write-terms-μ-loop
 write-terms-same-length-2 t c = c .before .before .before .before .before .before .loop .inv .same
 
-write-terms-returns-2 : (t : ℕ) → write-terms-lts.Need-returns-2 (
-  kind-reads.Asked,
-  kind-reads.Learnt,
-  run-reads.Asked,
-  run-reads.Learnt,
-  is-leaf-reads.Asked,
-  is-leaf-reads.Learnt,
-  unlawful-reads.Asked,
-  unlawful-reads.Learnt,
-  open-leaf-reads.Asked,
-  open-leaf-reads.Learnt,
-  is-node-reads.Asked,
-  is-node-reads.Learnt,
-  next-reads.Asked,
-  next-reads.Learnt,
-  open-node-reads.Asked,
-  open-node-reads.Learnt,
-  closing-mark-reads.Asked,
-  closing-mark-reads.Learnt,
-  put-mark-reads.Asked,
-  put-mark-reads.Learnt,
-  write-inner-below t,
-  write-inner.Post,
-) (write-terms-at t) write-terms.Post write-terms-Inv-loop write-terms-μ-loop
+write-terms-returns-2 : (t : ℕ) → write-terms-lts.Need-returns-2 (write-terms-claims t) (write-terms-at t) write-terms.Post write-terms-Inv-loop write-terms-μ-loop
 write-terms-returns-2 t c =
     let a = c .before .before .before .before .before .before .before .before .before .before .before .args in
     let g = c .before .before .before .before .before .before .loop in
@@ -702,30 +227,7 @@ write-terms-returns-2 t c =
     let kl : 12 < kindAt (a .tree .now) (g .i) = subst (λ (y : ℕ). 12 < y) (c .before .before .before .before .kind .ensures) (let q = c .before .before .before .if1 .left in omega (arith, q)) in
     going-not (a .src .now) (a .tree .now) (a .from) (a .to) 9 (a .left) (a .begin) (g .i) 9 (g .at) (g .good) (a .out .now) _ (g .inv) _ _ _ _ (c .unlawful2 .ensures) (node-not (a .tree .now) (g .i) (a .to) (a .left) (c .before .before .before .before .before .before .before .before .before .before .before .pre .1 .1) m kl (sym (c .before .before .is-node .ensures) ∙ not-true _ (c .before .if4 .taken)))
 
-write-terms-add-first : (t : ℕ) → write-terms-lts.Need-add-first (
-  kind-reads.Asked,
-  kind-reads.Learnt,
-  run-reads.Asked,
-  run-reads.Learnt,
-  is-leaf-reads.Asked,
-  is-leaf-reads.Learnt,
-  unlawful-reads.Asked,
-  unlawful-reads.Learnt,
-  open-leaf-reads.Asked,
-  open-leaf-reads.Learnt,
-  is-node-reads.Asked,
-  is-node-reads.Learnt,
-  next-reads.Asked,
-  next-reads.Learnt,
-  open-node-reads.Asked,
-  open-node-reads.Learnt,
-  closing-mark-reads.Asked,
-  closing-mark-reads.Learnt,
-  put-mark-reads.Asked,
-  put-mark-reads.Learnt,
-  write-inner-below t,
-  write-inner.Post,
-) (write-terms-at t) write-terms.Post write-terms-Inv-loop write-terms-μ-loop
+write-terms-add-first : (t : ℕ) → write-terms-lts.Need-add-first (write-terms-claims t) (write-terms-at t) write-terms.Post write-terms-Inv-loop write-terms-μ-loop
 write-terms-add-first t c =
     let a = c .before .before .before .before .before .before .before .before .before .before .args in
     let g = c .before .before .before .before .before .loop in
@@ -733,56 +235,10 @@ write-terms-add-first t c =
     let few : a .to ≤ 33554432 = c .before .before .before .before .before .before .before .before .before .before .pre .1 .2 in
     omega (arith, m, few)
 
-write-terms-next-requires : (t : ℕ) → write-terms-lts.Need-next-requires (
-  kind-reads.Asked,
-  kind-reads.Learnt,
-  run-reads.Asked,
-  run-reads.Learnt,
-  is-leaf-reads.Asked,
-  is-leaf-reads.Learnt,
-  unlawful-reads.Asked,
-  unlawful-reads.Learnt,
-  open-leaf-reads.Asked,
-  open-leaf-reads.Learnt,
-  is-node-reads.Asked,
-  is-node-reads.Learnt,
-  next-reads.Asked,
-  next-reads.Learnt,
-  open-node-reads.Asked,
-  open-node-reads.Learnt,
-  closing-mark-reads.Asked,
-  closing-mark-reads.Learnt,
-  put-mark-reads.Asked,
-  put-mark-reads.Learnt,
-  write-inner-below t,
-  write-inner.Post,
-) (write-terms-at t) write-terms.Post write-terms-Inv-loop write-terms-μ-loop
+write-terms-next-requires : (t : ℕ) → write-terms-lts.Need-next-requires (write-terms-claims t) (write-terms-at t) write-terms.Post write-terms-Inv-loop write-terms-μ-loop
 write-terms-next-requires t c κs = search needs
 
-write-terms-open-node-requires : (t : ℕ) → write-terms-lts.Need-open-node-requires (
-  kind-reads.Asked,
-  kind-reads.Learnt,
-  run-reads.Asked,
-  run-reads.Learnt,
-  is-leaf-reads.Asked,
-  is-leaf-reads.Learnt,
-  unlawful-reads.Asked,
-  unlawful-reads.Learnt,
-  open-leaf-reads.Asked,
-  open-leaf-reads.Learnt,
-  is-node-reads.Asked,
-  is-node-reads.Learnt,
-  next-reads.Asked,
-  next-reads.Learnt,
-  open-node-reads.Asked,
-  open-node-reads.Learnt,
-  closing-mark-reads.Asked,
-  closing-mark-reads.Learnt,
-  put-mark-reads.Asked,
-  put-mark-reads.Learnt,
-  write-inner-below t,
-  write-inner.Post,
-) (write-terms-at t) write-terms.Post write-terms-Inv-loop write-terms-μ-loop
+write-terms-open-node-requires : (t : ℕ) → write-terms-lts.Need-open-node-requires (write-terms-claims t) (write-terms-at t) write-terms.Post write-terms-Inv-loop write-terms-μ-loop
 write-terms-open-node-requires t c κs =
     let a = c .before .before .before .before .before .before .before .before .before .before .before .before .args in
     let g = c .before .before .before .before .before .before .before .loop in
@@ -796,56 +252,10 @@ write-terms-open-node-requires t c κs =
     let r : 7 * g .i + 6 < length (a .tree .now) = omega (arith, long, m) in
     (r, node-kind (a .tree .now) (g .i) (a .to) (a .left) (c .before .before .before .before .before .before .before .before .before .before .before .before .pre .1 .1) m D, z, c .before .before .before .before .before .before .before .before .before .before .before .before .pre .1 .4)
 
-write-terms-closing-mark-requires : (t : ℕ) → write-terms-lts.Need-closing-mark-requires (
-  kind-reads.Asked,
-  kind-reads.Learnt,
-  run-reads.Asked,
-  run-reads.Learnt,
-  is-leaf-reads.Asked,
-  is-leaf-reads.Learnt,
-  unlawful-reads.Asked,
-  unlawful-reads.Learnt,
-  open-leaf-reads.Asked,
-  open-leaf-reads.Learnt,
-  is-node-reads.Asked,
-  is-node-reads.Learnt,
-  next-reads.Asked,
-  next-reads.Learnt,
-  open-node-reads.Asked,
-  open-node-reads.Learnt,
-  closing-mark-reads.Asked,
-  closing-mark-reads.Learnt,
-  put-mark-reads.Asked,
-  put-mark-reads.Learnt,
-  write-inner-below t,
-  write-inner.Post,
-) (write-terms-at t) write-terms.Post write-terms-Inv-loop write-terms-μ-loop
+write-terms-closing-mark-requires : (t : ℕ) → write-terms-lts.Need-closing-mark-requires (write-terms-claims t) (write-terms-at t) write-terms.Post write-terms-Inv-loop write-terms-μ-loop
 write-terms-closing-mark-requires t c κs = search needs
 
-write-terms-put-mark-requires : (t : ℕ) → write-terms-lts.Need-put-mark-requires (
-  kind-reads.Asked,
-  kind-reads.Learnt,
-  run-reads.Asked,
-  run-reads.Learnt,
-  is-leaf-reads.Asked,
-  is-leaf-reads.Learnt,
-  unlawful-reads.Asked,
-  unlawful-reads.Learnt,
-  open-leaf-reads.Asked,
-  open-leaf-reads.Learnt,
-  is-node-reads.Asked,
-  is-node-reads.Learnt,
-  next-reads.Asked,
-  next-reads.Learnt,
-  open-node-reads.Asked,
-  open-node-reads.Learnt,
-  closing-mark-reads.Asked,
-  closing-mark-reads.Learnt,
-  put-mark-reads.Asked,
-  put-mark-reads.Learnt,
-  write-inner-below t,
-  write-inner.Post,
-) (write-terms-at t) write-terms.Post write-terms-Inv-loop write-terms-μ-loop
+write-terms-put-mark-requires : (t : ℕ) → write-terms-lts.Need-put-mark-requires (write-terms-claims t) (write-terms-at t) write-terms.Post write-terms-Inv-loop write-terms-μ-loop
 write-terms-put-mark-requires t c κs =
     let a = c .before .before .before .before .before .before .before .before .before .before .before .before .before .before .before .before .before .before .args in
     let g = c .before .before .before .before .before .before .before .before .before .before .before .before .before .loop in
@@ -858,30 +268,7 @@ write-terms-put-mark-requires t c κs =
     let z : c .before .before .before .before .before .open-node .result .at ≤ 1152921504606846976 = omega (arith, s, b, o, few, m) in
     z
 
-write-terms-sub-write-inner : (t : ℕ) → write-terms-lts.Need-sub-write-inner (
-  kind-reads.Asked,
-  kind-reads.Learnt,
-  run-reads.Asked,
-  run-reads.Learnt,
-  is-leaf-reads.Asked,
-  is-leaf-reads.Learnt,
-  unlawful-reads.Asked,
-  unlawful-reads.Learnt,
-  open-leaf-reads.Asked,
-  open-leaf-reads.Learnt,
-  is-node-reads.Asked,
-  is-node-reads.Learnt,
-  next-reads.Asked,
-  next-reads.Learnt,
-  open-node-reads.Asked,
-  open-node-reads.Learnt,
-  closing-mark-reads.Asked,
-  closing-mark-reads.Learnt,
-  put-mark-reads.Asked,
-  put-mark-reads.Learnt,
-  write-inner-below t,
-  write-inner.Post,
-) (write-terms-at t) write-terms.Post write-terms-Inv-loop write-terms-μ-loop
+write-terms-sub-write-inner : (t : ℕ) → write-terms-lts.Need-sub-write-inner (write-terms-claims t) (write-terms-at t) write-terms.Post write-terms-Inv-loop write-terms-μ-loop
 write-terms-sub-write-inner t c =
     let a = c .before .before .before .before .before .before .before .before .before .before .before .before .before .before .before .before .args in
     let g = c .before .before .before .before .before .before .before .before .before .before .before .loop in
@@ -889,30 +276,7 @@ write-terms-sub-write-inner t c =
     let D = sym (c .before .before .before .before .before .before .before .is-node .ensures) ∙ not-false _ (c .before .before .before .before .before .before .if4 .left) in
     turn-left (a .src .now) (a .tree .now) (a .to) (a .left) (g .i) (c .before .before .before .before .before .before .before .before .before .kind .result) (c .before .before .before .before .before .next .result) (c .before .before .before .before .before .before .before .before .before .before .before .before .before .before .before .before .pre .1 .1) m D (c .before .before .before .before .before .before .before .before .before .kind .ensures) (c .before .before .before .before .before .next .ensures)
 
-write-terms-write-inner-requires : (t : ℕ) → write-terms-lts.Need-write-inner-requires (
-  kind-reads.Asked,
-  kind-reads.Learnt,
-  run-reads.Asked,
-  run-reads.Learnt,
-  is-leaf-reads.Asked,
-  is-leaf-reads.Learnt,
-  unlawful-reads.Asked,
-  unlawful-reads.Learnt,
-  open-leaf-reads.Asked,
-  open-leaf-reads.Learnt,
-  is-node-reads.Asked,
-  is-node-reads.Learnt,
-  next-reads.Asked,
-  next-reads.Learnt,
-  open-node-reads.Asked,
-  open-node-reads.Learnt,
-  closing-mark-reads.Asked,
-  closing-mark-reads.Learnt,
-  put-mark-reads.Asked,
-  put-mark-reads.Learnt,
-  write-inner-below t,
-  write-inner.Post,
-) (write-terms-at t) write-terms.Post write-terms-Inv-loop write-terms-μ-loop
+write-terms-write-inner-requires : (t : ℕ) → write-terms-lts.Need-write-inner-requires (write-terms-claims t) (write-terms-at t) write-terms.Post write-terms-Inv-loop write-terms-μ-loop
 write-terms-write-inner-requires t c κs =
     let a = c .before .before .before .before .before .before .before .before .before .before .before .before .before .before .before .before .before .args in
     let g = c .before .before .before .before .before .before .before .before .before .before .before .before .loop in
@@ -932,82 +296,13 @@ write-terms-write-inner-requires t c κs =
     let n3 : c .before .before .before .before .open-node .result .at ≤ (g .i + 1) * widest = omega (arith, s, b, o) in
     (omega arith, (omega (arith, lo), n1, n2, n3, c .before .before .before .before .before .before .before .before .before .before .before .before .before .before .before .before .before .pre .1 .4))
 
-write-terms-unlawful-requires-3 : (t : ℕ) → write-terms-lts.Need-unlawful-requires-3 (
-  kind-reads.Asked,
-  kind-reads.Learnt,
-  run-reads.Asked,
-  run-reads.Learnt,
-  is-leaf-reads.Asked,
-  is-leaf-reads.Learnt,
-  unlawful-reads.Asked,
-  unlawful-reads.Learnt,
-  open-leaf-reads.Asked,
-  open-leaf-reads.Learnt,
-  is-node-reads.Asked,
-  is-node-reads.Learnt,
-  next-reads.Asked,
-  next-reads.Learnt,
-  open-node-reads.Asked,
-  open-node-reads.Learnt,
-  closing-mark-reads.Asked,
-  closing-mark-reads.Learnt,
-  put-mark-reads.Asked,
-  put-mark-reads.Learnt,
-  write-inner-below t,
-  write-inner.Post,
-) (write-terms-at t) write-terms.Post write-terms-Inv-loop write-terms-μ-loop
+write-terms-unlawful-requires-3 : (t : ℕ) → write-terms-lts.Need-unlawful-requires-3 (write-terms-claims t) (write-terms-at t) write-terms.Post write-terms-Inv-loop write-terms-μ-loop
 write-terms-unlawful-requires-3 t c κs = search needs
 
-write-terms-same-length-3 : (t : ℕ) → write-terms-lts.Need-same-length-3 (
-  kind-reads.Asked,
-  kind-reads.Learnt,
-  run-reads.Asked,
-  run-reads.Learnt,
-  is-leaf-reads.Asked,
-  is-leaf-reads.Learnt,
-  unlawful-reads.Asked,
-  unlawful-reads.Learnt,
-  open-leaf-reads.Asked,
-  open-leaf-reads.Learnt,
-  is-node-reads.Asked,
-  is-node-reads.Learnt,
-  next-reads.Asked,
-  next-reads.Learnt,
-  open-node-reads.Asked,
-  open-node-reads.Learnt,
-  closing-mark-reads.Asked,
-  closing-mark-reads.Learnt,
-  put-mark-reads.Asked,
-  put-mark-reads.Learnt,
-  write-inner-below t,
-  write-inner.Post,
-) (write-terms-at t) write-terms.Post write-terms-Inv-loop write-terms-μ-loop
+write-terms-same-length-3 : (t : ℕ) → write-terms-lts.Need-same-length-3 (write-terms-claims t) (write-terms-at t) write-terms.Post write-terms-Inv-loop write-terms-μ-loop
 write-terms-same-length-3 t c = c .before .before .before .before .before .write-inner .kept .1 .1 .1 .1 .1 .1 .1 .0 ∙ c .before .before .before .before .before .before .before .before .before .before .open-node .kept .1 .1 .1 .1 .1 .0 ∙ c .before .before .before .before .before .before .before .before .before .before .before .before .before .before .before .before .before .before .loop .inv .same
 
-write-terms-returns-3 : (t : ℕ) → write-terms-lts.Need-returns-3 (
-  kind-reads.Asked,
-  kind-reads.Learnt,
-  run-reads.Asked,
-  run-reads.Learnt,
-  is-leaf-reads.Asked,
-  is-leaf-reads.Learnt,
-  unlawful-reads.Asked,
-  unlawful-reads.Learnt,
-  open-leaf-reads.Asked,
-  open-leaf-reads.Learnt,
-  is-node-reads.Asked,
-  is-node-reads.Learnt,
-  next-reads.Asked,
-  next-reads.Learnt,
-  open-node-reads.Asked,
-  open-node-reads.Learnt,
-  closing-mark-reads.Asked,
-  closing-mark-reads.Learnt,
-  put-mark-reads.Asked,
-  put-mark-reads.Learnt,
-  write-inner-below t,
-  write-inner.Post,
-) (write-terms-at t) write-terms.Post write-terms-Inv-loop write-terms-μ-loop
+write-terms-returns-3 : (t : ℕ) → write-terms-lts.Need-returns-3 (write-terms-claims t) (write-terms-at t) write-terms.Post write-terms-Inv-loop write-terms-μ-loop
 write-terms-returns-3 t c =
     let a = c .before .before .before .before .before .before .before .before .before .before .before .before .before .before .before .before .before .before .before .before .before .before .before .args in
     let g = c .before .before .before .before .before .before .before .before .before .before .before .before .before .before .before .before .before .before .loop in
@@ -1015,56 +310,10 @@ write-terms-returns-3 t c =
     let D = sym (c .before .before .before .before .before .before .before .before .before .before .before .before .before .before .is-node .ensures) ∙ not-false _ (c .before .before .before .before .before .before .before .before .before .before .before .before .before .if4 .left) in
     going-not (a .src .now) (a .tree .now) (a .from) (a .to) 9 (a .left) (a .begin) (g .i) 9 (g .at) (g .good) (a .out .now) _ (g .inv) _ _ _ _ (c .unlawful3 .ensures) (turn-not (a .src .now) (a .tree .now) (a .to) (a .left) (g .i) (c .before .before .before .before .before .before .before .before .before .before .before .before .before .before .before .before .kind .result) (c .before .before .before .before .before .before .before .before .before .before .before .before .next .result) (c .before .before .before .before .before .before .before .before .before .before .before .before .before .before .before .before .before .before .before .before .before .before .before .pre .1 .1) m D (c .before .before .before .before .before .before .before .before .before .before .before .before .before .before .before .before .kind .ensures) (c .before .before .before .before .before .before .before .before .before .before .before .before .next .ensures) (sym (c .before .before .before .before .before .write-inner .ensures .lawful-is) ∙ not-true _ (c .before .if6 .taken)))
 
-write-terms-closing-mark-requires-2 : (t : ℕ) → write-terms-lts.Need-closing-mark-requires-2 (
-  kind-reads.Asked,
-  kind-reads.Learnt,
-  run-reads.Asked,
-  run-reads.Learnt,
-  is-leaf-reads.Asked,
-  is-leaf-reads.Learnt,
-  unlawful-reads.Asked,
-  unlawful-reads.Learnt,
-  open-leaf-reads.Asked,
-  open-leaf-reads.Learnt,
-  is-node-reads.Asked,
-  is-node-reads.Learnt,
-  next-reads.Asked,
-  next-reads.Learnt,
-  open-node-reads.Asked,
-  open-node-reads.Learnt,
-  closing-mark-reads.Asked,
-  closing-mark-reads.Learnt,
-  put-mark-reads.Asked,
-  put-mark-reads.Learnt,
-  write-inner-below t,
-  write-inner.Post,
-) (write-terms-at t) write-terms.Post write-terms-Inv-loop write-terms-μ-loop
+write-terms-closing-mark-requires-2 : (t : ℕ) → write-terms-lts.Need-closing-mark-requires-2 (write-terms-claims t) (write-terms-at t) write-terms.Post write-terms-Inv-loop write-terms-μ-loop
 write-terms-closing-mark-requires-2 t c κs = search needs
 
-write-terms-put-mark-requires-2 : (t : ℕ) → write-terms-lts.Need-put-mark-requires-2 (
-  kind-reads.Asked,
-  kind-reads.Learnt,
-  run-reads.Asked,
-  run-reads.Learnt,
-  is-leaf-reads.Asked,
-  is-leaf-reads.Learnt,
-  unlawful-reads.Asked,
-  unlawful-reads.Learnt,
-  open-leaf-reads.Asked,
-  open-leaf-reads.Learnt,
-  is-node-reads.Asked,
-  is-node-reads.Learnt,
-  next-reads.Asked,
-  next-reads.Learnt,
-  open-node-reads.Asked,
-  open-node-reads.Learnt,
-  closing-mark-reads.Asked,
-  closing-mark-reads.Learnt,
-  put-mark-reads.Asked,
-  put-mark-reads.Learnt,
-  write-inner-below t,
-  write-inner.Post,
-) (write-terms-at t) write-terms.Post write-terms-Inv-loop write-terms-μ-loop
+write-terms-put-mark-requires-2 : (t : ℕ) → write-terms-lts.Need-put-mark-requires-2 (write-terms-claims t) (write-terms-at t) write-terms.Post write-terms-Inv-loop write-terms-μ-loop
 write-terms-put-mark-requires-2 t c κs =
     let a = c .before .before .before .before .before .before .before .before .before .before .before .before .before .before .before .before .before .before .before .before .before .before .before .before .args in
     let g = c .before .before .before .before .before .before .before .before .before .before .before .before .before .before .before .before .before .before .before .loop in
@@ -1080,30 +329,7 @@ write-terms-put-mark-requires-2 t c κs =
     let z : c .before .before .before .before .before .before .write-inner .result .at ≤ 1152921504606846976 = omega (arith, s, b, o, few, r, hi) in
     z
 
-write-terms-loop-less-3 : (t : ℕ) → write-terms-lts.Need-loop-less-3 (
-  kind-reads.Asked,
-  kind-reads.Learnt,
-  run-reads.Asked,
-  run-reads.Learnt,
-  is-leaf-reads.Asked,
-  is-leaf-reads.Learnt,
-  unlawful-reads.Asked,
-  unlawful-reads.Learnt,
-  open-leaf-reads.Asked,
-  open-leaf-reads.Learnt,
-  is-node-reads.Asked,
-  is-node-reads.Learnt,
-  next-reads.Asked,
-  next-reads.Learnt,
-  open-node-reads.Asked,
-  open-node-reads.Learnt,
-  closing-mark-reads.Asked,
-  closing-mark-reads.Learnt,
-  put-mark-reads.Asked,
-  put-mark-reads.Learnt,
-  write-inner-below t,
-  write-inner.Post,
-) (write-terms-at t) write-terms.Post write-terms-Inv-loop write-terms-μ-loop
+write-terms-loop-less-3 : (t : ℕ) → write-terms-lts.Need-loop-less-3 (write-terms-claims t) (write-terms-at t) write-terms.Post write-terms-Inv-loop write-terms-μ-loop
 write-terms-loop-less-3 t c =
     let a = c .before .before .before .before .before .before .before .before .before .before .before .before .before .before .before .before .before .before .before .before .before .before .args in
     let g = c .before .before .before .before .before .before .before .before .before .before .before .before .before .before .before .before .before .loop in
@@ -1113,30 +339,7 @@ write-terms-loop-less-3 t c =
     let hi : c .before .before .before .before .before .before .before .before .before .before .before .next .result ≤ a .to = turn-high (a .src .now) (a .tree .now) (a .to) (a .left) (g .i) (c .before .before .before .before .before .before .before .before .before .before .before .before .before .before .before .kind .result) (c .before .before .before .before .before .before .before .before .before .before .before .next .result) (c .before .before .before .before .before .before .before .before .before .before .before .before .before .before .before .before .before .before .before .before .before .before .pre .1 .1) m D (c .before .before .before .before .before .before .before .before .before .before .before .before .before .before .before .kind .ensures) (c .before .before .before .before .before .before .before .before .before .before .before .next .ensures) in
     left-falls (g .i) (c .before .before .before .before .before .before .before .before .before .before .before .next .result) (a .to) lo hi
 
-write-terms-loop-again-3 : (t : ℕ) → write-terms-lts.Need-loop-again-3 (
-  kind-reads.Asked,
-  kind-reads.Learnt,
-  run-reads.Asked,
-  run-reads.Learnt,
-  is-leaf-reads.Asked,
-  is-leaf-reads.Learnt,
-  unlawful-reads.Asked,
-  unlawful-reads.Learnt,
-  open-leaf-reads.Asked,
-  open-leaf-reads.Learnt,
-  is-node-reads.Asked,
-  is-node-reads.Learnt,
-  next-reads.Asked,
-  next-reads.Learnt,
-  open-node-reads.Asked,
-  open-node-reads.Learnt,
-  closing-mark-reads.Asked,
-  closing-mark-reads.Learnt,
-  put-mark-reads.Asked,
-  put-mark-reads.Learnt,
-  write-inner-below t,
-  write-inner.Post,
-) (write-terms-at t) write-terms.Post write-terms-Inv-loop write-terms-μ-loop
+write-terms-loop-again-3 : (t : ℕ) → write-terms-lts.Need-loop-again-3 (write-terms-claims t) (write-terms-at t) write-terms.Post write-terms-Inv-loop write-terms-μ-loop
 write-terms-loop-again-3 t c =
     let a = c .before .before .before .before .before .before .before .before .before .before .before .before .before .before .before .before .before .before .before .before .before .before .args in
     let g = c .before .before .before .before .before .before .before .before .before .before .before .before .before .before .before .before .before .loop in
@@ -1144,30 +347,7 @@ write-terms-loop-again-3 t c =
     let D = sym (c .before .before .before .before .before .before .before .before .before .before .before .before .before .is-node .ensures) ∙ not-false _ (c .before .before .before .before .before .before .before .before .before .before .before .before .if4 .left) in
     going-empty (a .src .now) (a .tree .now) (a .to) (a .left) (g .i) (c .before .before .before .before .before .before .before .before .before .before .before .before .before .before .before .kind .result) (c .before .before .before .before .before .before .before .before .before .before .before .next .result) (c .before .before .before .before .before .before .before .before .before .before .before .before .before .before .before .before .before .before .before .before .before .before .pre .1 .1) m D (c .before .before .before .before .before .before .before .before .before .before .before .before .before .before .before .kind .ensures) (c .before .before .before .before .before .before .before .before .before .before .before .next .ensures) (a .from) 9 (a .begin) (g .at) (g .good) (a .out .now) _ (g .inv) _ _ _ _ _ (c .before .before .before .before .before .before .before .before .before .open-node .ensures .0) (c .before .before .before .before .before .before .before .before .before .open-node .kept .1 .1 .1 .1 .1 .0) (c .before .before .before .before .before .before .before .before .before .open-node .ensures .1) (c .before .before .before .before .before .before .before .before .before .open-node .ensures .2) (c .before .before .before .before .before .before .if5 .taken) _ (c .before .before .before .before .before .closing-mark .ensures) (c .before .before .before .put-mark .ensures) (c .before .before .before .put-mark .kept .1 .1 .0)
 
-write-terms-loop-less-4 : (t : ℕ) → write-terms-lts.Need-loop-less-4 (
-  kind-reads.Asked,
-  kind-reads.Learnt,
-  run-reads.Asked,
-  run-reads.Learnt,
-  is-leaf-reads.Asked,
-  is-leaf-reads.Learnt,
-  unlawful-reads.Asked,
-  unlawful-reads.Learnt,
-  open-leaf-reads.Asked,
-  open-leaf-reads.Learnt,
-  is-node-reads.Asked,
-  is-node-reads.Learnt,
-  next-reads.Asked,
-  next-reads.Learnt,
-  open-node-reads.Asked,
-  open-node-reads.Learnt,
-  closing-mark-reads.Asked,
-  closing-mark-reads.Learnt,
-  put-mark-reads.Asked,
-  put-mark-reads.Learnt,
-  write-inner-below t,
-  write-inner.Post,
-) (write-terms-at t) write-terms.Post write-terms-Inv-loop write-terms-μ-loop
+write-terms-loop-less-4 : (t : ℕ) → write-terms-lts.Need-loop-less-4 (write-terms-claims t) (write-terms-at t) write-terms.Post write-terms-Inv-loop write-terms-μ-loop
 write-terms-loop-less-4 t c =
     let a = c .before .before .before .before .before .before .before .before .before .before .before .before .before .before .before .before .before .before .before .before .before .before .before .before .before .before .before .before .before .args in
     let g = c .before .before .before .before .before .before .before .before .before .before .before .before .before .before .before .before .before .before .before .before .before .before .before .before .loop in
@@ -1177,30 +357,7 @@ write-terms-loop-less-4 t c =
     let hi : c .before .before .before .before .before .before .before .before .before .before .before .before .before .before .before .before .before .before .next .result ≤ a .to = turn-high (a .src .now) (a .tree .now) (a .to) (a .left) (g .i) (c .before .before .before .before .before .before .before .before .before .before .before .before .before .before .before .before .before .before .before .before .before .before .kind .result) (c .before .before .before .before .before .before .before .before .before .before .before .before .before .before .before .before .before .before .next .result) (c .before .before .before .before .before .before .before .before .before .before .before .before .before .before .before .before .before .before .before .before .before .before .before .before .before .before .before .before .before .pre .1 .1) m D (c .before .before .before .before .before .before .before .before .before .before .before .before .before .before .before .before .before .before .before .before .before .before .kind .ensures) (c .before .before .before .before .before .before .before .before .before .before .before .before .before .before .before .before .before .before .next .ensures) in
     left-falls (g .i) (c .before .before .before .before .before .before .before .before .before .before .before .before .before .before .before .before .before .before .next .result) (a .to) lo hi
 
-write-terms-loop-again-4 : (t : ℕ) → write-terms-lts.Need-loop-again-4 (
-  kind-reads.Asked,
-  kind-reads.Learnt,
-  run-reads.Asked,
-  run-reads.Learnt,
-  is-leaf-reads.Asked,
-  is-leaf-reads.Learnt,
-  unlawful-reads.Asked,
-  unlawful-reads.Learnt,
-  open-leaf-reads.Asked,
-  open-leaf-reads.Learnt,
-  is-node-reads.Asked,
-  is-node-reads.Learnt,
-  next-reads.Asked,
-  next-reads.Learnt,
-  open-node-reads.Asked,
-  open-node-reads.Learnt,
-  closing-mark-reads.Asked,
-  closing-mark-reads.Learnt,
-  put-mark-reads.Asked,
-  put-mark-reads.Learnt,
-  write-inner-below t,
-  write-inner.Post,
-) (write-terms-at t) write-terms.Post write-terms-Inv-loop write-terms-μ-loop
+write-terms-loop-again-4 : (t : ℕ) → write-terms-lts.Need-loop-again-4 (write-terms-claims t) (write-terms-at t) write-terms.Post write-terms-Inv-loop write-terms-μ-loop
 write-terms-loop-again-4 t c =
     let a = c .before .before .before .before .before .before .before .before .before .before .before .before .before .before .before .before .before .before .before .before .before .before .before .before .before .before .before .before .before .args in
     let g = c .before .before .before .before .before .before .before .before .before .before .before .before .before .before .before .before .before .before .before .before .before .before .before .before .loop in
@@ -1208,56 +365,10 @@ write-terms-loop-again-4 t c =
     let D = sym (c .before .before .before .before .before .before .before .before .before .before .before .before .before .before .before .before .before .before .before .before .is-node .ensures) ∙ not-false _ (c .before .before .before .before .before .before .before .before .before .before .before .before .before .before .before .before .before .before .before .if4 .left) in
     going-node (a .src .now) (a .tree .now) (a .to) (a .left) (g .i) (c .before .before .before .before .before .before .before .before .before .before .before .before .before .before .before .before .before .before .before .before .before .before .kind .result) (c .before .before .before .before .before .before .before .before .before .before .before .before .before .before .before .before .before .before .next .result) (c .before .before .before .before .before .before .before .before .before .before .before .before .before .before .before .before .before .before .before .before .before .before .before .before .before .before .before .before .before .pre .1 .1) m D (c .before .before .before .before .before .before .before .before .before .before .before .before .before .before .before .before .before .before .before .before .before .before .kind .ensures) (c .before .before .before .before .before .before .before .before .before .before .before .before .before .before .before .before .before .before .next .ensures) (a .from) 9 (a .begin) (g .at) (g .good) (a .out .now) _ (g .inv) _ _ _ _ _ _ _ _ _ (c .before .before .before .before .before .before .before .before .before .before .before .before .before .before .before .before .open-node .ensures .0) (c .before .before .before .before .before .before .before .before .before .before .before .before .before .before .before .before .open-node .kept .1 .1 .1 .1 .1 .0) (c .before .before .before .before .before .before .before .before .before .before .before .before .before .before .before .before .open-node .ensures .1) (c .before .before .before .before .before .before .before .before .before .before .before .before .before .before .before .before .open-node .ensures .2) (c .before .before .before .before .before .before .before .before .before .before .before .write-inner .ensures) (c .before .before .before .before .before .before .before .before .before .before .before .write-inner .kept .1 .1 .1 .1 .1 .1 .1 .0) (not-false _ (c .before .before .before .before .before .before .before .if6 .left)) _ (c .before .before .before .before .before .before .closing-mark2 .ensures) (c .before .before .before .before .put-mark2 .ensures) (c .before .before .before .before .put-mark2 .kept .1 .1 .0)
 
-write-terms-same-length-4 : (t : ℕ) → write-terms-lts.Need-same-length-4 (
-  kind-reads.Asked,
-  kind-reads.Learnt,
-  run-reads.Asked,
-  run-reads.Learnt,
-  is-leaf-reads.Asked,
-  is-leaf-reads.Learnt,
-  unlawful-reads.Asked,
-  unlawful-reads.Learnt,
-  open-leaf-reads.Asked,
-  open-leaf-reads.Learnt,
-  is-node-reads.Asked,
-  is-node-reads.Learnt,
-  next-reads.Asked,
-  next-reads.Learnt,
-  open-node-reads.Asked,
-  open-node-reads.Learnt,
-  closing-mark-reads.Asked,
-  closing-mark-reads.Learnt,
-  put-mark-reads.Asked,
-  put-mark-reads.Learnt,
-  write-inner-below t,
-  write-inner.Post,
-) (write-terms-at t) write-terms.Post write-terms-Inv-loop write-terms-μ-loop
+write-terms-same-length-4 : (t : ℕ) → write-terms-lts.Need-same-length-4 (write-terms-claims t) (write-terms-at t) write-terms.Post write-terms-Inv-loop write-terms-μ-loop
 write-terms-same-length-4 t c = c .before .loop .inv .same
 
-write-terms-returns-4 : (t : ℕ) → write-terms-lts.Need-returns-4 (
-  kind-reads.Asked,
-  kind-reads.Learnt,
-  run-reads.Asked,
-  run-reads.Learnt,
-  is-leaf-reads.Asked,
-  is-leaf-reads.Learnt,
-  unlawful-reads.Asked,
-  unlawful-reads.Learnt,
-  open-leaf-reads.Asked,
-  open-leaf-reads.Learnt,
-  is-node-reads.Asked,
-  is-node-reads.Learnt,
-  next-reads.Asked,
-  next-reads.Learnt,
-  open-node-reads.Asked,
-  open-node-reads.Learnt,
-  closing-mark-reads.Asked,
-  closing-mark-reads.Learnt,
-  put-mark-reads.Asked,
-  put-mark-reads.Learnt,
-  write-inner-below t,
-  write-inner.Post,
-) (write-terms-at t) write-terms.Post write-terms-Inv-loop write-terms-μ-loop
+write-terms-returns-4 : (t : ℕ) → write-terms-lts.Need-returns-4 (write-terms-claims t) (write-terms-at t) write-terms.Post write-terms-Inv-loop write-terms-μ-loop
 write-terms-returns-4 t c =
     let a = c .before .before .before .before .before .before .args in
     let g = c .before .loop in
@@ -1265,16 +376,7 @@ write-terms-returns-4 t c =
     going-end (a .src .now) (a .tree .now) (a .from) (a .to) 9 (a .left) (a .begin) (g .i) 9 (g .at) (g .good) (a .out .now) _ (g .inv) (omega arith) refl
 
 pub +write-inner+write-terms-spec : {M : Type 1} → statement M
-+write-inner+write-terms-spec = close μ-write-inner μ-write-terms (λ t. write-inner-lts.spec (
-  go-down-reads.Asked,
-  go-down-reads.Learnt,
-  write-terms-below t,
-  write-terms.Post,
-  unlawful-reads.Asked,
-  unlawful-reads.Learnt,
-  come-up-reads.Asked,
-  come-up-reads.Learnt,
-)
++write-inner+write-terms-spec = close μ-write-inner μ-write-terms (λ t. write-inner-lts.spec (write-inner-claims t)
     (write-inner-at t)
     write-inner.Post
     (write-inner-go-down-requires t)
@@ -1287,30 +389,7 @@ pub +write-inner+write-terms-spec : {M : Type 1} → statement M
     (write-inner-come-up-requires t)
     (write-inner-same-length-2 t)
     (write-inner-returns-2 t))
-    λ t. write-terms-lts.spec (
-      kind-reads.Asked,
-      kind-reads.Learnt,
-      run-reads.Asked,
-      run-reads.Learnt,
-      is-leaf-reads.Asked,
-      is-leaf-reads.Learnt,
-      unlawful-reads.Asked,
-      unlawful-reads.Learnt,
-      open-leaf-reads.Asked,
-      open-leaf-reads.Learnt,
-      is-node-reads.Asked,
-      is-node-reads.Learnt,
-      next-reads.Asked,
-      next-reads.Learnt,
-      open-node-reads.Asked,
-      open-node-reads.Learnt,
-      closing-mark-reads.Asked,
-      closing-mark-reads.Learnt,
-      put-mark-reads.Asked,
-      put-mark-reads.Learnt,
-      write-inner-below t,
-      write-inner.Post,
-    )
+    λ t. write-terms-lts.spec (write-terms-claims t)
     (write-terms-at t)
     write-terms.Post
     write-terms-Inv-loop

@@ -42,236 +42,39 @@ abbrev write-rows-below : ℕ → In 4 write-rows-kinds.ps
 write-rows-below t =
     and 4 write-rows-kinds.ps (falls 4 write-rows-kinds.ps _<_ μ-write-rows t) write-rows.Pre
 
+abbrev write-rows-claims : ℕ → write-rows-lts.Claims
+write-rows-claims t = (row-fits-reads.Asked, row-fits-reads.Learnt, unlawful-reads.Asked, unlawful-reads.Learnt, next-reads.Asked, next-reads.Learnt, kind-reads.Asked, kind-reads.Learnt, write-terms-row-reads.Asked, write-terms-row-reads.Learnt, after-reads.Asked, after-reads.Learnt, put-opening-reads.Asked, put-opening-reads.Learnt, inside-reads.Asked, inside-reads.Learnt, below-reads.Asked, below-reads.Learnt, write-rows-below t, write-rows.Post, put-closing-reads.Asked, put-closing-reads.Learnt, ends-reads.Asked, ends-reads.Learnt)
+
 abbrev write-rows-Inv-loop : write-rows-lts.InvT-loop
 write-rows-Inv-loop tree src from to start left edge begin out₀ i₀ st₀ at₀ good₀ out i st at good = Going src tree from to start left begin i st at good out₀ out
 
 abbrev write-rows-μ-loop : write-rows-lts.MeasureT-loop
 write-rows-μ-loop tree src from to start left edge begin out₀ i₀ st₀ at₀ good₀ out i st at good = to - i
 
-write-rows-loop-holds : (t : ℕ) → write-rows-lts.Need-loop-holds (
-  row-fits-reads.Asked,
-  row-fits-reads.Learnt,
-  unlawful-reads.Asked,
-  unlawful-reads.Learnt,
-  next-reads.Asked,
-  next-reads.Learnt,
-  kind-reads.Asked,
-  kind-reads.Learnt,
-  write-terms-row-reads.Asked,
-  write-terms-row-reads.Learnt,
-  after-reads.Asked,
-  after-reads.Learnt,
-  put-opening-reads.Asked,
-  put-opening-reads.Learnt,
-  inside-reads.Asked,
-  inside-reads.Learnt,
-  below-reads.Asked,
-  below-reads.Learnt,
-  write-rows-below t,
-  write-rows.Post,
-  put-closing-reads.Asked,
-  put-closing-reads.Learnt,
-  ends-reads.Asked,
-  ends-reads.Learnt,
-) (write-rows-at t) write-rows.Post write-rows-Inv-loop write-rows-μ-loop
+write-rows-loop-holds : (t : ℕ) → write-rows-lts.Need-loop-holds (write-rows-claims t) (write-rows-at t) write-rows.Post write-rows-Inv-loop write-rows-μ-loop
 write-rows-loop-holds t c = let a = c .before .before .before .before .args in going-start (a .src .now) (a .tree .now) (a .from) (a .to) (a .start) (a .left) (a .begin) (a .out .now) (c .before .before .before .before .pre .1 .0)
 
-write-rows-row-fits-requires : (t : ℕ) → write-rows-lts.Need-row-fits-requires (
-  row-fits-reads.Asked,
-  row-fits-reads.Learnt,
-  unlawful-reads.Asked,
-  unlawful-reads.Learnt,
-  next-reads.Asked,
-  next-reads.Learnt,
-  kind-reads.Asked,
-  kind-reads.Learnt,
-  write-terms-row-reads.Asked,
-  write-terms-row-reads.Learnt,
-  after-reads.Asked,
-  after-reads.Learnt,
-  put-opening-reads.Asked,
-  put-opening-reads.Learnt,
-  inside-reads.Asked,
-  inside-reads.Learnt,
-  below-reads.Asked,
-  below-reads.Learnt,
-  write-rows-below t,
-  write-rows.Post,
-  put-closing-reads.Asked,
-  put-closing-reads.Learnt,
-  ends-reads.Asked,
-  ends-reads.Learnt,
-) (write-rows-at t) write-rows.Post write-rows-Inv-loop write-rows-μ-loop
+write-rows-row-fits-requires : (t : ℕ) → write-rows-lts.Need-row-fits-requires (write-rows-claims t) (write-rows-at t) write-rows.Post write-rows-Inv-loop write-rows-μ-loop
 write-rows-row-fits-requires t c κs = search needs
 
-write-rows-unlawful-requires : (t : ℕ) → write-rows-lts.Need-unlawful-requires (
-  row-fits-reads.Asked,
-  row-fits-reads.Learnt,
-  unlawful-reads.Asked,
-  unlawful-reads.Learnt,
-  next-reads.Asked,
-  next-reads.Learnt,
-  kind-reads.Asked,
-  kind-reads.Learnt,
-  write-terms-row-reads.Asked,
-  write-terms-row-reads.Learnt,
-  after-reads.Asked,
-  after-reads.Learnt,
-  put-opening-reads.Asked,
-  put-opening-reads.Learnt,
-  inside-reads.Asked,
-  inside-reads.Learnt,
-  below-reads.Asked,
-  below-reads.Learnt,
-  write-rows-below t,
-  write-rows.Post,
-  put-closing-reads.Asked,
-  put-closing-reads.Learnt,
-  ends-reads.Asked,
-  ends-reads.Learnt,
-) (write-rows-at t) write-rows.Post write-rows-Inv-loop write-rows-μ-loop
+write-rows-unlawful-requires : (t : ℕ) → write-rows-lts.Need-unlawful-requires (write-rows-claims t) (write-rows-at t) write-rows.Post write-rows-Inv-loop write-rows-μ-loop
 write-rows-unlawful-requires t c κs = search needs
 
-write-rows-same-length : (t : ℕ) → write-rows-lts.Need-same-length (
-  row-fits-reads.Asked,
-  row-fits-reads.Learnt,
-  unlawful-reads.Asked,
-  unlawful-reads.Learnt,
-  next-reads.Asked,
-  next-reads.Learnt,
-  kind-reads.Asked,
-  kind-reads.Learnt,
-  write-terms-row-reads.Asked,
-  write-terms-row-reads.Learnt,
-  after-reads.Asked,
-  after-reads.Learnt,
-  put-opening-reads.Asked,
-  put-opening-reads.Learnt,
-  inside-reads.Asked,
-  inside-reads.Learnt,
-  below-reads.Asked,
-  below-reads.Learnt,
-  write-rows-below t,
-  write-rows.Post,
-  put-closing-reads.Asked,
-  put-closing-reads.Learnt,
-  ends-reads.Asked,
-  ends-reads.Learnt,
-) (write-rows-at t) write-rows.Post write-rows-Inv-loop write-rows-μ-loop
+write-rows-same-length : (t : ℕ) → write-rows-lts.Need-same-length (write-rows-claims t) (write-rows-at t) write-rows.Post write-rows-Inv-loop write-rows-μ-loop
 write-rows-same-length t c = c .before .before .before .before .loop .inv .same
 
-write-rows-returns : (t : ℕ) → write-rows-lts.Need-returns (
-  row-fits-reads.Asked,
-  row-fits-reads.Learnt,
-  unlawful-reads.Asked,
-  unlawful-reads.Learnt,
-  next-reads.Asked,
-  next-reads.Learnt,
-  kind-reads.Asked,
-  kind-reads.Learnt,
-  write-terms-row-reads.Asked,
-  write-terms-row-reads.Learnt,
-  after-reads.Asked,
-  after-reads.Learnt,
-  put-opening-reads.Asked,
-  put-opening-reads.Learnt,
-  inside-reads.Asked,
-  inside-reads.Learnt,
-  below-reads.Asked,
-  below-reads.Learnt,
-  write-rows-below t,
-  write-rows.Post,
-  put-closing-reads.Asked,
-  put-closing-reads.Learnt,
-  ends-reads.Asked,
-  ends-reads.Learnt,
-) (write-rows-at t) write-rows.Post write-rows-Inv-loop write-rows-μ-loop
+write-rows-returns : (t : ℕ) → write-rows-lts.Need-returns (write-rows-claims t) (write-rows-at t) write-rows.Post write-rows-Inv-loop write-rows-μ-loop
 write-rows-returns t c = let a = c .before .before .before .before .before .before .before .before .before .args in let g = c .before .before .before .before .loop in
     going-not (a .src .now) (a .tree .now) (a .from) (a .to) (a .start) (a .left) (a .begin) (g .i) (g .st) (g .at) (g .good) (a .out .now) (g .out) (g .inv) _ _ _ _ (c .unlawful .ensures)
     (fits-not (a .tree .now) (g .i) (a .to) (g .st) (a .left) (c .before .before .before .before .before .before .before .before .before .pre .1 .1) (c .before .before .before .loop-test .taken) (sym (c .before .before .row-fits .ensures) ∙ not-true _ (c .before .if1 .taken)))
 
-write-rows-next-requires : (t : ℕ) → write-rows-lts.Need-next-requires (
-  row-fits-reads.Asked,
-  row-fits-reads.Learnt,
-  unlawful-reads.Asked,
-  unlawful-reads.Learnt,
-  next-reads.Asked,
-  next-reads.Learnt,
-  kind-reads.Asked,
-  kind-reads.Learnt,
-  write-terms-row-reads.Asked,
-  write-terms-row-reads.Learnt,
-  after-reads.Asked,
-  after-reads.Learnt,
-  put-opening-reads.Asked,
-  put-opening-reads.Learnt,
-  inside-reads.Asked,
-  inside-reads.Learnt,
-  below-reads.Asked,
-  below-reads.Learnt,
-  write-rows-below t,
-  write-rows.Post,
-  put-closing-reads.Asked,
-  put-closing-reads.Learnt,
-  ends-reads.Asked,
-  ends-reads.Learnt,
-) (write-rows-at t) write-rows.Post write-rows-Inv-loop write-rows-μ-loop
+write-rows-next-requires : (t : ℕ) → write-rows-lts.Need-next-requires (write-rows-claims t) (write-rows-at t) write-rows.Post write-rows-Inv-loop write-rows-μ-loop
 write-rows-next-requires t c κs = search needs
 
-write-rows-kind-requires : (t : ℕ) → write-rows-lts.Need-kind-requires (
-  row-fits-reads.Asked,
-  row-fits-reads.Learnt,
-  unlawful-reads.Asked,
-  unlawful-reads.Learnt,
-  next-reads.Asked,
-  next-reads.Learnt,
-  kind-reads.Asked,
-  kind-reads.Learnt,
-  write-terms-row-reads.Asked,
-  write-terms-row-reads.Learnt,
-  after-reads.Asked,
-  after-reads.Learnt,
-  put-opening-reads.Asked,
-  put-opening-reads.Learnt,
-  inside-reads.Asked,
-  inside-reads.Learnt,
-  below-reads.Asked,
-  below-reads.Learnt,
-  write-rows-below t,
-  write-rows.Post,
-  put-closing-reads.Asked,
-  put-closing-reads.Learnt,
-  ends-reads.Asked,
-  ends-reads.Learnt,
-) (write-rows-at t) write-rows.Post write-rows-Inv-loop write-rows-μ-loop
+write-rows-kind-requires : (t : ℕ) → write-rows-lts.Need-kind-requires (write-rows-claims t) (write-rows-at t) write-rows.Post write-rows-Inv-loop write-rows-μ-loop
 write-rows-kind-requires t c κs = search needs
 
-write-rows-write-terms-row-requires : (t : ℕ) → write-rows-lts.Need-write-terms-row-requires (
-  row-fits-reads.Asked,
-  row-fits-reads.Learnt,
-  unlawful-reads.Asked,
-  unlawful-reads.Learnt,
-  next-reads.Asked,
-  next-reads.Learnt,
-  kind-reads.Asked,
-  kind-reads.Learnt,
-  write-terms-row-reads.Asked,
-  write-terms-row-reads.Learnt,
-  after-reads.Asked,
-  after-reads.Learnt,
-  put-opening-reads.Asked,
-  put-opening-reads.Learnt,
-  inside-reads.Asked,
-  inside-reads.Learnt,
-  below-reads.Asked,
-  below-reads.Learnt,
-  write-rows-below t,
-  write-rows.Post,
-  put-closing-reads.Asked,
-  put-closing-reads.Learnt,
-  ends-reads.Asked,
-  ends-reads.Learnt,
-) (write-rows-at t) write-rows.Post write-rows-Inv-loop write-rows-μ-loop
+write-rows-write-terms-row-requires : (t : ℕ) → write-rows-lts.Need-write-terms-row-requires (write-rows-claims t) (write-rows-at t) write-rows.Post write-rows-Inv-loop write-rows-μ-loop
 write-rows-write-terms-row-requires t c κs = let a = c .before .before .before .before .before .before .before .before .before .before .before .before .args in let g = c .before .before .before .before .before .before .before .loop in
     let m : g .i < a .to = c .before .before .before .before .before .before .loop-test .taken in
     let T = sym (c .before .before .before .before .before .row-fits .ensures) ∙ not-false _ (c .before .before .before .before .if1 .left) in
@@ -288,88 +91,13 @@ write-rows-write-terms-row-requires t c κs = let a = c .before .before .before 
     let n4 : a .left ≤ 4294967296 = omega arith in
     (lo, n1, n2, n3, n4, sym (c .before .before .kind .ensures) ∙ c .before .if2 .taken, c .before .before .before .before .before .before .before .before .before .before .before .before .pre .1 .5)
 
-write-rows-unlawful-requires-2 : (t : ℕ) → write-rows-lts.Need-unlawful-requires-2 (
-  row-fits-reads.Asked,
-  row-fits-reads.Learnt,
-  unlawful-reads.Asked,
-  unlawful-reads.Learnt,
-  next-reads.Asked,
-  next-reads.Learnt,
-  kind-reads.Asked,
-  kind-reads.Learnt,
-  write-terms-row-reads.Asked,
-  write-terms-row-reads.Learnt,
-  after-reads.Asked,
-  after-reads.Learnt,
-  put-opening-reads.Asked,
-  put-opening-reads.Learnt,
-  inside-reads.Asked,
-  inside-reads.Learnt,
-  below-reads.Asked,
-  below-reads.Learnt,
-  write-rows-below t,
-  write-rows.Post,
-  put-closing-reads.Asked,
-  put-closing-reads.Learnt,
-  ends-reads.Asked,
-  ends-reads.Learnt,
-) (write-rows-at t) write-rows.Post write-rows-Inv-loop write-rows-μ-loop
+write-rows-unlawful-requires-2 : (t : ℕ) → write-rows-lts.Need-unlawful-requires-2 (write-rows-claims t) (write-rows-at t) write-rows.Post write-rows-Inv-loop write-rows-μ-loop
 write-rows-unlawful-requires-2 t c κs = search needs
 
-write-rows-same-length-2 : (t : ℕ) → write-rows-lts.Need-same-length-2 (
-  row-fits-reads.Asked,
-  row-fits-reads.Learnt,
-  unlawful-reads.Asked,
-  unlawful-reads.Learnt,
-  next-reads.Asked,
-  next-reads.Learnt,
-  kind-reads.Asked,
-  kind-reads.Learnt,
-  write-terms-row-reads.Asked,
-  write-terms-row-reads.Learnt,
-  after-reads.Asked,
-  after-reads.Learnt,
-  put-opening-reads.Asked,
-  put-opening-reads.Learnt,
-  inside-reads.Asked,
-  inside-reads.Learnt,
-  below-reads.Asked,
-  below-reads.Learnt,
-  write-rows-below t,
-  write-rows.Post,
-  put-closing-reads.Asked,
-  put-closing-reads.Learnt,
-  ends-reads.Asked,
-  ends-reads.Learnt,
-) (write-rows-at t) write-rows.Post write-rows-Inv-loop write-rows-μ-loop
+write-rows-same-length-2 : (t : ℕ) → write-rows-lts.Need-same-length-2 (write-rows-claims t) (write-rows-at t) write-rows.Post write-rows-Inv-loop write-rows-μ-loop
 write-rows-same-length-2 t c = c .before .before .before .before .before .write-terms-row .kept .1 .1 .1 .1 .1 .1 .1 .1 .0 ∙ c .before .before .before .before .before .before .before .before .before .before .before .before .before .loop .inv .same
 
-write-rows-returns-2 : (t : ℕ) → write-rows-lts.Need-returns-2 (
-  row-fits-reads.Asked,
-  row-fits-reads.Learnt,
-  unlawful-reads.Asked,
-  unlawful-reads.Learnt,
-  next-reads.Asked,
-  next-reads.Learnt,
-  kind-reads.Asked,
-  kind-reads.Learnt,
-  write-terms-row-reads.Asked,
-  write-terms-row-reads.Learnt,
-  after-reads.Asked,
-  after-reads.Learnt,
-  put-opening-reads.Asked,
-  put-opening-reads.Learnt,
-  inside-reads.Asked,
-  inside-reads.Learnt,
-  below-reads.Asked,
-  below-reads.Learnt,
-  write-rows-below t,
-  write-rows.Post,
-  put-closing-reads.Asked,
-  put-closing-reads.Learnt,
-  ends-reads.Asked,
-  ends-reads.Learnt,
-) (write-rows-at t) write-rows.Post write-rows-Inv-loop write-rows-μ-loop
+write-rows-returns-2 : (t : ℕ) → write-rows-lts.Need-returns-2 (write-rows-claims t) (write-rows-at t) write-rows.Post write-rows-Inv-loop write-rows-μ-loop
 write-rows-returns-2 t c = let a = c .before .before .before .before .before .before .before .before .before .before .before .before .before .before .before .before .before .before .args in let g = c .before .before .before .before .before .before .before .before .before .before .before .before .before .loop in
     let m : g .i < a .to = c .before .before .before .before .before .before .before .before .before .before .before .before .loop-test .taken in
     let T = sym (c .before .before .before .before .before .before .before .before .before .before .before .row-fits .ensures) ∙ not-false _ (c .before .before .before .before .before .before .before .before .before .before .if1 .left) in
@@ -381,60 +109,10 @@ write-rows-returns-2 t c = let a = c .before .before .before .before .before .be
     (stop-kids (a .tree .now) (g .i) (a .to) (g .st) (a .left) 6 (x .result) (sym (c .before .before .before .before .before .before .before .if2 .taken) ∙ k .ensures) (x .ensures) (c .before .before .before .before .before .before .before .before .before .before .before .before .before .before .before .before .before .before .pre .1 .1) lo hi
     (sym (c .before .before .before .before .before .write-terms-row .ensures .lawful-is) ∙ not-true _ (c .before .if3 .taken)))
 
-write-rows-after-requires : (t : ℕ) → write-rows-lts.Need-after-requires (
-  row-fits-reads.Asked,
-  row-fits-reads.Learnt,
-  unlawful-reads.Asked,
-  unlawful-reads.Learnt,
-  next-reads.Asked,
-  next-reads.Learnt,
-  kind-reads.Asked,
-  kind-reads.Learnt,
-  write-terms-row-reads.Asked,
-  write-terms-row-reads.Learnt,
-  after-reads.Asked,
-  after-reads.Learnt,
-  put-opening-reads.Asked,
-  put-opening-reads.Learnt,
-  inside-reads.Asked,
-  inside-reads.Learnt,
-  below-reads.Asked,
-  below-reads.Learnt,
-  write-rows-below t,
-  write-rows.Post,
-  put-closing-reads.Asked,
-  put-closing-reads.Learnt,
-  ends-reads.Asked,
-  ends-reads.Learnt,
-) (write-rows-at t) write-rows.Post write-rows-Inv-loop write-rows-μ-loop
+write-rows-after-requires : (t : ℕ) → write-rows-lts.Need-after-requires (write-rows-claims t) (write-rows-at t) write-rows.Post write-rows-Inv-loop write-rows-μ-loop
 write-rows-after-requires t c κs = search needs
 
-write-rows-loop-less : (t : ℕ) → write-rows-lts.Need-loop-less (
-  row-fits-reads.Asked,
-  row-fits-reads.Learnt,
-  unlawful-reads.Asked,
-  unlawful-reads.Learnt,
-  next-reads.Asked,
-  next-reads.Learnt,
-  kind-reads.Asked,
-  kind-reads.Learnt,
-  write-terms-row-reads.Asked,
-  write-terms-row-reads.Learnt,
-  after-reads.Asked,
-  after-reads.Learnt,
-  put-opening-reads.Asked,
-  put-opening-reads.Learnt,
-  inside-reads.Asked,
-  inside-reads.Learnt,
-  below-reads.Asked,
-  below-reads.Learnt,
-  write-rows-below t,
-  write-rows.Post,
-  put-closing-reads.Asked,
-  put-closing-reads.Learnt,
-  ends-reads.Asked,
-  ends-reads.Learnt,
-) (write-rows-at t) write-rows.Post write-rows-Inv-loop write-rows-μ-loop
+write-rows-loop-less : (t : ℕ) → write-rows-lts.Need-loop-less (write-rows-claims t) (write-rows-at t) write-rows.Post write-rows-Inv-loop write-rows-μ-loop
 write-rows-loop-less t c = let a = c .before .before .before .before .before .before .before .before .before .before .before .before .before .before .before .before .before .before .before .args in let g = c .before .before .before .before .before .before .before .before .before .before .before .before .before .before .loop in
     let m : g .i < a .to = c .before .before .before .before .before .before .before .before .before .before .before .before .before .loop-test .taken in
     let T = sym (c .before .before .before .before .before .before .before .before .before .before .before .before .row-fits .ensures) ∙ not-false _ (c .before .before .before .before .before .before .before .before .before .before .before .if1 .left) in
@@ -443,32 +121,7 @@ write-rows-loop-less t c = let a = c .before .before .before .before .before .be
     let hi : x .result ≤ a .to = subst (λ (y : ℕ). y ≤ a .to) (sym (x .ensures)) (fits-high (a .tree .now) (g .i) (a .to) (g .st) (a .left) T) in
     left-falls (g .i) (x .result) (a .to) lo hi
 
-write-rows-loop-again : (t : ℕ) → write-rows-lts.Need-loop-again (
-  row-fits-reads.Asked,
-  row-fits-reads.Learnt,
-  unlawful-reads.Asked,
-  unlawful-reads.Learnt,
-  next-reads.Asked,
-  next-reads.Learnt,
-  kind-reads.Asked,
-  kind-reads.Learnt,
-  write-terms-row-reads.Asked,
-  write-terms-row-reads.Learnt,
-  after-reads.Asked,
-  after-reads.Learnt,
-  put-opening-reads.Asked,
-  put-opening-reads.Learnt,
-  inside-reads.Asked,
-  inside-reads.Learnt,
-  below-reads.Asked,
-  below-reads.Learnt,
-  write-rows-below t,
-  write-rows.Post,
-  put-closing-reads.Asked,
-  put-closing-reads.Learnt,
-  ends-reads.Asked,
-  ends-reads.Learnt,
-) (write-rows-at t) write-rows.Post write-rows-Inv-loop write-rows-μ-loop
+write-rows-loop-again : (t : ℕ) → write-rows-lts.Need-loop-again (write-rows-claims t) (write-rows-at t) write-rows.Post write-rows-Inv-loop write-rows-μ-loop
 write-rows-loop-again t c = let a = c .before .before .before .before .before .before .before .before .before .before .before .before .before .before .before .before .before .before .before .args in let g = c .before .before .before .before .before .before .before .before .before .before .before .before .before .before .loop in
     let m : g .i < a .to = c .before .before .before .before .before .before .before .before .before .before .before .before .before .loop-test .taken in
     let T = sym (c .before .before .before .before .before .before .before .before .before .before .before .before .row-fits .ensures) ∙ not-false _ (c .before .before .before .before .before .before .before .before .before .before .before .if1 .left) in
@@ -480,60 +133,10 @@ write-rows-loop-again t c = let a = c .before .before .before .before .before .b
     going-turn (a .src .now) (a .tree .now) (a .from) (a .to) (a .start) (a .left) (a .begin) (g .i) (g .st) (g .at) (g .good) (a .out .now) (g .out) (g .inv) 6 (x .result) (sym (c .before .before .before .before .before .before .before .before .if2 .taken) ∙ k .ensures) (x .ensures) (c .before .before .before .before .before .before .before .before .before .before .before .before .before .before .before .before .before .before .before .pre .1 .1) lo hi
     (fits-row (a .tree .now) (g .i) (a .to) (g .st) (a .left) T) (sym (c .before .before .before .before .before .before .write-terms-row .ensures .lawful-is) ∙ t) _ _ _ _ (c .after .ensures ∙ ap (after (g .st)) (c .before .before .before .before .before .before .before .before .if2 .taken)) (c .before .before .before .before .before .before .write-terms-row .ensures .node t)
 
-write-rows-add-first : (t : ℕ) → write-rows-lts.Need-add-first (
-  row-fits-reads.Asked,
-  row-fits-reads.Learnt,
-  unlawful-reads.Asked,
-  unlawful-reads.Learnt,
-  next-reads.Asked,
-  next-reads.Learnt,
-  kind-reads.Asked,
-  kind-reads.Learnt,
-  write-terms-row-reads.Asked,
-  write-terms-row-reads.Learnt,
-  after-reads.Asked,
-  after-reads.Learnt,
-  put-opening-reads.Asked,
-  put-opening-reads.Learnt,
-  inside-reads.Asked,
-  inside-reads.Learnt,
-  below-reads.Asked,
-  below-reads.Learnt,
-  write-rows-below t,
-  write-rows.Post,
-  put-closing-reads.Asked,
-  put-closing-reads.Learnt,
-  ends-reads.Asked,
-  ends-reads.Learnt,
-) (write-rows-at t) write-rows.Post write-rows-Inv-loop write-rows-μ-loop
+write-rows-add-first : (t : ℕ) → write-rows-lts.Need-add-first (write-rows-claims t) (write-rows-at t) write-rows.Post write-rows-Inv-loop write-rows-μ-loop
 write-rows-add-first t c = search needs
 
-write-rows-put-opening-requires : (t : ℕ) → write-rows-lts.Need-put-opening-requires (
-  row-fits-reads.Asked,
-  row-fits-reads.Learnt,
-  unlawful-reads.Asked,
-  unlawful-reads.Learnt,
-  next-reads.Asked,
-  next-reads.Learnt,
-  kind-reads.Asked,
-  kind-reads.Learnt,
-  write-terms-row-reads.Asked,
-  write-terms-row-reads.Learnt,
-  after-reads.Asked,
-  after-reads.Learnt,
-  put-opening-reads.Asked,
-  put-opening-reads.Learnt,
-  inside-reads.Asked,
-  inside-reads.Learnt,
-  below-reads.Asked,
-  below-reads.Learnt,
-  write-rows-below t,
-  write-rows.Post,
-  put-closing-reads.Asked,
-  put-closing-reads.Learnt,
-  ends-reads.Asked,
-  ends-reads.Learnt,
-) (write-rows-at t) write-rows.Post write-rows-Inv-loop write-rows-μ-loop
+write-rows-put-opening-requires : (t : ℕ) → write-rows-lts.Need-put-opening-requires (write-rows-claims t) (write-rows-at t) write-rows.Post write-rows-Inv-loop write-rows-μ-loop
 write-rows-put-opening-requires t c κs = let a = c .before .before .before .before .before .before .before .before .before .before .before .before .args in let g = c .before .before .before .before .before .before .before .loop in
     let m : g .i < a .to = c .before .before .before .before .before .before .loop-test .taken in
     let T = sym (c .before .before .before .before .before .row-fits .ensures) ∙ not-false _ (c .before .before .before .before .if1 .left) in
@@ -546,88 +149,13 @@ write-rows-put-opening-requires t c κs = let a = c .before .before .before .bef
     let n : g .at ≤ 1152921504606846976 = omega (arith, s, b, few, m) in
     (omega (arith, m, c .before .before .before .before .before .before .before .before .before .before .before .before .pre .1 .1), standing (g .st) (a .left) (rowAt (a .tree .now) (g .i)) (fits-row (a .tree .now) (g .i) (a .to) (g .st) (a .left) T), n)
 
-write-rows-inside-requires : (t : ℕ) → write-rows-lts.Need-inside-requires (
-  row-fits-reads.Asked,
-  row-fits-reads.Learnt,
-  unlawful-reads.Asked,
-  unlawful-reads.Learnt,
-  next-reads.Asked,
-  next-reads.Learnt,
-  kind-reads.Asked,
-  kind-reads.Learnt,
-  write-terms-row-reads.Asked,
-  write-terms-row-reads.Learnt,
-  after-reads.Asked,
-  after-reads.Learnt,
-  put-opening-reads.Asked,
-  put-opening-reads.Learnt,
-  inside-reads.Asked,
-  inside-reads.Learnt,
-  below-reads.Asked,
-  below-reads.Learnt,
-  write-rows-below t,
-  write-rows.Post,
-  put-closing-reads.Asked,
-  put-closing-reads.Learnt,
-  ends-reads.Asked,
-  ends-reads.Learnt,
-) (write-rows-at t) write-rows.Post write-rows-Inv-loop write-rows-μ-loop
+write-rows-inside-requires : (t : ℕ) → write-rows-lts.Need-inside-requires (write-rows-claims t) (write-rows-at t) write-rows.Post write-rows-Inv-loop write-rows-μ-loop
 write-rows-inside-requires t c κs = search needs
 
-write-rows-below-requires : (t : ℕ) → write-rows-lts.Need-below-requires (
-  row-fits-reads.Asked,
-  row-fits-reads.Learnt,
-  unlawful-reads.Asked,
-  unlawful-reads.Learnt,
-  next-reads.Asked,
-  next-reads.Learnt,
-  kind-reads.Asked,
-  kind-reads.Learnt,
-  write-terms-row-reads.Asked,
-  write-terms-row-reads.Learnt,
-  after-reads.Asked,
-  after-reads.Learnt,
-  put-opening-reads.Asked,
-  put-opening-reads.Learnt,
-  inside-reads.Asked,
-  inside-reads.Learnt,
-  below-reads.Asked,
-  below-reads.Learnt,
-  write-rows-below t,
-  write-rows.Post,
-  put-closing-reads.Asked,
-  put-closing-reads.Learnt,
-  ends-reads.Asked,
-  ends-reads.Learnt,
-) (write-rows-at t) write-rows.Post write-rows-Inv-loop write-rows-μ-loop
+write-rows-below-requires : (t : ℕ) → write-rows-lts.Need-below-requires (write-rows-claims t) (write-rows-at t) write-rows.Post write-rows-Inv-loop write-rows-μ-loop
 write-rows-below-requires t c κs = let a = c .before .before .before .before .before .before .before .before .before .before .before .before .before .before .before .before .args in let n : a .left ≤ 4294967296 = omega (arith, c .before .before .before .before .before .before .before .before .before .before .before .before .before .before .before .before .pre .1 .3) in n
 
-write-rows-write-rows-requires : (t : ℕ) → write-rows-lts.Need-write-rows-requires (
-  row-fits-reads.Asked,
-  row-fits-reads.Learnt,
-  unlawful-reads.Asked,
-  unlawful-reads.Learnt,
-  next-reads.Asked,
-  next-reads.Learnt,
-  kind-reads.Asked,
-  kind-reads.Learnt,
-  write-terms-row-reads.Asked,
-  write-terms-row-reads.Learnt,
-  after-reads.Asked,
-  after-reads.Learnt,
-  put-opening-reads.Asked,
-  put-opening-reads.Learnt,
-  inside-reads.Asked,
-  inside-reads.Learnt,
-  below-reads.Asked,
-  below-reads.Learnt,
-  write-rows-below t,
-  write-rows.Post,
-  put-closing-reads.Asked,
-  put-closing-reads.Learnt,
-  ends-reads.Asked,
-  ends-reads.Learnt,
-) (write-rows-at t) write-rows.Post write-rows-Inv-loop write-rows-μ-loop
+write-rows-write-rows-requires : (t : ℕ) → write-rows-lts.Need-write-rows-requires (write-rows-claims t) (write-rows-at t) write-rows.Post write-rows-Inv-loop write-rows-μ-loop
 write-rows-write-rows-requires t c κs = let a = c .before .before .before .before .before .before .before .before .before .before .before .before .before .before .before .before .before .before .args in let g = c .before .before .before .before .before .before .before .before .before .before .before .before .before .loop in
     let m : g .i < a .to = c .before .before .before .before .before .before .before .before .before .before .before .before .loop-test .taken in
     let T = sym (c .before .before .before .before .before .before .before .before .before .before .before .row-fits .ensures) ∙ not-false _ (c .before .before .before .before .before .before .before .before .before .before .if1 .left) in
@@ -649,88 +177,13 @@ write-rows-write-rows-requires t c κs = let a = c .before .before .before .befo
     let n4 : c .before .before .before .before .before .put-opening .result .at ≤ (g .i + 1) * widest = omega (arith, s, b, o) in
     (omega arith, (omega (arith, lo), n1, n2, n3, n4, c .before .before .before .before .before .before .before .before .before .before .before .before .before .before .before .before .before .before .pre .1 .5))
 
-write-rows-unlawful-requires-3 : (t : ℕ) → write-rows-lts.Need-unlawful-requires-3 (
-  row-fits-reads.Asked,
-  row-fits-reads.Learnt,
-  unlawful-reads.Asked,
-  unlawful-reads.Learnt,
-  next-reads.Asked,
-  next-reads.Learnt,
-  kind-reads.Asked,
-  kind-reads.Learnt,
-  write-terms-row-reads.Asked,
-  write-terms-row-reads.Learnt,
-  after-reads.Asked,
-  after-reads.Learnt,
-  put-opening-reads.Asked,
-  put-opening-reads.Learnt,
-  inside-reads.Asked,
-  inside-reads.Learnt,
-  below-reads.Asked,
-  below-reads.Learnt,
-  write-rows-below t,
-  write-rows.Post,
-  put-closing-reads.Asked,
-  put-closing-reads.Learnt,
-  ends-reads.Asked,
-  ends-reads.Learnt,
-) (write-rows-at t) write-rows.Post write-rows-Inv-loop write-rows-μ-loop
+write-rows-unlawful-requires-3 : (t : ℕ) → write-rows-lts.Need-unlawful-requires-3 (write-rows-claims t) (write-rows-at t) write-rows.Post write-rows-Inv-loop write-rows-μ-loop
 write-rows-unlawful-requires-3 t c κs = search needs
 
-write-rows-same-length-3 : (t : ℕ) → write-rows-lts.Need-same-length-3 (
-  row-fits-reads.Asked,
-  row-fits-reads.Learnt,
-  unlawful-reads.Asked,
-  unlawful-reads.Learnt,
-  next-reads.Asked,
-  next-reads.Learnt,
-  kind-reads.Asked,
-  kind-reads.Learnt,
-  write-terms-row-reads.Asked,
-  write-terms-row-reads.Learnt,
-  after-reads.Asked,
-  after-reads.Learnt,
-  put-opening-reads.Asked,
-  put-opening-reads.Learnt,
-  inside-reads.Asked,
-  inside-reads.Learnt,
-  below-reads.Asked,
-  below-reads.Learnt,
-  write-rows-below t,
-  write-rows.Post,
-  put-closing-reads.Asked,
-  put-closing-reads.Learnt,
-  ends-reads.Asked,
-  ends-reads.Learnt,
-) (write-rows-at t) write-rows.Post write-rows-Inv-loop write-rows-μ-loop
+write-rows-same-length-3 : (t : ℕ) → write-rows-lts.Need-same-length-3 (write-rows-claims t) (write-rows-at t) write-rows.Post write-rows-Inv-loop write-rows-μ-loop
 write-rows-same-length-3 t c = c .before .before .before .before .before .write-rows .kept .1 .1 .1 .1 .1 .1 .1 .1 .0 ∙ c .before .before .before .before .before .before .before .before .before .before .before .put-opening .kept .1 .1 .1 .1 .1 .0 ∙ c .before .before .before .before .before .before .before .before .before .before .before .before .before .before .before .before .before .before .before .loop .inv .same
 
-write-rows-returns-3 : (t : ℕ) → write-rows-lts.Need-returns-3 (
-  row-fits-reads.Asked,
-  row-fits-reads.Learnt,
-  unlawful-reads.Asked,
-  unlawful-reads.Learnt,
-  next-reads.Asked,
-  next-reads.Learnt,
-  kind-reads.Asked,
-  kind-reads.Learnt,
-  write-terms-row-reads.Asked,
-  write-terms-row-reads.Learnt,
-  after-reads.Asked,
-  after-reads.Learnt,
-  put-opening-reads.Asked,
-  put-opening-reads.Learnt,
-  inside-reads.Asked,
-  inside-reads.Learnt,
-  below-reads.Asked,
-  below-reads.Learnt,
-  write-rows-below t,
-  write-rows.Post,
-  put-closing-reads.Asked,
-  put-closing-reads.Learnt,
-  ends-reads.Asked,
-  ends-reads.Learnt,
-) (write-rows-at t) write-rows.Post write-rows-Inv-loop write-rows-μ-loop
+write-rows-returns-3 : (t : ℕ) → write-rows-lts.Need-returns-3 (write-rows-claims t) (write-rows-at t) write-rows.Post write-rows-Inv-loop write-rows-μ-loop
 write-rows-returns-3 t c = let a = c .before .before .before .before .before .before .before .before .before .before .before .before .before .before .before .before .before .before .before .before .before .before .before .before .args in let g = c .before .before .before .before .before .before .before .before .before .before .before .before .before .before .before .before .before .before .before .loop in
     let m : g .i < a .to = c .before .before .before .before .before .before .before .before .before .before .before .before .before .before .before .before .before .before .loop-test .taken in
     let T = sym (c .before .before .before .before .before .before .before .before .before .before .before .before .before .before .before .before .before .row-fits .ensures) ∙ not-false _ (c .before .before .before .before .before .before .before .before .before .before .before .before .before .before .before .before .if1 .left) in
@@ -742,32 +195,7 @@ write-rows-returns-3 t c = let a = c .before .before .before .before .before .be
     (stop-kids (a .tree .now) (g .i) (a .to) (g .st) (a .left) (k .result) (x .result) (k .ensures) (x .ensures) (c .before .before .before .before .before .before .before .before .before .before .before .before .before .before .before .before .before .before .before .before .before .before .before .before .pre .1 .1) lo hi
     (kids-found (a .src .now) (a .tree .now) (g .i) (x .result) (g .st) (k .result) (a .left) _ _ _ _ _ _ _ _ (c .before .before .before .before .before .write-rows .ensures) (c .before .before .before .before .before .before .before .before .inside .ensures) (c .before .before .before .before .before .before .before .below .ensures) ∙ not-true _ (c .before .if4 .taken)))
 
-write-rows-put-closing-requires : (t : ℕ) → write-rows-lts.Need-put-closing-requires (
-  row-fits-reads.Asked,
-  row-fits-reads.Learnt,
-  unlawful-reads.Asked,
-  unlawful-reads.Learnt,
-  next-reads.Asked,
-  next-reads.Learnt,
-  kind-reads.Asked,
-  kind-reads.Learnt,
-  write-terms-row-reads.Asked,
-  write-terms-row-reads.Learnt,
-  after-reads.Asked,
-  after-reads.Learnt,
-  put-opening-reads.Asked,
-  put-opening-reads.Learnt,
-  inside-reads.Asked,
-  inside-reads.Learnt,
-  below-reads.Asked,
-  below-reads.Learnt,
-  write-rows-below t,
-  write-rows.Post,
-  put-closing-reads.Asked,
-  put-closing-reads.Learnt,
-  ends-reads.Asked,
-  ends-reads.Learnt,
-) (write-rows-at t) write-rows.Post write-rows-Inv-loop write-rows-μ-loop
+write-rows-put-closing-requires : (t : ℕ) → write-rows-lts.Need-put-closing-requires (write-rows-claims t) (write-rows-at t) write-rows.Post write-rows-Inv-loop write-rows-μ-loop
 write-rows-put-closing-requires t c κs = let a = c .before .before .before .before .before .before .before .before .before .before .before .before .before .before .before .before .before .before .before .before .before .before .before .before .args in let g = c .before .before .before .before .before .before .before .before .before .before .before .before .before .before .before .before .before .before .before .loop in
     let m : g .i < a .to = c .before .before .before .before .before .before .before .before .before .before .before .before .before .before .before .before .before .before .loop-test .taken in
     let T = sym (c .before .before .before .before .before .before .before .before .before .before .before .before .before .before .before .before .before .row-fits .ensures) ∙ not-false _ (c .before .before .before .before .before .before .before .before .before .before .before .before .before .before .before .before .if1 .left) in
@@ -782,60 +210,10 @@ write-rows-put-closing-requires t c κs = let a = c .before .before .before .bef
     let z : c .before .before .before .before .before .write-rows .result .at ≤ 1152921504606846976 = omega (arith, s, b, o, few, r, hi) in
     z
 
-write-rows-after-requires-2 : (t : ℕ) → write-rows-lts.Need-after-requires-2 (
-  row-fits-reads.Asked,
-  row-fits-reads.Learnt,
-  unlawful-reads.Asked,
-  unlawful-reads.Learnt,
-  next-reads.Asked,
-  next-reads.Learnt,
-  kind-reads.Asked,
-  kind-reads.Learnt,
-  write-terms-row-reads.Asked,
-  write-terms-row-reads.Learnt,
-  after-reads.Asked,
-  after-reads.Learnt,
-  put-opening-reads.Asked,
-  put-opening-reads.Learnt,
-  inside-reads.Asked,
-  inside-reads.Learnt,
-  below-reads.Asked,
-  below-reads.Learnt,
-  write-rows-below t,
-  write-rows.Post,
-  put-closing-reads.Asked,
-  put-closing-reads.Learnt,
-  ends-reads.Asked,
-  ends-reads.Learnt,
-) (write-rows-at t) write-rows.Post write-rows-Inv-loop write-rows-μ-loop
+write-rows-after-requires-2 : (t : ℕ) → write-rows-lts.Need-after-requires-2 (write-rows-claims t) (write-rows-at t) write-rows.Post write-rows-Inv-loop write-rows-μ-loop
 write-rows-after-requires-2 t c κs = search needs
 
-write-rows-loop-less-2 : (t : ℕ) → write-rows-lts.Need-loop-less-2 (
-  row-fits-reads.Asked,
-  row-fits-reads.Learnt,
-  unlawful-reads.Asked,
-  unlawful-reads.Learnt,
-  next-reads.Asked,
-  next-reads.Learnt,
-  kind-reads.Asked,
-  kind-reads.Learnt,
-  write-terms-row-reads.Asked,
-  write-terms-row-reads.Learnt,
-  after-reads.Asked,
-  after-reads.Learnt,
-  put-opening-reads.Asked,
-  put-opening-reads.Learnt,
-  inside-reads.Asked,
-  inside-reads.Learnt,
-  below-reads.Asked,
-  below-reads.Learnt,
-  write-rows-below t,
-  write-rows.Post,
-  put-closing-reads.Asked,
-  put-closing-reads.Learnt,
-  ends-reads.Asked,
-  ends-reads.Learnt,
-) (write-rows-at t) write-rows.Post write-rows-Inv-loop write-rows-μ-loop
+write-rows-loop-less-2 : (t : ℕ) → write-rows-lts.Need-loop-less-2 (write-rows-claims t) (write-rows-at t) write-rows.Post write-rows-Inv-loop write-rows-μ-loop
 write-rows-loop-less-2 t c = let a = c .before .before .before .before .before .before .before .before .before .before .before .before .before .before .before .before .before .before .before .before .before .before .before .before .before .before .before .before .before .before .args in let g = c .before .before .before .before .before .before .before .before .before .before .before .before .before .before .before .before .before .before .before .before .before .before .before .before .before .loop in
     let m : g .i < a .to = c .before .before .before .before .before .before .before .before .before .before .before .before .before .before .before .before .before .before .before .before .before .before .before .before .loop-test .taken in
     let T = sym (c .before .before .before .before .before .before .before .before .before .before .before .before .before .before .before .before .before .before .before .before .before .before .before .row-fits .ensures) ∙ not-false _ (c .before .before .before .before .before .before .before .before .before .before .before .before .before .before .before .before .before .before .before .before .before .before .if1 .left) in
@@ -844,32 +222,7 @@ write-rows-loop-less-2 t c = let a = c .before .before .before .before .before .
     let hi : x .result ≤ a .to = subst (λ (y : ℕ). y ≤ a .to) (sym (x .ensures)) (fits-high (a .tree .now) (g .i) (a .to) (g .st) (a .left) T) in
     left-falls (g .i) (x .result) (a .to) lo hi
 
-write-rows-loop-again-2 : (t : ℕ) → write-rows-lts.Need-loop-again-2 (
-  row-fits-reads.Asked,
-  row-fits-reads.Learnt,
-  unlawful-reads.Asked,
-  unlawful-reads.Learnt,
-  next-reads.Asked,
-  next-reads.Learnt,
-  kind-reads.Asked,
-  kind-reads.Learnt,
-  write-terms-row-reads.Asked,
-  write-terms-row-reads.Learnt,
-  after-reads.Asked,
-  after-reads.Learnt,
-  put-opening-reads.Asked,
-  put-opening-reads.Learnt,
-  inside-reads.Asked,
-  inside-reads.Learnt,
-  below-reads.Asked,
-  below-reads.Learnt,
-  write-rows-below t,
-  write-rows.Post,
-  put-closing-reads.Asked,
-  put-closing-reads.Learnt,
-  ends-reads.Asked,
-  ends-reads.Learnt,
-) (write-rows-at t) write-rows.Post write-rows-Inv-loop write-rows-μ-loop
+write-rows-loop-again-2 : (t : ℕ) → write-rows-lts.Need-loop-again-2 (write-rows-claims t) (write-rows-at t) write-rows.Post write-rows-Inv-loop write-rows-μ-loop
 write-rows-loop-again-2 t c = let a = c .before .before .before .before .before .before .before .before .before .before .before .before .before .before .before .before .before .before .before .before .before .before .before .before .before .before .before .before .before .before .args in let g = c .before .before .before .before .before .before .before .before .before .before .before .before .before .before .before .before .before .before .before .before .before .before .before .before .before .loop in
     let m : g .i < a .to = c .before .before .before .before .before .before .before .before .before .before .before .before .before .before .before .before .before .before .before .before .before .before .before .before .loop-test .taken in
     let T = sym (c .before .before .before .before .before .before .before .before .before .before .before .before .before .before .before .before .before .before .before .before .before .before .before .row-fits .ensures) ∙ not-false _ (c .before .before .before .before .before .before .before .before .before .before .before .before .before .before .before .before .before .before .before .before .before .before .if1 .left) in
@@ -887,205 +240,30 @@ write-rows-loop-again-2 t c = let a = c .before .before .before .before .before 
     (c .before .before .before .before .before .before .before .before .before .before .before .before .before .before .inside .ensures) (c .before .before .before .before .before .before .before .before .before .before .before .before .before .below .ensures) (c .before .before .before .before .before .before .before .before .before .before .before .write-rows .ensures) (c .before .before .before .before .before .before .before .before .before .before .before .write-rows .kept .1 .1 .1 .1 .1 .1 .1 .1 .0) t
     (c .before .before .before .before .before .put-closing .ensures .0) (c .before .before .before .before .before .put-closing .kept .1 .1 .1 .1 .0) (c .before .before .before .before .before .put-closing .ensures .1))
 
-write-rows-ends-requires : (t : ℕ) → write-rows-lts.Need-ends-requires (
-  row-fits-reads.Asked,
-  row-fits-reads.Learnt,
-  unlawful-reads.Asked,
-  unlawful-reads.Learnt,
-  next-reads.Asked,
-  next-reads.Learnt,
-  kind-reads.Asked,
-  kind-reads.Learnt,
-  write-terms-row-reads.Asked,
-  write-terms-row-reads.Learnt,
-  after-reads.Asked,
-  after-reads.Learnt,
-  put-opening-reads.Asked,
-  put-opening-reads.Learnt,
-  inside-reads.Asked,
-  inside-reads.Learnt,
-  below-reads.Asked,
-  below-reads.Learnt,
-  write-rows-below t,
-  write-rows.Post,
-  put-closing-reads.Asked,
-  put-closing-reads.Learnt,
-  ends-reads.Asked,
-  ends-reads.Learnt,
-) (write-rows-at t) write-rows.Post write-rows-Inv-loop write-rows-μ-loop
+write-rows-ends-requires : (t : ℕ) → write-rows-lts.Need-ends-requires (write-rows-claims t) (write-rows-at t) write-rows.Post write-rows-Inv-loop write-rows-μ-loop
 write-rows-ends-requires t c κs = search needs
 
-write-rows-unlawful-requires-4 : (t : ℕ) → write-rows-lts.Need-unlawful-requires-4 (
-  row-fits-reads.Asked,
-  row-fits-reads.Learnt,
-  unlawful-reads.Asked,
-  unlawful-reads.Learnt,
-  next-reads.Asked,
-  next-reads.Learnt,
-  kind-reads.Asked,
-  kind-reads.Learnt,
-  write-terms-row-reads.Asked,
-  write-terms-row-reads.Learnt,
-  after-reads.Asked,
-  after-reads.Learnt,
-  put-opening-reads.Asked,
-  put-opening-reads.Learnt,
-  inside-reads.Asked,
-  inside-reads.Learnt,
-  below-reads.Asked,
-  below-reads.Learnt,
-  write-rows-below t,
-  write-rows.Post,
-  put-closing-reads.Asked,
-  put-closing-reads.Learnt,
-  ends-reads.Asked,
-  ends-reads.Learnt,
-) (write-rows-at t) write-rows.Post write-rows-Inv-loop write-rows-μ-loop
+write-rows-unlawful-requires-4 : (t : ℕ) → write-rows-lts.Need-unlawful-requires-4 (write-rows-claims t) (write-rows-at t) write-rows.Post write-rows-Inv-loop write-rows-μ-loop
 write-rows-unlawful-requires-4 t c κs = search needs
 
-write-rows-same-length-4 : (t : ℕ) → write-rows-lts.Need-same-length-4 (
-  row-fits-reads.Asked,
-  row-fits-reads.Learnt,
-  unlawful-reads.Asked,
-  unlawful-reads.Learnt,
-  next-reads.Asked,
-  next-reads.Learnt,
-  kind-reads.Asked,
-  kind-reads.Learnt,
-  write-terms-row-reads.Asked,
-  write-terms-row-reads.Learnt,
-  after-reads.Asked,
-  after-reads.Learnt,
-  put-opening-reads.Asked,
-  put-opening-reads.Learnt,
-  inside-reads.Asked,
-  inside-reads.Learnt,
-  below-reads.Asked,
-  below-reads.Learnt,
-  write-rows-below t,
-  write-rows.Post,
-  put-closing-reads.Asked,
-  put-closing-reads.Learnt,
-  ends-reads.Asked,
-  ends-reads.Learnt,
-) (write-rows-at t) write-rows.Post write-rows-Inv-loop write-rows-μ-loop
+write-rows-same-length-4 : (t : ℕ) → write-rows-lts.Need-same-length-4 (write-rows-claims t) (write-rows-at t) write-rows.Post write-rows-Inv-loop write-rows-μ-loop
 write-rows-same-length-4 t c = c .before .before .before .before .loop .inv .same
 
-write-rows-returns-4 : (t : ℕ) → write-rows-lts.Need-returns-4 (
-  row-fits-reads.Asked,
-  row-fits-reads.Learnt,
-  unlawful-reads.Asked,
-  unlawful-reads.Learnt,
-  next-reads.Asked,
-  next-reads.Learnt,
-  kind-reads.Asked,
-  kind-reads.Learnt,
-  write-terms-row-reads.Asked,
-  write-terms-row-reads.Learnt,
-  after-reads.Asked,
-  after-reads.Learnt,
-  put-opening-reads.Asked,
-  put-opening-reads.Learnt,
-  inside-reads.Asked,
-  inside-reads.Learnt,
-  below-reads.Asked,
-  below-reads.Learnt,
-  write-rows-below t,
-  write-rows.Post,
-  put-closing-reads.Asked,
-  put-closing-reads.Learnt,
-  ends-reads.Asked,
-  ends-reads.Learnt,
-) (write-rows-at t) write-rows.Post write-rows-Inv-loop write-rows-μ-loop
+write-rows-returns-4 : (t : ℕ) → write-rows-lts.Need-returns-4 (write-rows-claims t) (write-rows-at t) write-rows.Post write-rows-Inv-loop write-rows-μ-loop
 write-rows-returns-4 t c = let a = c .before .before .before .before .before .before .before .before .before .args in let g = c .before .before .before .before .loop in
     let h = g .inv .hi in
     going-not (a .src .now) (a .tree .now) (a .from) (a .to) (a .start) (a .left) (a .begin) (g .i) (g .st) (g .at) (g .good) (a .out .now) (g .out) (g .inv) _ _ _ _ (c .unlawful4 .ensures) (ok-end (a .tree .now) (g .i) (a .to) (g .st) (a .left) (omega arith) ∙ sym (c .before .before .ends .ensures) ∙ not-true _ (c .before .if5 .taken))
 
-write-rows-same-length-5 : (t : ℕ) → write-rows-lts.Need-same-length-5 (
-  row-fits-reads.Asked,
-  row-fits-reads.Learnt,
-  unlawful-reads.Asked,
-  unlawful-reads.Learnt,
-  next-reads.Asked,
-  next-reads.Learnt,
-  kind-reads.Asked,
-  kind-reads.Learnt,
-  write-terms-row-reads.Asked,
-  write-terms-row-reads.Learnt,
-  after-reads.Asked,
-  after-reads.Learnt,
-  put-opening-reads.Asked,
-  put-opening-reads.Learnt,
-  inside-reads.Asked,
-  inside-reads.Learnt,
-  below-reads.Asked,
-  below-reads.Learnt,
-  write-rows-below t,
-  write-rows.Post,
-  put-closing-reads.Asked,
-  put-closing-reads.Learnt,
-  ends-reads.Asked,
-  ends-reads.Learnt,
-) (write-rows-at t) write-rows.Post write-rows-Inv-loop write-rows-μ-loop
+write-rows-same-length-5 : (t : ℕ) → write-rows-lts.Need-same-length-5 (write-rows-claims t) (write-rows-at t) write-rows.Post write-rows-Inv-loop write-rows-μ-loop
 write-rows-same-length-5 t c = c .before .before .before .loop .inv .same
 
-write-rows-returns-5 : (t : ℕ) → write-rows-lts.Need-returns-5 (
-  row-fits-reads.Asked,
-  row-fits-reads.Learnt,
-  unlawful-reads.Asked,
-  unlawful-reads.Learnt,
-  next-reads.Asked,
-  next-reads.Learnt,
-  kind-reads.Asked,
-  kind-reads.Learnt,
-  write-terms-row-reads.Asked,
-  write-terms-row-reads.Learnt,
-  after-reads.Asked,
-  after-reads.Learnt,
-  put-opening-reads.Asked,
-  put-opening-reads.Learnt,
-  inside-reads.Asked,
-  inside-reads.Learnt,
-  below-reads.Asked,
-  below-reads.Learnt,
-  write-rows-below t,
-  write-rows.Post,
-  put-closing-reads.Asked,
-  put-closing-reads.Learnt,
-  ends-reads.Asked,
-  ends-reads.Learnt,
-) (write-rows-at t) write-rows.Post write-rows-Inv-loop write-rows-μ-loop
+write-rows-returns-5 : (t : ℕ) → write-rows-lts.Need-returns-5 (write-rows-claims t) (write-rows-at t) write-rows.Post write-rows-Inv-loop write-rows-μ-loop
 write-rows-returns-5 t c = let a = c .before .before .before .before .before .before .before .before .args in let g = c .before .before .before .loop in
     let h = g .inv .hi in
     going-end (a .src .now) (a .tree .now) (a .from) (a .to) (a .start) (a .left) (a .begin) (g .i) (g .st) (g .at) (g .good) (a .out .now) (g .out) (g .inv) (omega arith) (sym (c .before .ends .ensures) ∙ not-false _ (c .if5 .left))
 
 pub +write-rows-spec : {M : Type 1} → statement M
-+write-rows-spec = close μ-write-rows λ t. write-rows-lts.spec (
-  row-fits-reads.Asked,
-  row-fits-reads.Learnt,
-  unlawful-reads.Asked,
-  unlawful-reads.Learnt,
-  next-reads.Asked,
-  next-reads.Learnt,
-  kind-reads.Asked,
-  kind-reads.Learnt,
-  write-terms-row-reads.Asked,
-  write-terms-row-reads.Learnt,
-  after-reads.Asked,
-  after-reads.Learnt,
-  put-opening-reads.Asked,
-  put-opening-reads.Learnt,
-  inside-reads.Asked,
-  inside-reads.Learnt,
-  below-reads.Asked,
-  below-reads.Learnt,
-  write-rows-below t,
-  write-rows.Post,
-  put-closing-reads.Asked,
-  put-closing-reads.Learnt,
-  ends-reads.Asked,
-  ends-reads.Learnt,
-)
++write-rows-spec = close μ-write-rows λ t. write-rows-lts.spec (write-rows-claims t)
     (write-rows-at t)
     write-rows.Post
     write-rows-Inv-loop
