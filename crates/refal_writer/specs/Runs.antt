@@ -1,7 +1,6 @@
 -- Leaves that are put one by one in runs: what holds of a row that was taken, and names and variables as such rows.
-use Prim.Native.Nat.{ℕ, suc, _+_, _*_, _-_, _%_, _≤_, _<_}
+use Prim.Native.Nat.{ℕ, _+_, _*_, _-_, _%_, _≤_, _<_}
 use native.Mathlib.Omega.{arith}
-use native.Mathlib.Nat.{mul-zero, mul-suc}
 use mathlib.Core.Bool.{Bool, true, false, _&&_, _||_}
 use mathlib.Core.List.{List, [], _∷_, _++_}
 use mathlib.Core.Path.{_≡_, refl, sym, ap, subst, _∙_}
@@ -32,6 +31,10 @@ pub record Took (src w : List ℕ) (i at m : ℕ) (o o′ : List ℕ) : Type 0 w
   pub room : at + m ≤ length o
   pub text : Adds (textOf src (opening atTerms (rowAt w i))) at (at + m) o o′
 
+-- the count of its bytes, written otherwise
+pub took-as : (src w : List ℕ) (i at m m′ : ℕ) (o o′ : List ℕ) → m ≡ m′ → Took src w i at m o o′ → Took src w i at m′ o o′
+took-as src w i at m m′ o o′ e T = subst (λ (x : ℕ). Took src w i at x o o′) e T
+
 -- a walk past it
 pub took-turn : (src w : List ℕ) (from to left b i at m : ℕ) (o₀ o o′ : List ℕ) → Going src w from to atTerms left b i atTerms at true o₀ o
     → Took src w i at m o o′ → length o′ ≡ length o → 7 * to ≤ length w → i < to → m ≤ 18
@@ -39,25 +42,10 @@ pub took-turn : (src w : List ℕ) (from to left b i at m : ℕ) (o₀ o o′ : 
 took-turn src w from to left b i at m o₀ o o′ G T same long more few =
     going-leaf src w from to atTerms left b i atTerms at true o₀ o G refl (T .leaf) long more (at + m) true o′ (T .text) same (omega arith) (sym (T .spelled))
 
--- the same place and the same bytes, written otherwise
-pub going-as : (src w : List ℕ) (from to left b i at at′ : ℕ) (o₀ o o′ : List ℕ) → at ≡ at′ → o′ ≡ o → Going src w from to atTerms left b i atTerms at true o₀ o
-    → Going src w from to atTerms left b i atTerms at′ true o₀ o′
-going-as src w from to left b i at at′ o₀ o o′ e f G =
-    subst (λ (x : ℕ). Going src w from to atTerms left b i atTerms x true o₀ o′) e
-    (subst (λ (x : List ℕ). Going src w from to atTerms left b i atTerms at true o₀ x) (sym f) G)
-
--- ---- the place after the texts of rows that have m bytes each
-pub none-more : (b m from : ℕ) → b ≡ b + m * (from - from)
-none-more b m from =
-    let e : from - from ≡ 0 = omega arith in
-    let z : m * (from - from) ≡ 0 = ap (λ (x : ℕ). m * x) e ∙ mul-zero m in
-    omega arith
-
-pub one-more : (b m from i at : ℕ) → from ≤ i → at ≡ b + m * (i - from) → at + m ≡ b + m * (i + 1 - from)
-one-more b m from i at h e =
-    let f : i + 1 - from ≡ suc (i - from) = omega arith in
-    let g : m * (i + 1 - from) ≡ m * (i - from) + m = ap (λ (x : ℕ). m * x) f ∙ mul-suc m (i - from) in
-    omega arith
+-- the same bytes, written otherwise
+pub going-same : (src w : List ℕ) (from to left b i at : ℕ) (o₀ o o′ : List ℕ) → o′ ≡ o → Going src w from to atTerms left b i atTerms at true o₀ o
+    → Going src w from to atTerms left b i atTerms at true o₀ o′
+going-same src w from to left b i at o₀ o o′ f G = subst (λ (x : List ℕ). Going src w from to atTerms left b i atTerms at true o₀ x) (sym f) G
 
 -- ---- the tests before a run: texts of one to fifteen bytes, and a place in the slice
 pub record Starts (n at room : ℕ) : Type 0 where

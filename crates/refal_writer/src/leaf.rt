@@ -12,7 +12,7 @@ ghost use mathlib.Core.Path.{_≡_};
 ghost use mathlib.Core.Bool.{true};
 ghost use mathlib.Core.List.{[], _∷_, _++_};
 ghost use Prim.Native.Nat.{_+_, _%_, _≤_, _<_};
-ghost use lib.ListN.{length, take, drop};
+ghost use lib.ListN.{length, take};
 ghost use Rattle.refal_tree.specs.Forest.{row};
 ghost use Rattle.refal_tree.specs.FlattenRows.{opening};
 ghost use Rattle.refal_writer.specs.Puts.{Puts};
@@ -34,7 +34,7 @@ pub fn low(x: u32) -> u8
 }
 
 // The count of the bytes before a text: a variable's letter and point.
-fn lead(kind: u32) -> usize
+pub fn lead(kind: u32) -> usize
     ensures { λ r. ⌜ r ≡ ahead kind ⌝ }
 {
     if kind == 12 { 2 } else { 0 }

@@ -1,5 +1,6 @@
 // Runs of leaves that are alike: plain characters; names, or variables, whose texts have one length.
 use crate::chars::put_chars;
+use crate::leaf::lead;
 use crate::leaf::low;
 use crate::row::kind;
 use crate::row::wide;
@@ -11,14 +12,13 @@ use crate::words::is_upper;
 use crate::wrote::put_pair;
 use refal_tree::fields::letter;
 ghost use mathlib.Core.Path.{_≡_};
-ghost use mathlib.Core.Bool.{true, false, _&&_};
+ghost use mathlib.Core.Bool.{true, false};
 ghost use mathlib.Core.List.{List};
 ghost use Prim.Native.Nat.{ℕ, _+_, _*_, _-_, _≤_, _<_};
-ghost use lib.Dec.{eqb, leb};
-ghost use lib.ListN.{length, getD};
+ghost use lib.ListN.{length};
 ghost use Rattle.refal_writer.specs.Going.{Going};
-ghost use Rattle.refal_writer.specs.Runs.{Took};
-ghost use Rattle.refal_writer.specs.Windows.{Edge};
+ghost use Rattle.refal_writer.specs.Runs.{Took, alikeAt};
+ghost use Rattle.refal_writer.specs.Windows.{Edge, ahead};
 
 // The row after a run, and the place after its text.
 pub struct Ran {
@@ -29,7 +29,7 @@ pub struct Ran {
 // Whether row i is a leaf of the kind k whose text has n bytes and stands in a source of so many bytes, with more behind it.
 fn is_alike(tree: &[u32], i: usize, k: u32, n: usize, bytes: usize) -> bool
     requires { ⌜ 7 * i + 6 < length (now tree) ⌝ }
-    ensures { λ r. ⌜ r ≡ ((eqb (getD (now (tree .entry)) (7 * i) 0) k && eqb (getD (now (tree .entry)) (7 * i + 3) 0) n) && (eqb (getD (now (tree .entry)) (7 * i + 6) 0) (i + 1) && leb (getD (now (tree .entry)) (7 * i + 2) 0 + 16) bytes)) ⌝ }
+    ensures { λ r. ⌜ r ≡ alikeAt (now (tree .entry)) i k n bytes ⌝ }
 {
     let w = 7 * i;
     let next = i + 1;
@@ -118,57 +118,54 @@ fn put_variable(
     true
 }
 
-// The names of n bytes from row `from` on, put from the place `begin` on while there is room. The row after them.
-fn names(
+// Row i, put from the place `at` on where it is a leaf of the kind k, a name or a variable, with a text of n bytes and there
+// is room; or nothing.
+fn put_word(
     tree: &[u32],
     src: &[u8],
-    from: usize,
-    to: usize,
+    i: usize,
+    k: u32,
     n: usize,
     edge: &[u8],
-    begin: usize,
+    at: usize,
     out: &mut [u8],
-) -> usize
-    requires { ⌜ (from ≤ to) × (7 * to ≤ length (now tree)) × (begin ≤ length (now out)) × (1 ≤ n) × (n ≤ 15) × Edge (now edge) ⌝ }
-    ensures { λ r. ⌜ (from ≤ r) × (r ≤ to) × ((left : ℕ) → Going (now (src .entry)) (now (tree .entry)) from to 9 left begin r 9 (begin + (n + 1) * (r - from)) true (now (out .entry)) (now (out .exit))) ⌝ }
+) -> bool
+    requires { ⌜ (7 * i + 6 < length (now tree)) × (at ≤ length (now out)) × (1 ≤ n) × (n ≤ 15) × Edge (now edge) ⌝ }
+    ensures { λ r. ⌜ (r ≡ true → Took (now (src .entry)) (now (tree .entry)) i at (ahead k + (n + 1)) (now (out .entry)) (now (out .exit))) × (r ≡ false → now (out .exit) ≡ now (out .entry)) ⌝ }
 {
-    let mut i = from;
-    let mut at = begin;
-    while i < to {
-        if !put_name(tree, src, i, n, edge, at, out) {
-            return i;
-        }
-        at += n + 1;
-        i += 1;
+    if k == 12 {
+        return put_variable(tree, src, i, n, edge, at, out);
     }
-    i
+    put_name(tree, src, i, n, edge, at, out)
 }
 
-// The variables with an index of n bytes from row `from` on, put from the place `begin` on while there is room. The row after
-// them.
-fn variables(
+// The leaves of the kind k, names or variables, with texts of n bytes from row `from` on, put from the place `begin` on while
+// there is room.
+fn alike(
     tree: &[u32],
     src: &[u8],
     from: usize,
     to: usize,
+    k: u32,
     n: usize,
     edge: &[u8],
     begin: usize,
     out: &mut [u8],
-) -> usize
+) -> Ran
     requires { ⌜ (from ≤ to) × (7 * to ≤ length (now tree)) × (begin ≤ length (now out)) × (1 ≤ n) × (n ≤ 15) × Edge (now edge) ⌝ }
-    ensures { λ r. ⌜ (from ≤ r) × (r ≤ to) × ((left : ℕ) → Going (now (src .entry)) (now (tree .entry)) from to 9 left begin r 9 (begin + (n + 3) * (r - from)) true (now (out .entry)) (now (out .exit))) ⌝ }
+    ensures { λ r. ⌜ (from ≤ r .row) × (r .row ≤ to) × ((left : ℕ) → Going (now (src .entry)) (now (tree .entry)) from to 9 left begin (r .row) 9 (r .at) true (now (out .entry)) (now (out .exit))) ⌝ }
 {
+    let step = lead(k) + (n + 1);
     let mut i = from;
     let mut at = begin;
     while i < to {
-        if !put_variable(tree, src, i, n, edge, at, out) {
-            return i;
+        if !put_word(tree, src, i, k, n, edge, at, out) {
+            return Ran { row: i, at };
         }
-        at += n + 3;
+        at += step;
         i += 1;
     }
-    i
+    Ran { row: i, at }
 }
 
 // Whether three rows from i on look alike. Where the next one differs, a run is not worth its start.
@@ -209,21 +206,7 @@ fn words(
     if !fits {
         return Ran { row: i, at };
     }
-    if k == 9 {
-        let r = names(tree, src, i, to, n, edge, at, out);
-        return Ran {
-            row: r,
-            at: at + (n + 1) * (r - i),
-        };
-    }
-    if k == 12 {
-        let r = variables(tree, src, i, to, n, edge, at, out);
-        return Ran {
-            row: r,
-            at: at + (n + 3) * (r - i),
-        };
-    }
-    Ran { row: i, at }
+    alike(tree, src, i, to, k, n, edge, at, out)
 }
 
 // A run from row i on, where there is room for it: plain characters, or names or variables of one length.

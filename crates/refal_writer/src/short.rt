@@ -48,56 +48,44 @@ pub fn put_few(src: &[u8], s: usize, n: usize, at: usize, out: &mut [u8])
     out[e] = 32;
 }
 
-// The first four bytes of src, copied to the front of out.
-fn copy4(src: &[u8], out: &mut [u8])
-    requires { ⌜ (4 ≤ length (now src)) × (4 ≤ length (now out)) ⌝ }
-    ensures { λ _. ⌜ now (out .exit) ≡ take 4 (now (src .entry)) ++ drop 4 (now (out .entry)) ⌝ }
-{
-    let mut both = [0u8; 4];
-    let mut i = 0;
-    while i < 4 {
-        both[i] = src[i];
-        i += 1;
-    }
-    let mut j = 0;
-    while j < 4 {
-        out[j] = both[j];
-        j += 1;
-    }
-}
-
-// The first eight bytes of src, copied to the front of out.
-fn copy8(src: &[u8], out: &mut [u8])
-    requires { ⌜ (8 ≤ length (now src)) × (8 ≤ length (now out)) ⌝ }
-    ensures { λ _. ⌜ now (out .exit) ≡ take 8 (now (src .entry)) ++ drop 8 (now (out .entry)) ⌝ }
+// The first n bytes of src, eight at most, copied to the front of out.
+fn copy8(src: &[u8], n: usize, out: &mut [u8])
+    requires { ⌜ (n ≤ 8) × (n ≤ length (now src)) × (n ≤ length (now out)) ⌝ }
+    ensures { λ _. ⌜ now (out .exit) ≡ take n (now (src .entry)) ++ drop n (now (out .entry)) ⌝ }
 {
     let mut both = [0u8; 8];
     let mut i = 0;
-    while i < 8 {
+    while i < n {
         both[i] = src[i];
         i += 1;
     }
     let mut j = 0;
-    while j < 8 {
+    while j < n {
         out[j] = both[j];
         j += 1;
     }
 }
 
-// The first n bytes of src, four to sixteen, copied to the front of out: two pieces that overlap.
+// The first n bytes of src, copied to the front of out as two pieces of m bytes, which may overlap.
+fn copy_ends(src: &[u8], m: usize, n: usize, out: &mut [u8])
+    requires { ⌜ (m ≤ 8) × (m ≤ n) × (n ≤ m + m) × (n ≤ length (now src)) × (n ≤ length (now out)) ⌝ }
+    ensures { λ _. ⌜ now (out .exit) ≡ take n (now (src .entry)) ++ drop n (now (out .entry)) ⌝ }
+{
+    let k = n - m;
+    copy8(src, m, out);
+    copy8(&src[k..], m, &mut out[k..]);
+}
+
+// The first n bytes of src, four to sixteen, copied to the front of out.
 fn copy_many(src: &[u8], n: usize, out: &mut [u8])
     requires { ⌜ (4 ≤ n) × (n ≤ 16) × (n ≤ length (now src)) × (n ≤ length (now out)) ⌝ }
     ensures { λ _. ⌜ now (out .exit) ≡ take n (now (src .entry)) ++ drop n (now (out .entry)) ⌝ }
 {
     if n < 8 {
-        let k = n - 4;
-        copy4(src, out);
-        copy4(&src[k..], &mut out[k..]);
+        copy_ends(src, 4, n, out);
         return;
     }
-    let k = n - 8;
-    copy8(src, out);
-    copy8(&src[k..], &mut out[k..]);
+    copy_ends(src, 8, n, out);
 }
 
 // Whether the n bytes from s on are bytes of names: from eight on sixteen at a time.

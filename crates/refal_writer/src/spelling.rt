@@ -4,8 +4,7 @@ use crate::words::is_identifier;
 use crate::words::is_index;
 use crate::words::is_number;
 ghost use mathlib.Core.Path.{_≡_};
-ghost use Prim.Native.Nat.{_+_, _≤_};
-ghost use lib.ListN.{length};
+ghost use Prim.Native.Nat.{_+_};
 ghost use Rattle.refal_tree.specs.Rules.{usesText};
 ghost use Rattle.refal_writer.specs.Spellings.{charOk, textSpelled, rowSpelled};
 

@@ -16,7 +16,6 @@ use refal_rows::least;
 use refal_tree::leaves::is_leaf;
 ghost use mathlib.Core.Path.{_≡_};
 ghost use mathlib.Core.Bool.{true, false};
-ghost use mathlib.Core.List.{[], _∷_};
 ghost use Prim.Native.Nat.{_+_, _*_, _-_, _≤_, _<_};
 ghost use lib.ListN.{length, getD};
 ghost use Rattle.refal_tree.specs.FlattenRows.{opening};

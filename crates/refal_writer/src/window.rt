@@ -2,11 +2,10 @@
 ghost use mathlib.Core.Path.{_≡_};
 ghost use mathlib.Core.Bool.{true};
 ghost use mathlib.Core.List.{_++_};
-ghost use Prim.Native.Nat.{ℕ, _≤_, _<_};
+ghost use Prim.Native.Nat.{_≤_, _<_};
 ghost use lib.Dec.{ltb};
-ghost use lib.ListN.{length, take, drop, getD};
+ghost use lib.ListN.{length, take, drop};
 ghost use Rattle.refal_text.specs.Pick.{pick as choose};
-ghost use Rattle.refal_lexer.specs.Classes.{nameByte};
 ghost use Rattle.refal_writer.specs.Windows.{Edge, AllNames};
 use crate::words::is_name_byte;
 

@@ -1,8 +1,7 @@
 // Whether a word is a spelling that reading gives: an Identifier, a Number, a variable's index.
 ghost use mathlib.Core.Path.{_≡_};
-ghost use mathlib.Core.Bool.{true};
 ghost use Prim.Native.Nat.{_+_, _≤_, _<_};
-ghost use lib.ListN.{length, drop, getD};
+ghost use lib.ListN.{length, drop};
 ghost use Rattle.refal_text.specs.Span.{span};
 ghost use Rattle.refal_lexer.specs.Classes.{nameByte, digit, upper};
 ghost use Rattle.refal_lexer.specs.Numbers.{part, numberScan};

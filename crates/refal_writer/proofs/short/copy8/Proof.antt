@@ -1,4 +1,4 @@
--- `refal_writer::short::copy8` meets its contract: the first eight bytes are those of src, the others as they were.
+-- `refal_writer::short::copy8` meets its contract: the first n bytes are those of src, the others as they were.
 use Prim.Native.Nat.{_-_, _≤_, _<_}
 use native.Mathlib.Omega.{arith}
 use mathlib.Core.List.{_++_}
@@ -13,16 +13,16 @@ use Rattle.refal_writer.proofs.short.copy8.Reads as reads
 use Rattle.refal_writer.proofs.short.copy8.Lts as lts
 
 abbrev Inv-loop : tie.InvT-loop
-Inv-loop src out both₀ i₀ both i = (i ≤ 8) × (length both ≡ 8) × (both ≡ take i src ++ drop i (replicate 8 0))
+Inv-loop src n out both₀ i₀ both i = (i ≤ n) × (length both ≡ 8) × (both ≡ take i src ++ drop i (replicate 8 0))
 
 abbrev μ-loop : tie.MeasureT-loop
-μ-loop src out both₀ i₀ both i = 8 - i
+μ-loop src n out both₀ i₀ both i = n - i
 
 abbrev Inv-loop2 : tie.InvT-loop2
-Inv-loop2 src out₀ both i j₀ out j = (j ≤ 8) × (length out ≡ length out₀) × (out ≡ take j both ++ drop j out₀)
+Inv-loop2 src n out₀ both i j₀ out j = (j ≤ n) × (length out ≡ length out₀) × (out ≡ take j both ++ drop j out₀)
 
 abbrev μ-loop2 : tie.MeasureT-loop2
-μ-loop2 src out₀ both i j₀ out j = 8 - j
+μ-loop2 src n out₀ both i j₀ out j = n - j
 
 loop-holds : tie.Need-loop-holds Inv-loop μ-loop Inv-loop2 μ-loop2
 loop-holds c = (omega arith, refl, refl)
@@ -74,7 +74,7 @@ returns : tie.Need-returns Inv-loop μ-loop Inv-loop2 μ-loop2
 returns c = let a = c .before .before .before .before .args in
     let g = c .before .before .before .loop in
     let k = c .before .loop2 in
-    both-loops (a .src .now) (g .both) (replicate 8 0) (a .out .now) _ 8 (g .i) (k .j) (omega arith) (omega arith) (c .before .before .before .before .pre .0) (g .inv .2) (k .inv .2)
+    both-loops (a .src .now) (g .both) (replicate 8 0) (a .out .now) _ (a .n) (g .i) (k .j) (omega arith) (omega arith) (c .before .before .before .before .pre .1) (g .inv .2) (k .inv .2)
 
 pub copy8-spec : {M : Type 1} → statement M
 copy8-spec =
