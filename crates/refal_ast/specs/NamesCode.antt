@@ -7,13 +7,12 @@ use native.Mathlib.Omega.{arith}
 use native.Mathlib.Nat.{le-refl}
 use native.Mathlib.Numerals.{add-one}
 use borrow.Author.Tests.{le-leb, lt-leb, eq-eqb, ne-eqb}
-use lib.Dec.{leb, eqb}
+use lib.Dec.{eqb}
 use lib.ListN.{length, take, drop, getD, set, replicate, length-map, drop-of-length-le}
 use lib.Seq.{drop-cons, take-all}
 use Rattle.refal_rows.specs.Tests.{copy-turn}
 use Rattle.refal_ast.specs.Answers.{refusal}
-use Rattle.refal_ast.specs.Names.{pickByte, upperByte, nameByte, canonicalName, canonicalIndex, sameList, namesEqual, formAnswer, formBytes, length-name}
-use Rattle.refal_ast.specs.declared.Answer.{Answer}
+use Rattle.refal_ast.specs.Names.{pickByte, upperByte, nameByte, canonicalName, canonicalIndex, sameList, namesEqual, formAnswer, formBytes}
 use Rattle.refal_ast.specs.declared.Answer.the-variants.{Done, Refused}
 
 abbrev pub formByte : Bool → ℕ → ℕ

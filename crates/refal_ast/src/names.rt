@@ -3,8 +3,7 @@ use crate::Answer;
 use crate::Refusal;
 ghost use mathlib.Core.Path.{_≡_};
 ghost use mathlib.Core.Bool.{true, false};
-ghost use lib.ListN.{length};
-ghost use Rattle.refal_ast.specs.Names.{upperByte, nameByte, canonicalName, canonicalIndex, namesEqual, formAnswer, formBytes};
+ghost use Rattle.refal_ast.specs.Names.{canonicalName, canonicalIndex, namesEqual, formAnswer, formBytes};
 ghost use Rattle.refal_ast.specs.NamesCode.{formByte, form};
 
 // An executable program starts from the function named `Go`.

@@ -1,7 +1,6 @@
 // What stands at a place of the source.
 ghost use mathlib.Core.Path.{_≡_};
-ghost use mathlib.Core.Bool.{true};
-ghost use Prim.Native.Nat.{_+_, _≤_, _<_};
+ghost use Prim.Native.Nat.{_+_, _<_};
 ghost use lib.ListN.{length, drop, getD};
 ghost use Rattle.refal_lexer.specs.ClassLaws.{Table};
 ghost use Rattle.refal_lexer.specs.Scans.{scan, signScan, rareClass};

@@ -1,7 +1,7 @@
 // Literals: first their end, then a row for each character.
 ghost use mathlib.Core.Path.{_≡_};
 ghost use Prim.Native.Nat.{_+_, _-_, _≤_, _<_};
-ghost use lib.ListN.{length, drop, getD};
+ghost use lib.ListN.{length, drop};
 ghost use Rattle.refal_text.specs.declared.Char.{Char};
 ghost use Rattle.refal_lexer.specs.Literals.{litChar, litFrom, closeScan, charTokens};
 ghost use Rattle.refal_lexer.specs.LiteralLaws.{plain, PlainRun, Fills};

@@ -1,10 +1,9 @@
 // Names, variables and directives.
 ghost use mathlib.Core.Path.{_≡_};
 ghost use mathlib.Core.Bool.{true};
-ghost use Prim.Native.Nat.{suc, _+_, _≤_, _<_};
-ghost use lib.ListN.{length, drop, getD};
-ghost use Rattle.refal_text.specs.Span.{span};
-ghost use Rattle.refal_lexer.specs.Classes.{nameByte, letter, upper, digit};
+ghost use Prim.Native.Nat.{_+_, _≤_, _<_};
+ghost use lib.ListN.{length, drop};
+ghost use Rattle.refal_lexer.specs.Classes.{letter};
 ghost use Rattle.refal_lexer.specs.Words.{nameScan, otherScan, indexScan, variableScan, directiveScan, prefix, wordIs, externWord};
 ghost use Rattle.refal_lexer.specs.ClassLaws.{Table};
 ghost use Rattle.refal_lexer.specs.Within.{Within};

@@ -1,17 +1,16 @@
 -- What the trees' writers leave: the rows of the tree's encoding. And one part more: a condition, a sentence, an item.
 use mathlib.Core.Path.{_≡_, refl, sym, ap, _∙_}
 use Prim.Native.Nat.{ℕ, _+_}
-use mathlib.Core.List.{List, [], _∷_, _++_}
+use mathlib.Core.List.{List}
 use native.Mathlib.Omega.{arith}
-use Rattle.refal_rows.specs.Rows.{putRow}
 use Rattle.refal_rows.specs.Writes.{Writes, none, sized, placed, then, row}
 use Rattle.refal_ast.specs.Kinds.{nodeDeclaration, nodeFunction, nodeSentence, nodeCondition, nodeTerms, nodeEndingBlock, nodeConditionBlock, nodeBracket, nodeCall}
 use Rattle.refal_ast.specs.Tree.{Leaf, symbol, variable, Terms, t0, tLeaf, tBracket, tCall, Conditions, c0, cTerms, cBlock, Sentences, s0, sTerms, sBlock, Names, nOne, nMore}
 use Rattle.refal_ast.specs.Tree.{Program, p0, pDeclaration, pFunction, sizeT, sizeC, sizeS, sizeN, sizeP}
 use Rattle.refal_ast.specs.Encode.{node, leafRow, entryWord, endTerms, encT, encTerms, encC, encS, encN, encP}
 use Rattle.refal_ast.specs.declared.tree.Symbol.the-variants.{Char, Identifier, Number}
-use Rattle.refal_parser.specs.Writers.{putNode, spanRow, nameRow, wT, wTerms, wCondTerms, wC, wS, wN, wP, Cond, withTerms, withBlock, addC, sizeCond, wCond}
-use Rattle.refal_parser.specs.Writers.{End, plain, block, addS, endRow, wEnd, endConds, endSen, wSen, Item, declaration, function, addP, sizeItem, wItem}
+use Rattle.refal_parser.specs.Writers.{putNode, spanRow, wT, wTerms, wC, wS, wN, wP, Cond, withTerms, withBlock, addC, sizeCond, wCond}
+use Rattle.refal_parser.specs.Writers.{End, plain, block, addS, wEnd, endSen, wSen, Item, declaration, function, addP, sizeItem, wItem}
 
 -- a row that is written alone
 alone : (n : ℕ) (kind detail start len a b next : ℕ) → Writes 7 (λ B. putNode B n (node kind detail start len a b next)) n 1 (node kind detail start len a b next)

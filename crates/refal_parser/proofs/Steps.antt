@@ -1,22 +1,22 @@
 -- The machine at the token at a word of the rows: what a step leads to, by the token's kind.
 use mathlib.Core.Path.{_≡_, refl, sym, ap, subst, _∙_}
-use Prim.Native.Nat.{ℕ, zero, suc, _+_, _-_, _≤_, _<_}
-use mathlib.Core.List.{List, [], _∷_}
+use Prim.Native.Nat.{ℕ, zero, suc, _+_, _-_}
+use mathlib.Core.List.{List}
 use mathlib.Core.Bool.{Bool, true, false}
 use native.Mathlib.Omega.{arith}
 use native.Mathlib.Numerals.{sub-one}
-use lib.ListN.{length, getD}
+use lib.ListN.{getD}
 use lib.Dec.{eqb}
 use borrow.Author.Tests.{ne-eqb, eq-eqb, eqb-false}
 use Rattle.refal_ast.specs.Kinds.{tokEntry, tokExtern, tokIdentifier, tokLBrace, tokRBrace, tokComma, tokEquals, tokSemicolon, tokEof}
 use Rattle.refal_ast.specs.Tokens.{Token, token}
-use Rattle.refal_ast.specs.Tree.{Terms, t0, tBracket, tCall, Conditions, cTerms, cBlock, Sentences, s0, sTerms, sBlock, Names, nOne, nMore, Program, pDeclaration, pFunction}
+use Rattle.refal_ast.specs.Tree.{Terms, t0, Conditions, Sentences, s0, sBlock, Names, nOne, nMore, Program, pDeclaration}
 use Rattle.refal_ast.specs.declared.tree.Term.{Term}
 use Rattle.refal_ast.specs.declared.tree.Term.the-variants.{Symbol as theSymbol, Variable, Bracket, Call, UnknownVariable, NoTerm}
 use Rattle.refal_parser.specs.Machine.{termOf, variableOf, Block, body, inCondition, inEnding, Place, pattern, argument, matching, result, ending, bracket, call}
 use Rattle.refal_parser.specs.Machine.{State, items, wantsName, wantsMore, named, entered, headed, between, within, calling, matched, conditioned, equated, blocked, ended}
-use Rattle.refal_parser.specs.Machine.{Outcome, tree, refuse, Step, go, stop, opens, closing, expected, noTerm, wants, afterTerms, endOf, inTerms, atTerms, leave, step, run}
-use Rattle.refal_parser.specs.Ready.{rest, tok, termAt, afterFrom, afterTo, endBefore, Ready}
+use Rattle.refal_parser.specs.Machine.{tree, refuse, Step, go, opens, expected, wants, afterTerms, inTerms, atTerms, leave, step, run}
+use Rattle.refal_parser.specs.Ready.{rest, tok, termAt, afterFrom, afterTo, Ready}
 use Rattle.refal_parser.specs.Post.{Cases, Same, after}
 use Rattle.refal_parser.specs.PostTerms.{Closing}
 use Rattle.refal_parser.specs.PostBlock.{Opens}

@@ -1,17 +1,17 @@
 -- Tokens at a word of the rows.
-use mathlib.Core.Path.{_≡_, refl, sym, ap, subst, _∙_}
-use Prim.Native.Nat.{ℕ, zero, suc, _+_, _-_, _≤_, _<_}
+use mathlib.Core.Path.{_≡_, refl, sym, ap, _∙_}
+use Prim.Native.Nat.{ℕ, suc, _+_, _-_, _≤_, _<_}
 use mathlib.Core.List.{List, [], _∷_}
-use mathlib.Core.Bool.{Bool, true, false, _&&_, true≢false}
+use mathlib.Core.Bool.{true, false, _&&_, true≢false}
 use native.Mathlib.Omega.{arith}
 use lib.ListN.{length, getD, drop, length-drop}
 use lib.Seq.{drop-cons}
-use lib.Dec.{leb, eqb}
+use lib.Dec.{leb}
 use borrow.Author.Tests.{leb-true, eqb-true}
 use Rattle.refal_rows.specs.Tests.{and-left, and-right}
 use Rattle.refal_ast.specs.Kinds.{tokEof}
 use Rattle.refal_ast.specs.Tokens.{Token, token, tokensOf}
-use Rattle.refal_ast.specs.Check.{goodToken, goodEof, goodFields, okTokens}
+use Rattle.refal_ast.specs.Check.{goodToken, okTokens}
 use Rattle.refal_parser.specs.Machine.{nextFrom, nextTo}
 use Rattle.refal_parser.specs.Ready.{rest, tok, afterFrom, afterTo, endBefore, Ready}
 

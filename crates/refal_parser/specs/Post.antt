@@ -5,7 +5,7 @@ use mathlib.Core.List.{List}
 use lib.ListN.{getD}
 use Rattle.refal_ast.specs.Kinds.{tokComma, tokEquals}
 use Rattle.refal_parser.specs.Machine.{State, Outcome, Step, follow, run}
-use Rattle.refal_parser.specs.Ready.{rest, tok, afterFrom, afterTo}
+use Rattle.refal_parser.specs.Ready.{rest, afterFrom, afterTo}
 use Rattle.refal_parser.specs.declared.answers.Got.{Got}
 use Rattle.refal_parser.specs.declared.answers.Got.the-variants.{At, No}
 

@@ -6,7 +6,7 @@ use mathlib.Core.List.{List}
 use lib.ListN.{length, getD}
 use Rattle.refal_ast.specs.Tokens.{Token}
 use Rattle.refal_ast.specs.Tree.{Terms, t0, Conditions, c0, Sentences, s0, sizeC, sizeS}
-use Rattle.refal_parser.specs.Machine.{Block, State, pattern, within, between, conditioned, equated, Outcome, refuse, opens, leave, run}
+use Rattle.refal_parser.specs.Machine.{Block, pattern, within, between, conditioned, equated, Outcome, refuse, opens, leave, run}
 use Rattle.refal_parser.specs.Ready.{rest, tok, endBefore, Ready}
 use Rattle.refal_parser.specs.Writers.{Cond, addC, sizeCond, wCond, End, addS, endRow, wEnd, endSen, wSen, wC, wS}
 use Rattle.refal_parser.specs.Post.{Cases, Same, after, Joint}

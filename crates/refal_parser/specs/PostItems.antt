@@ -7,8 +7,8 @@ use lib.ListN.{length, getD}
 use Rattle.refal_ast.specs.Kinds.{nodeFunction}
 use Rattle.refal_ast.specs.Encode.{node}
 use Rattle.refal_ast.specs.Tree.{Sentences, Names, nOne, nMore, Program, p0, pFunction, sizeS, sizeN, sizeP}
-use Rattle.refal_parser.specs.Machine.{State, items, wantsName, wantsMore, named, headed, Outcome, tree, refuse, run}
-use Rattle.refal_parser.specs.Ready.{rest, endBefore, Ready}
+use Rattle.refal_parser.specs.Machine.{items, wantsName, wantsMore, named, headed, tree, refuse, run}
+use Rattle.refal_parser.specs.Ready.{rest, Ready}
 use Rattle.refal_parser.specs.Writers.{putNode, nameRow, Item, addP, sizeItem, wItem, wN, wS, wP}
 use Rattle.refal_parser.specs.Post.{Cases, Same}
 use Rattle.refal_parser.specs.declared.answers.Got.{Got}

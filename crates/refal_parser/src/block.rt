@@ -1,6 +1,6 @@
 // Sentences hold blocks and blocks hold sentences.
 ghost use mathlib.Core.Path.{_≡_};
-ghost use Prim.Native.Nat.{ℕ, _+_, _≤_};
+ghost use Prim.Native.Nat.{_+_, _≤_};
 ghost use lib.ListN.{getD};
 ghost use Rattle.refal_ast.specs.Kinds.{tokComma, tokLBrace};
 ghost use Rattle.refal_parser.specs.Ready.{Ready};

@@ -1,6 +1,6 @@
 // Check 30: whether the words are the rows of tokens that parsing takes.
 ghost use mathlib.Core.Path.{_≡_};
-ghost use Prim.Native.Nat.{ℕ, _+_, _≤_};
+ghost use Prim.Native.Nat.{_+_, _≤_};
 ghost use lib.ListN.{length};
 ghost use Rattle.refal_ast.specs.Check.{goodEof, goodFields, goodToken, pickBool, scalar, usesDetail, usesText, wellFormed};
 ghost use Rattle.refal_parser.specs.Ready.{tok};

@@ -1,6 +1,6 @@
 // Items: declarations and functions; and the program.
 ghost use mathlib.Core.Path.{_≡_};
-ghost use Prim.Native.Nat.{ℕ, _+_, _≤_};
+ghost use Prim.Native.Nat.{_+_, _≤_};
 ghost use lib.ListN.{getD};
 ghost use Rattle.refal_ast.specs.Kinds.{tokEof, tokExtern, tokIdentifier, tokSemicolon};
 ghost use Rattle.refal_parser.specs.Ready.{Ready};

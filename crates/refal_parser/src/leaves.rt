@@ -1,7 +1,7 @@
 // Runs of leaves: tokens that are a symbol or a variable by themselves. A leaf's unused fields are 0 by check 30, so its row
 // is the token's words as they stand, under the node's kind.
 ghost use mathlib.Core.Path.{_≡_};
-ghost use Prim.Native.Nat.{ℕ, _+_, _≤_};
+ghost use Prim.Native.Nat.{_+_, _≤_};
 ghost use Rattle.refal_parser.specs.Leaves.{isLeaf, leafKind, letter, pickKind};
 ghost use Rattle.refal_parser.specs.Ready.{Ready};
 ghost use Rattle.refal_parser.specs.PostTerms.{LeavesPost};

@@ -1,6 +1,6 @@
 // Node rows.
 ghost use mathlib.Core.Path.{_≡_};
-ghost use Prim.Native.Nat.{ℕ, _+_, _≤_};
+ghost use Prim.Native.Nat.{_+_, _≤_};
 ghost use Rattle.refal_ast.specs.Tree.{symbol, variable};
 ghost use Rattle.refal_ast.specs.Encode.{node, leafRow, letterOf};
 ghost use Rattle.refal_parser.specs.Writers.{putNode, spanRow, termsRow};

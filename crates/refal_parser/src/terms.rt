@@ -1,6 +1,6 @@
 // Terms, brackets and calls; and what follows terms.
 ghost use mathlib.Core.Path.{_≡_};
-ghost use Prim.Native.Nat.{ℕ, _+_, _≤_};
+ghost use Prim.Native.Nat.{_+_, _≤_};
 ghost use Rattle.refal_ast.specs.declared.tree.Term.the-variants.{Bracket, Call};
 ghost use Rattle.refal_parser.specs.Machine.{termOf, variableOf};
 ghost use Rattle.refal_parser.specs.Ready.{Ready, termAt};

@@ -1,6 +1,6 @@
 // Token rows by the word where a token begins.
 ghost use mathlib.Core.Path.{_≡_};
-ghost use Prim.Native.Nat.{ℕ, _+_, _-_, _≤_};
+ghost use Prim.Native.Nat.{_+_, _-_, _≤_};
 ghost use lib.ListN.{getD};
 ghost use Rattle.refal_parser.specs.Ready.{Ready, endBefore};
 

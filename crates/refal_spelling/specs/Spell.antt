@@ -1,6 +1,5 @@
 -- How tokens are spelled in a written text: each flattened token, then one space (document 01 "Writing").
 use Prim.Native.Nat.{ℕ, _+_}
-use mathlib.Core.Bool.{Bool, true, false}
 use mathlib.Core.List.{List, [], _∷_, _++_}
 use lib.Dec.{eqb}
 use lib.ListN.{take, drop}

@@ -1,5 +1,5 @@
 -- A list of words holds a forest exactly when it is that forest's words.
-use Prim.Native.Nat.{ℕ, zero, suc, _+_, _*_, _≤_, _<_}
+use Prim.Native.Nat.{ℕ, _+_, _*_}
 use mathlib.Core.Bool.{Bool, true, false}
 use mathlib.Core.List.{List, [], _∷_, _++_, append-assoc, append-nil}
 use mathlib.Core.Option.{Option, none, some}
@@ -8,7 +8,7 @@ use native.Mathlib.Omega.{arith}
 use lib.Dec.{eqb}
 use lib.ListN.{length, length-append}
 use borrow.Author.Tests.{eq-eqb, ne-eqb, eqb-true}
-use Rattle.refal_tree.specs.Forest.{Row, row, Forest, empty, tree, sizeG, rowWords, encG, joinG, Cut, noCut, cutAt, pickCut, cutMore, cut, parent, under, forestOf}
+use Rattle.refal_tree.specs.Forest.{row, Forest, empty, tree, sizeG, rowWords, encG, joinG, Cut, noCut, cutAt, pickCut, cutMore, cut, parent, under, forestOf}
 
 pub join-empty : (f : Forest) → joinG f empty ≡ f
 unfolding joinG

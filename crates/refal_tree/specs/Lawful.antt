@@ -14,7 +14,7 @@ use borrow.Author.Tests.{leb-true, le-leb, eq-eqb}
 use Rattle.refal_rows.specs.Tests.{and-left, and-right}
 use Rattle.refal_ast.specs.Tree.{Program, sizeP, depthP}
 use Rattle.refal_ast.specs.Encode.{nodeWidth, encP}
-use Rattle.refal_tree.specs.Forest.{Forest, sizeG, encG, forestOf}
+use Rattle.refal_tree.specs.Forest.{Forest, encG, forestOf}
 use Rattle.refal_tree.specs.ForestLaws.{forest-enc, enc-forest, length-enc}
 use Rattle.refal_tree.specs.States.{atItems}
 use Rattle.refal_tree.specs.Rules.{okG}

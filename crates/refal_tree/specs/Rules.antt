@@ -1,6 +1,6 @@
 -- The rules that the rows of a lawful tree keep, row by row: children, fields, levels.
 use Prim.Native.Nat.{ℕ}
-use mathlib.Core.Bool.{Bool, true, false, not, _&&_, _||_}
+use mathlib.Core.Bool.{Bool, true, not, _&&_, _||_}
 use lib.Dec.{eqb, leb}
 use Rattle.refal_ast.specs.Kinds.{nodeName, nodeFunction, nodeTerms, nodeIdentifier, nodeNumber, nodeChar, nodeVariable, nodeCall}
 use Rattle.refal_ast.specs.Check.{pickBool}

@@ -1,20 +1,19 @@
 -- A forest that keeps the rules is the forest of a tree that is no deeper than the levels.
-use Prim.Native.Nat.{ℕ, zero, suc, max, _+_, _≤_, _<_}
-use mathlib.Core.Bool.{Bool, true, false, _&&_}
+use Prim.Native.Nat.{ℕ, zero, suc, _≤_}
+use mathlib.Core.Bool.{Bool, true, _&&_}
 use mathlib.Core.Path.{_≡_, refl, sym, ap, subst, _∙_}
 use native.Mathlib.Omega.{arith}
 use lib.Dec.{eqb, leb}
 use borrow.Author.Tests.{leb-true}
 use Rattle.refal_rows.specs.Tests.{and-left, and-right}
-use Rattle.refal_ast.specs.Tree.{Leaf, symbol, variable, Terms, t0, tLeaf, tBracket, tCall, Conditions, c0, cTerms, cBlock, Sentences, s0, sTerms, sBlock, Names, nOne}
+use Rattle.refal_ast.specs.Tree.{Leaf, symbol, variable, Terms, t0, tLeaf, tBracket, tCall, Conditions, c0, Sentences, s0, Names, nOne}
 use Rattle.refal_ast.specs.Tree.{nMore, Program, p0, pDeclaration, pFunction, depthT, depthC, depthS, depthP}
-use Rattle.refal_ast.specs.Encode.{entryWord, letterOf}
-use Rattle.refal_ast.specs.declared.tree.Symbol.{Symbol}
+use Rattle.refal_ast.specs.Encode.{entryWord}
 use Rattle.refal_ast.specs.declared.tree.Symbol.the-variants.{Char, Identifier, Number}
 use Rattle.refal_tree.specs.Forest.{Row, row, Forest, empty, tree}
-use Rattle.refal_tree.specs.States.{wrong, atItems, atName, atNames, atSentences, atPattern, atConditions, atCondition, atColon, atTerms, atArgument, closed, inside, after, below, lower}
+use Rattle.refal_tree.specs.States.{atItems, atName, atNames, atSentences, atPattern, atConditions, atCondition, atColon, atTerms, atArgument, closed, inside, after, below, lower}
 use Rattle.refal_tree.specs.Rules.{rowOk, okG}
-use Rattle.refal_tree.specs.Typed.{leafR, plain, forT, forTerms, forC, forS, nameR, forN, forP, toForest, addTerm, addItem, getT, getS, getSentence, getTail}
+use Rattle.refal_tree.specs.Typed.{leafR, plain, forT, forTerms, forC, forS, nameR, forN, forP, toForest, getT, getS, getSentence, getTail}
 use Rattle.refal_tree.specs.Typed.{getBlock, getCondition, getRight, getNs, getN, getP, programOf}
 use Rattle.refal_tree.specs.TypedRules.{leaf-back, entry-back}
 use Rattle.refal_tree.specs.Views.{never, TermRow, isLeaf, isBracket, isCall, ItemRow, isDeclaration, isFunction, NameRow, isName, PlainRow, isPlain, TermsRow}

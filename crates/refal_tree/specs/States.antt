@@ -1,6 +1,6 @@
 -- Which rows may stand where. A state says what a node's children, from here on, may be; `after` reads one child.
 use Prim.Native.Nat.{ℕ, zero, suc}
-use mathlib.Core.Bool.{Bool, true, false, not, _&&_, _||_}
+use mathlib.Core.Bool.{Bool, true, false, not, _||_}
 use lib.Dec.{eqb, leb}
 use Rattle.refal_ast.specs.Kinds.{nodeDeclaration, nodeName, nodeFunction, nodeSentence, nodeCondition, nodeTerms, nodeEndingBlock, nodeConditionBlock, nodeIdentifier}
 use Rattle.refal_ast.specs.Kinds.{nodeNumber, nodeChar, nodeVariable, nodeBracket, nodeCall}

@@ -1,21 +1,19 @@
 -- A tree's forest keeps the rules where the tree is no deeper than the levels, and is the tree again.
-use Prim.Native.Nat.{ℕ, zero, suc, max, _+_, _≤_, _<_}
+use Prim.Native.Nat.{ℕ, zero, suc, _≤_}
 use mathlib.Core.Bool.{Bool, true, false, _&&_}
-use mathlib.Core.Path.{_≡_, refl, sym, ap, subst, _∙_}
+use mathlib.Core.Path.{_≡_, refl, ap, _∙_}
 use native.Mathlib.Omega.{arith}
 use lib.Dec.{eqb, leb}
 use borrow.Author.Tests.{le-leb}
 use Rattle.refal_ast.specs.Tree.{Leaf, symbol, variable, Terms, t0, tLeaf, tBracket, tCall, Conditions, c0, cTerms, cBlock, Sentences, s0, sTerms, sBlock, Names, nOne}
 use Rattle.refal_ast.specs.Tree.{nMore, Program, p0, pDeclaration, pFunction, depthT, depthC, depthS, depthP}
-use Rattle.refal_ast.specs.Encode.{entryWord, letterOf}
-use Rattle.refal_ast.specs.declared.tree.Symbol.{Symbol}
+use Rattle.refal_ast.specs.Encode.{entryWord}
 use Rattle.refal_ast.specs.declared.tree.Symbol.the-variants.{Char, Identifier, Number}
-use Rattle.refal_ast.specs.declared.tree.VariableKind.{VariableKind}
 use Rattle.refal_ast.specs.declared.tree.VariableKind.the-variants.{Symbol as kindS, Term as kindT, Expression as kindE}
 use Rattle.refal_tree.specs.Forest.{Row, row, Forest, empty, tree}
-use Rattle.refal_tree.specs.States.{atItems, atName, atNames, atSentences, atPattern, atConditions, atCondition, atColon, atTerms, atArgument, closed, inside, after, below, lower}
+use Rattle.refal_tree.specs.States.{atItems, atName, atNames, atSentences, atPattern, atConditions, atCondition, atColon, atTerms, atArgument, inside, after, below, lower}
 use Rattle.refal_tree.specs.Rules.{rowOk, okG}
-use Rattle.refal_tree.specs.Typed.{leafR, plain, forT, forTerms, forC, forS, nameR, forN, forP, toForest, kindOf, addTerm, addItem, getT, getS, getSentence}
+use Rattle.refal_tree.specs.Typed.{leafR, plain, forT, forTerms, forC, forS, nameR, forN, forP, toForest, addTerm, getT, getS, getSentence}
 use Rattle.refal_tree.specs.Typed.{getTail, getBlock, getCondition, getRight, getNs, getN, getP, programOf}
 
 -- a row that keeps the rules, over children that do

@@ -1,7 +1,7 @@
 -- A walk of lawful rows: what is known at row i of the rows i to j, of its children and of the rows after it, and how it flattens.
 use Prim.Native.Nat.{ℕ, _+_, _*_, _≤_, _<_}
-use mathlib.Core.Bool.{Bool, true, false, _&&_}
-use mathlib.Core.List.{List, [], _∷_, _++_}
+use mathlib.Core.Bool.{Bool, true, _&&_}
+use mathlib.Core.List.{List, [], _++_}
 use mathlib.Core.Option.{Option, none, some}
 use mathlib.Core.Path.{_≡_, refl, sym, ap, _∙_}
 use native.Mathlib.Omega.{arith}
@@ -10,14 +10,14 @@ use lib.ListN.{length}
 use Rattle.refal_rows.specs.Tests.{and-left, and-right}
 use Rattle.refal_ast.specs.Tree.{Program}
 use Rattle.refal_ast.specs.Flatten.{Flat, flattenP}
-use Rattle.refal_tree.specs.Forest.{Row, Forest, empty, tree, forestOf}
+use Rattle.refal_tree.specs.Forest.{Row, Forest, tree, forestOf}
 use Rattle.refal_tree.specs.ForestLaws.{forest-enc}
-use Rattle.refal_tree.specs.States.{atItems, ends, inside, after, below}
-use Rattle.refal_tree.specs.Rules.{rowOk, okG}
+use Rattle.refal_tree.specs.States.{atItems, inside, after, below}
+use Rattle.refal_tree.specs.Rules.{rowOk}
 use Rattle.refal_tree.specs.Typed.{toForest}
 use Rattle.refal_tree.specs.TypedWords.{enc-tree}
 use Rattle.refal_tree.specs.Views.{never}
-use Rattle.refal_tree.specs.Lawful.{treeOf, IsTree, of-tree}
+use Rattle.refal_tree.specs.Lawful.{treeOf, of-tree}
 use Rattle.refal_tree.specs.FlattenRows.{opening, closing, flattenG, flatten-tree}
 use Rattle.refal_tree.specs.Ranges.{rowAt, kindAt, nextAt, forestAt, joined, okIn, okAt, forest-turn, forest-end, forest-all, ok-turn, ok-bad}
 

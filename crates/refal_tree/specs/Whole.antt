@@ -1,5 +1,5 @@
 -- The test for refusal 40 as a check of all rows.
-use Prim.Native.Nat.{ℕ, _*_, _/_, _%_, _≤_, _<_}
+use Prim.Native.Nat.{ℕ, _*_, _%_, _≤_, _<_}
 use mathlib.Core.Bool.{Bool, true, false, _&&_, and-false}
 use mathlib.Core.List.{List}
 use mathlib.Core.Option.{Option, none, some}
@@ -8,13 +8,12 @@ use native.Mathlib.Omega.{arith}
 use lib.Dec.{eqb, leb}
 use lib.ListN.{length}
 use borrow.Author.Tests.{eq-eqb, ne-eqb, le-leb, lt-leb}
-use Rattle.refal_ast.specs.Tree.{Program}
 use Rattle.refal_tree.specs.Forest.{Forest, forestOf}
 use Rattle.refal_tree.specs.States.{atItems}
 use Rattle.refal_tree.specs.Rules.{okG}
 use Rattle.refal_tree.specs.Typed.{programOf}
 use Rattle.refal_tree.specs.Lawful.{pickTree, treeIn, treeOf, found, mostRows, mostLevels, lawful}
-use Rattle.refal_tree.specs.Ranges.{forestAt, forest-all, okIn, okAt}
+use Rattle.refal_tree.specs.Ranges.{forest-all, okIn, okAt}
 
 pub not-whole : (w : List ℕ) → (length w % 7 ≡ 0 → ⊥) → lawful w ≡ false
 unfolding lawful

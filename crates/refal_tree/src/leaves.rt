@@ -1,7 +1,7 @@
 // Runs of leaves among terms. A leaf has no children: its `next` is the row after it.
 ghost use mathlib.Core.Path.{_≡_};
 ghost use Prim.Native.Nat.{ℕ, _+_, _*_, _≤_, _<_};
-ghost use lib.ListN.{length, getD};
+ghost use lib.ListN.{length};
 ghost use Rattle.refal_ast.specs.Check.{pickBool};
 ghost use Rattle.refal_tree.specs.Ranges.{okAt};
 ghost use Rattle.refal_tree.specs.Leaves.{leafOk, leafAt};

@@ -4,7 +4,7 @@ pub mod leaves;
 pub mod states;
 
 ghost use mathlib.Core.Path.{_≡_};
-ghost use Prim.Native.Nat.{ℕ, _+_, _*_, _-_, _≤_, _<_};
+ghost use Prim.Native.Nat.{_+_, _*_, _-_, _≤_, _<_};
 ghost use lib.ListN.{length, getD};
 ghost use Rattle.refal_tree.specs.States.{lower as oneLess, below as levels};
 ghost use Rattle.refal_tree.specs.Forest.{row};

@@ -1,8 +1,8 @@
 -- `refal_parser::parse` meets its contract: 30 first, then the first refusal met, last 38.
-use mathlib.Core.Path.{_≡_, refl, sym, ap, _∙_}
+use mathlib.Core.Path.{sym, ap, _∙_}
 use Prim.Native.Nat.{ℕ}
 use native.Mathlib.Omega.{arith}
-use lib.ListN.{length, replicate}
+use lib.ListN.{replicate}
 use borrow.Author.Tests.{not-true, not-false}
 use Rattle.refal_parser.proofs.CheckLaws.{well-ready}
 use Rattle.refal_parser.proofs.Final.{parsed-bad, parsed-good, refused, done, full}

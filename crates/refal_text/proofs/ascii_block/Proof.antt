@@ -1,7 +1,4 @@
 -- `refal_text::ascii_block` meets its contract: four times eight bytes.
-use mathlib.Core.Path.{_≡_, ap, _∙_}
-use mathlib.Core.Bool.{Bool, _&&_}
-use native.Mathlib.Omega.{arith}
 use borrow.Author.Needs.{needs}
 use Rattle.refal_text.proofs.ascii_block.Statement.{statement}
 use Rattle.refal_text.proofs.ascii_block.Tie as tie

@@ -1,6 +1,5 @@
 -- `refal_tree::below` meets its contract: one case for each of its answers.
-use mathlib.Core.Path.{_≡_, sym, _∙_}
-use mathlib.Core.Bool.{true, false}
+use mathlib.Core.Path.{sym, _∙_}
 use native.Mathlib.Numerals.{add-one}
 use borrow.Author.Tests.{ne-eqb}
 use Rattle.refal_tree.specs.States.{counts}

@@ -1,6 +1,6 @@
 -- `refal_tree::row_ok` meets its contract.
 use Prim.Native.Nat.{ℕ, _+_, _*_}
-use mathlib.Core.Path.{_≡_, sym, ap, _∙_}
+use mathlib.Core.Path.{sym, ap, _∙_}
 use lib.ListN.{getD}
 use Rattle.refal_tree.specs.Forest.{row}
 use Rattle.refal_tree.specs.Rules.{rowOk}

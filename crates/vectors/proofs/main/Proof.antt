@@ -1,5 +1,4 @@
 -- `vectors::main` meets its contract: each turn counts one down.
-use native.Mathlib.Omega.{arith}
 use borrow.Author.Needs.{needs}
 use Rattle.vectors.proofs.main.Statement.{statement}
 use Rattle.vectors.proofs.main.Tie as tie

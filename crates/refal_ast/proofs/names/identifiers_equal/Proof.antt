@@ -1,7 +1,7 @@
 -- `refal_ast::names::identifiers_equal` meets its contract.
 use native.Mathlib.Omega.{arith}
 use mathlib.Core.Path.{_≡_, refl, sym, _∙_}
-use Prim.Native.Nat.{ℕ, _-_, _≤_}
+use Prim.Native.Nat.{_-_, _≤_}
 use lib.ListN.{length, drop}
 use Rattle.refal_ast.specs.Names.{namesEqual}
 use Rattle.refal_ast.specs.NamesCode.{equal-step, equal-stop, equal-end, equal-long}

@@ -1,5 +1,4 @@
 -- `refal_lexer::blank::skip_space` meets its contract: the space is a scan of its own.
-use native.Mathlib.Omega.{arith}
 use Rattle.refal_lexer.specs.LexLaws.{lex-space}
 use borrow.Author.Needs.{needs}
 use Rattle.refal_lexer.proofs.blank.skip_space.Statement.{statement}

@@ -1,6 +1,5 @@
 -- `refal_lexer::literal::lit_char` meets its contract.
 use Rattle.refal_lexer.specs.LiteralLaws.{char-double, char-close, char-byte, char-whole, char-low}
-use native.Mathlib.Omega.{arith}
 use borrow.Author.Needs.{needs}
 use Rattle.refal_lexer.proofs.literal.lit_char.Statement.{statement}
 use Rattle.refal_lexer.proofs.literal.lit_char.Tie as tie

@@ -1,7 +1,7 @@
 -- `refal_lexer::literal::literal_at` meets its contract: a run of plain characters and one other character a turn.
 use Prim.Native.Nat.{_+_, _-_, _≤_, _<_}
 use lib.ListN.{length, drop}
-use mathlib.Core.Path.{_≡_, refl, sym, _∙_}
+use mathlib.Core.Path.{_≡_, sym, _∙_}
 use native.Mathlib.Omega.{arith}
 use borrow.Author.Needs.{needs}
 use Rattle.refal_lexer.specs.Within.{is-in}

@@ -2,8 +2,7 @@
 use Prim.Native.Nat.{_-_}
 use lib.ListN.{length}
 use mathlib.Core.Path.{sym, _∙_}
-use native.Mathlib.Omega.{arith}
-use borrow.Author.Tests.{not-true, not-false}
+use borrow.Author.Tests.{not-false}
 use borrow.Author.Needs.{needs}
 use Rattle.refal_lexer.specs.LiteralLaws.{PlainRun, plain-start, plain-step}
 use Rattle.refal_lexer.proofs.literal.plain_end.Statement.{statement}

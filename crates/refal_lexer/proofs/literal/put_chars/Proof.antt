@@ -1,5 +1,5 @@
 -- `refal_lexer::literal::put_chars` meets its contract: the rows of a run of plain characters and of one other character a turn.
-use Prim.Native.Nat.{_+_, _-_, _≤_, _<_}
+use Prim.Native.Nat.{_-_, _≤_, _<_}
 use native.Mathlib.Omega.{arith}
 use mathlib.Core.Path.{_≡_, refl, _∙_}
 use lib.ListN.{length, drop}

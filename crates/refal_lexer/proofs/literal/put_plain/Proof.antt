@@ -3,7 +3,7 @@ use Prim.Native.Nat.{_+_, _-_, _≤_}
 use lib.ListN.{length, drop}
 use mathlib.Core.Path.{_≡_, refl, sym, _∙_}
 use native.Mathlib.Omega.{arith}
-use borrow.Author.Tests.{not-true, not-false}
+use borrow.Author.Tests.{not-false}
 use borrow.Author.Needs.{needs}
 use Rattle.refal_lexer.specs.Literals.{charTokens}
 use Rattle.refal_lexer.specs.LiteralLaws.{Fills, fills-start, fills-row, fills-at, plain-token}

@@ -1,5 +1,5 @@
 -- `refal_parser::answers::taken` meets its contract: the span shown is that of the token after, or of Eof itself.
-use mathlib.Core.Path.{_≡_, refl, sym, ap, _∙_}
+use mathlib.Core.Path.{sym, _∙_}
 use Rattle.refal_parser.proofs.TokenLaws.{ready-next, from-next, to-next, from-eof, to-eof}
 use borrow.Author.Needs.{needs}
 use Rattle.refal_parser.proofs.answers.taken.Statement.{statement}

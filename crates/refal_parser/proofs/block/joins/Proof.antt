@@ -1,5 +1,5 @@
 -- `refal_parser::block::joins` meets its contract: a comma, `=`, or another kind.
-use mathlib.Core.Path.{_≡_, refl, sym, ap, _∙_}
+use mathlib.Core.Path.{refl, sym, _∙_}
 use Rattle.refal_parser.proofs.Steps.{is-at, is-no, joins-none}
 use borrow.Author.Needs.{needs}
 use Rattle.refal_parser.proofs.block.joins.Statement.{statement}

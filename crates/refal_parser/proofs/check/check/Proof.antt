@@ -1,5 +1,5 @@
 -- `refal_parser::check::check` meets its contract: one pass over the rows, each token good, an Eof last.
-use Prim.Native.Nat.{ℕ, _-_, _+_, _≤_, _%_}
+use Prim.Native.Nat.{_-_, _≤_, _%_}
 use mathlib.Core.Path.{_≡_, refl, sym, _∙_}
 use mathlib.Core.Bool.{_&&_}
 use lib.ListN.{length}

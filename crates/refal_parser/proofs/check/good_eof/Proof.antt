@@ -1,5 +1,5 @@
 -- `refal_parser::check::good_eof` meets its contract: the test of the last token.
-use mathlib.Core.Path.{_≡_, ap}
+use mathlib.Core.Path.{ap}
 use mathlib.Core.Bool.{Bool, _&&_}
 use lib.Dec.{eqb}
 use lib.ListN.{getD}

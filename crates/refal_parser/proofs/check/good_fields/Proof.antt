@@ -1,7 +1,4 @@
 -- `refal_parser::check::good_fields` meets its contract: unused fields are 0.
-use mathlib.Core.Path.{_≡_, ap, _∙_}
-use mathlib.Core.Bool.{Bool, _&&_, _||_}
-use lib.Dec.{eqb}
 use borrow.Author.Needs.{needs}
 use Rattle.refal_parser.proofs.check.good_fields.Statement.{statement}
 use Rattle.refal_parser.proofs.check.good_fields.Tie as tie

@@ -1,5 +1,5 @@
 -- `refal_parser::check::good_token` meets its contract: the test of a token that is not the last.
-use mathlib.Core.Path.{_≡_, ap}
+use mathlib.Core.Path.{ap}
 use mathlib.Core.Bool.{Bool, _&&_}
 use lib.Dec.{leb}
 use lib.ListN.{getD}

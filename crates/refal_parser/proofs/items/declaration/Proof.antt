@@ -1,9 +1,8 @@
 -- `refal_parser::items::declaration` meets its contract: names parted by commas, then `;`.
-use mathlib.Core.Path.{_≡_, refl, sym, ap, subst, _∙_}
-use Prim.Native.Nat.{ℕ, zero, suc, _+_, _-_, _<_, _≤_}
+use mathlib.Core.Path.{_≡_, refl, sym, _∙_}
+use Prim.Native.Nat.{_+_, _-_}
 use native.Mathlib.Omega.{arith}
 use lib.ListN.{length, getD}
-use Rattle.refal_parser.specs.Ready.{Ready, endBefore}
 use Rattle.refal_parser.proofs.TokenLaws.{ready-next, end-before}
 use Rattle.refal_ast.specs.Tree.{nOne, nMore, sizeN}
 use Rattle.refal_parser.specs.Writers.{wN, declaration as itemDeclaration}

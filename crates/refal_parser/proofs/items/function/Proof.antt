@@ -1,10 +1,9 @@
 -- `refal_parser::items::function` meets its contract: a name, then a body in braces.
-use mathlib.Core.Path.{_≡_, refl, sym, ap, subst, _∙_}
-use Prim.Native.Nat.{ℕ, zero, suc, _+_, _-_, _<_, _≤_}
+use mathlib.Core.Path.{_≡_, refl, sym, _∙_}
+use Prim.Native.Nat.{_+_, _-_}
 use native.Mathlib.Omega.{arith}
-use lib.ListN.{length, getD}
-use Rattle.refal_parser.specs.Ready.{Ready, endBefore}
-use Rattle.refal_parser.proofs.TokenLaws.{ready-next, end-before}
+use lib.ListN.{getD}
+use Rattle.refal_parser.proofs.TokenLaws.{ready-next}
 use Rattle.refal_parser.specs.Machine.{body}
 use Rattle.refal_parser.proofs.Steps.{is-at, is-no, other, head-open, head-none}
 use borrow.Author.Needs.{needs}

@@ -1,13 +1,12 @@
 -- `refal_parser::items::item` meets its contract: a declaration or a function, or 32.
-use mathlib.Core.Path.{_≡_, refl, sym, ap, subst, _∙_}
-use Prim.Native.Nat.{ℕ, zero, suc, _+_, _-_, _<_, _≤_}
+use mathlib.Core.Path.{_≡_, refl, sym, _∙_}
+use Prim.Native.Nat.{_+_, _-_}
 use native.Mathlib.Omega.{arith}
-use lib.ListN.{length, getD}
-use Rattle.refal_parser.specs.Ready.{Ready, endBefore}
-use Rattle.refal_parser.proofs.TokenLaws.{ready-next, end-before}
+use lib.ListN.{getD}
+use Rattle.refal_parser.proofs.TokenLaws.{ready-next}
 use mathlib.Core.Bool.{true, false}
 use Rattle.refal_parser.specs.Writers.{function as itemFunction}
-use Rattle.refal_parser.proofs.Steps.{is-at, is-no, other, items-name, items-entry, items-none, entry-name, entry-none}
+use Rattle.refal_parser.proofs.Steps.{is-no, other, items-name, items-entry, items-none, entry-name, entry-none}
 use borrow.Author.Needs.{needs}
 use Rattle.refal_parser.proofs.items.item.Statement.{statement}
 use Rattle.refal_parser.proofs.items.item.Tie as tie

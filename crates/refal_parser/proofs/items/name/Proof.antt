@@ -1,7 +1,6 @@
 -- `refal_parser::items::name` meets its contract: an identifier, or 31.
-use mathlib.Core.Path.{_≡_, refl, sym, ap, _∙_}
+use mathlib.Core.Path.{_≡_, refl, sym, _∙_}
 use lib.ListN.{getD}
-use native.Mathlib.Omega.{arith}
 use Rattle.refal_parser.proofs.TokenLaws.{ready-next}
 use Rattle.refal_parser.proofs.Steps.{is-at, is-no, other, first-name, more-name, first-none, more-none}
 use borrow.Author.Needs.{needs}

@@ -1,10 +1,9 @@
 -- `refal_parser::items::program` meets its contract: items up to Eof.
-use mathlib.Core.Path.{_≡_, refl, sym, ap, subst, _∙_}
-use Prim.Native.Nat.{ℕ, zero, suc, _+_, _-_, _<_, _≤_}
+use mathlib.Core.Path.{_≡_, refl, sym, _∙_}
+use Prim.Native.Nat.{_-_}
 use native.Mathlib.Omega.{arith}
 use lib.ListN.{length, getD}
-use Rattle.refal_parser.specs.Ready.{Ready, endBefore}
-use Rattle.refal_parser.proofs.TokenLaws.{ready-next, end-before}
+use Rattle.refal_parser.proofs.TokenLaws.{ready-next}
 use native.Mathlib.Nat.{zero-add}
 use Rattle.refal_ast.specs.Tree.{p0, sizeP}
 use Rattle.refal_parser.specs.Writers.{wP, addP}

@@ -1,5 +1,5 @@
 -- `refal_parser::nodes::put_symbol` meets its contract: the row of a symbol, by what it is.
-use mathlib.Core.Path.{_≡_, refl, sym, ap, _∙_}
+use mathlib.Core.Path.{sym, ap, _∙_}
 use Prim.Native.Nat.{_+_}
 use Rattle.refal_ast.specs.Tree.{symbol}
 use Rattle.refal_ast.specs.Encode.{leafRow}

@@ -1,5 +1,5 @@
 -- `refal_parser::nodes::put_variable` meets its contract: the row of a variable.
-use mathlib.Core.Path.{_≡_, refl, sym, ap, _∙_}
+use mathlib.Core.Path.{ap, _∙_}
 use Prim.Native.Nat.{ℕ, _+_}
 use Rattle.refal_ast.specs.Kinds.{nodeVariable}
 use Rattle.refal_ast.specs.Encode.{node}

@@ -1,5 +1,5 @@
 -- `refal_parser::terms::clause` meets its contract: terms closed, with their row.
-use mathlib.Core.Path.{_≡_, refl, sym, ap, _∙_}
+use mathlib.Core.Path.{refl}
 use native.Mathlib.Omega.{arith}
 use Rattle.refal_parser.proofs.Steps.{is-at, is-no}
 use borrow.Author.Needs.{needs}

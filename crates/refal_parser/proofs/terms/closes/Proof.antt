@@ -1,6 +1,5 @@
 -- `refal_parser::terms::closes` meets its contract: the closing kind, Eof, or another.
-use mathlib.Core.Path.{_≡_, refl, sym, ap, _∙_}
-use Prim.Native.Nat.{ℕ, _+_, _≤_}
+use mathlib.Core.Path.{_≡_, refl, sym, _∙_}
 use native.Mathlib.Omega.{arith}
 use lib.ListN.{getD}
 use Rattle.refal_parser.proofs.TokenLaws.{ready-next, end-before}

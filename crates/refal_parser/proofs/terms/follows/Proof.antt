@@ -1,5 +1,5 @@
 -- `refal_parser::terms::follows` meets its contract: a comma, `=`, Eof, or another kind.
-use mathlib.Core.Path.{_≡_, refl, sym, ap, _∙_}
+use mathlib.Core.Path.{refl, sym, _∙_}
 use Rattle.refal_parser.proofs.Steps.{is-at, is-no, joint-comma, joint-equals, joint-eof, joint-none}
 use borrow.Author.Needs.{needs}
 use Rattle.refal_parser.proofs.terms.follows.Statement.{statement}

@@ -1,12 +1,12 @@
 -- `refal_parser::terms::pattern` meets its contract: terms up to a comma or `=`, with their row.
-use mathlib.Core.Path.{_≡_, refl, sym, ap, _∙_}
-use Prim.Native.Nat.{ℕ, _+_}
+use mathlib.Core.Path.{sym, ap, _∙_}
+use Prim.Native.Nat.{ℕ}
 use native.Mathlib.Omega.{arith}
 use Rattle.refal_ast.specs.declared.tree.Term.the-variants.{NoTerm}
 use Rattle.refal_parser.specs.Machine.{Step}
 use Rattle.refal_parser.specs.Ready.{tok, afterFrom, afterTo, endBefore}
 use Rattle.refal_parser.specs.Post.{after}
-use Rattle.refal_parser.proofs.Steps.{is-at, is-no, term-step}
+use Rattle.refal_parser.proofs.Steps.{is-no, term-step}
 use borrow.Author.Needs.{needs}
 use Rattle.refal_parser.proofs.terms.pattern.Statement.{statement}
 use Rattle.refal_parser.proofs.terms.pattern.Tie as tie

@@ -1,5 +1,5 @@
 -- `refal_parser::terms::term_of` meets its contract: by the kind.
-use mathlib.Core.Path.{_≡_, refl, sym, ap, _∙_}
+use mathlib.Core.Path.{sym, ap, _∙_}
 use Prim.Native.Nat.{ℕ}
 use Rattle.refal_parser.specs.Machine.{termOf}
 use Rattle.refal_parser.proofs.Steps.{term-none}

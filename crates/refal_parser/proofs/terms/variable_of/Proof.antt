@@ -1,9 +1,8 @@
 -- `refal_parser::terms::variable_of` meets its contract: by the letter.
-use mathlib.Core.Path.{_≡_, refl, sym, ap, _∙_}
+use mathlib.Core.Path.{sym, ap}
 use Prim.Native.Nat.{ℕ}
 use Rattle.refal_parser.specs.Machine.{variableOf}
 use Rattle.refal_parser.proofs.Steps.{variable-none}
-use borrow.Author.Needs.{needs}
 use Rattle.refal_parser.proofs.terms.variable_of.Statement.{statement}
 use Rattle.refal_parser.proofs.terms.variable_of.Tie as tie
 use Rattle.refal_parser.proofs.terms.variable_of.Reads as reads

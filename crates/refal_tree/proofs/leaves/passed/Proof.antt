@@ -1,5 +1,5 @@
 -- `refal_tree::leaves::passed` meets its contract: leaves are passed over among terms only.
-use mathlib.Core.Path.{_≡_, refl, sym, ap, _∙_}
+use mathlib.Core.Path.{refl, sym, ap, _∙_}
 use Prim.Native.Nat.{ℕ}
 use native.Mathlib.Omega.{arith}
 use Rattle.refal_tree.specs.Ranges.{okAt}

@@ -1,6 +1,5 @@
 -- `refal_tree::states::inside` meets its contract: one case for each kind that has children.
 use borrow.Author.Tests.{ne-eqb}
-use borrow.Author.Needs.{needs}
 use Rattle.refal_tree.proofs.states.inside.Statement.{statement}
 use Rattle.refal_tree.proofs.states.inside.Tie as tie
 use Rattle.refal_tree.proofs.states.inside.Reads as reads

@@ -1,6 +1,5 @@
 -- `refal_tree::states::only` meets its contract.
 use borrow.Author.Tests.{eq-eqb, ne-eqb}
-use borrow.Author.Needs.{needs}
 use Rattle.refal_tree.proofs.states.only.Statement.{statement}
 use Rattle.refal_tree.proofs.states.only.Tie as tie
 use Rattle.refal_tree.proofs.states.only.Reads as reads
