@@ -1,6 +1,6 @@
 //! Times the original, the proved library and the mark in one run, and prints tables.
 
-use bench::measure::{Effort, Measured, measure, reading};
+use bench::measure::{Effort, Measured, measure, reading, whole};
 use bench::memory::{Counting, original_peak};
 use bench::{plot, table};
 use oracle::generate::delivery::{HOSTILE, delivery, hostile};
@@ -99,6 +99,12 @@ fn main() -> ExitCode {
     print!("{}", table::step("Parsing", &parsed, |m| m.parsing));
     let both = |m: &Measured| m.reading.plus(m.parsing);
     print!("{}", table::step("Reading and parsing", &measured, both));
+    let ends: Vec<_> = measured
+        .iter()
+        .zip(&deliveries)
+        .map(|(input, (_, src))| (input, whole(src, effort)))
+        .collect();
+    print!("{}", table::whole(&ends));
     print!("{}", table::writing(&parsed));
     let peaks: Vec<_> = measured
         .iter()

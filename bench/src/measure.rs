@@ -4,6 +4,9 @@ use crate::{clock, mark};
 use compare::{Library, has};
 use oracle::cases::{Case, Functions};
 use oracle::original;
+use refal5::lexer::Lexer;
+use refal5::parser::Parser;
+use refal5::rows::{NodeRows, TokenRows};
 use std::hint::black_box;
 use std::time::{Duration, Instant};
 
@@ -48,6 +51,18 @@ pub struct Writing {
     pub bytes: usize,
     pub write: f64,
     pub read_it: f64,
+}
+
+/// From a source to its tree, with all that is allocated on the way made and given back: medians in seconds.
+#[derive(Debug, Clone, Copy)]
+pub struct Whole {
+    pub original: Option<f64>,
+    /// By the crate's types that mirror the original's.
+    pub types: f64,
+    /// By the crate's rows, made for the call and given back after it.
+    pub rows: f64,
+    /// By rows that an earlier call left.
+    pub again: f64,
 }
 
 /// How often each is timed: at least this many times, and for at least so long in all.
@@ -140,6 +155,45 @@ pub fn measure(name: &str, src: &str, effort: Effort) -> Measured {
         parsing,
         writing,
     }
+}
+
+/// What a caller waits for who begins with a source and with nothing allocated.
+pub fn whole(src: &str, effort: Effort) -> Whole {
+    let mut theirs = Vec::new();
+    let mut types = Vec::new();
+    let mut rows = Vec::new();
+    let mut again = Vec::new();
+    let mut kept = (TokenRows::new(), NodeRows::new());
+    repeat(effort, || {
+        if original::PRESENT {
+            theirs.push(
+                time(|| drop(original::tokenize(black_box(src)).map(original::parse_tokens))).0,
+            );
+        }
+        types.push(time(|| drop(by_types(black_box(src)))).0);
+        let fresh = || (TokenRows::new(), NodeRows::new());
+        rows.push(time(|| by_rows(black_box(src), &mut fresh())).0);
+        again.push(time(|| by_rows(black_box(src), &mut kept)).0);
+    });
+    Whole {
+        original: median(theirs),
+        types: median(types).unwrap_or_default(),
+        rows: median(rows).unwrap_or_default(),
+        again: median(again).unwrap_or_default(),
+    }
+}
+
+fn by_types(src: &str) -> refal5::ast::Program {
+    let tokens = Lexer::new(src).tokenize().expect("a delivery is read");
+    let program = Parser::new(tokens).parse_program();
+    program.expect("a delivery is parsed")
+}
+
+/// The nodes' number.
+fn by_rows(src: &str, (token_rows, node_rows): &mut (TokenRows, NodeRows)) -> usize {
+    let tokens = token_rows.read(src.as_bytes()).expect("a delivery is read");
+    let tree = node_rows.parse(tokens).expect("a delivery is parsed");
+    tree.len()
 }
 
 /// The library's seconds for reading, median of five, whether it accepts the source or refuses it.

@@ -1,6 +1,6 @@
 //! The measurements as tables in Markdown.
 
-use crate::measure::{Measured, Times};
+use crate::measure::{Measured, Times, Whole};
 
 /// An input of fewer tokens says nothing on the time of one.
 pub const FEW: usize = 1000;
@@ -88,6 +88,34 @@ pub fn writing(measured: &[Measured]) -> String {
             ];
             text.push_str(&format!("| {} |\n", cells.join(" | ")));
         }
+    }
+    text.push('\n');
+    text
+}
+
+/// From a source to its tree and back to nothing allocated.
+pub fn whole(rows: &[(&Measured, Whole)]) -> String {
+    let mut text = String::from(
+        "## End to end\n\n\
+         | input | size | original ms | crate, types ms | crate, rows ms | crate, rows used again ms \
+         | original against types | against rows | against rows used again |\n\
+         |---|---|---|---|---|---|---|---|---|\n",
+    );
+    let milliseconds =
+        |time: Option<f64>| time.map_or_else(|| "-".into(), |time| format!("{:.2}", time * 1e3));
+    for (input, whole) in rows {
+        let cells = [
+            input.name.clone(),
+            size(input.bytes),
+            milliseconds(whole.original),
+            milliseconds(Some(whole.types)),
+            milliseconds(Some(whole.rows)),
+            milliseconds(Some(whole.again)),
+            ratio(whole.original, Some(whole.types)),
+            ratio(whole.original, Some(whole.rows)),
+            ratio(whole.original, Some(whole.again)),
+        ];
+        text.push_str(&format!("| {} |\n", cells.join(" | ")));
     }
     text.push('\n');
     text

@@ -391,7 +391,7 @@ fn a_written_text_over_the_limit() {
 fn large_sources() {
     const COUNT: usize = 80_000;
     let source = "F { s1 'abc' = <G (s1) 12>; }\n".repeat(COUNT);
-    assert!(source.len() > 1 << 20 && tokenize(&source).len() > 1 << 20);
+    assert!(source.len() > 2 << 20 && tokenize(&source).len() > 1 << 20);
     let program = parse(&source);
     assert_eq!(program.items.len(), COUNT);
     let mut token_rows = TokenRows::new();
@@ -407,6 +407,14 @@ fn large_sources() {
     let broken = source + "}";
     let tokens = token_rows.read(broken.as_bytes()).unwrap();
     assert_eq!(node_rows.parse(tokens).unwrap_err().number, 32);
+    // Rows that were made for one source serve shorter and longer ones.
+    for count in [1, 2 * COUNT, COUNT] {
+        let source = "F { s1 'abc' = <G (s1) 12>; }\n".repeat(count);
+        let tokens = token_rows.read(source.as_bytes()).unwrap();
+        assert_eq!(tokens.len(), 16 * count + 1);
+        let tree = node_rows.parse(tokens).unwrap();
+        assert_eq!((tree.len(), tree.items().count()), (12 * count, count));
+    }
 }
 
 /// The tree's nodes as spelled: kind, detail by its meaning, and text.

@@ -17,10 +17,15 @@ impl<'a> Tokens<'a> {
     /// Reads a source into lent words. 25 where they are too few: its need is the number of rows, of [`TOKEN_WORDS`] words.
     pub fn read(source: &'a [u8], words: &'a mut [u32]) -> Result<Self, Refusal> {
         let count = raw::read(source, words)?;
-        Ok(Self {
+        Ok(Self::over(source, &words[..count * TOKEN_WORDS]))
+    }
+
+    /// The tokens in rows that reading put down.
+    pub(crate) fn over(source: &'a [u8], words: &'a [u32]) -> Self {
+        Self {
             source: std::str::from_utf8(source).expect("reading refuses what is not UTF-8"),
-            words: &words[..count * TOKEN_WORDS],
-        })
+            words,
+        }
     }
 
     pub fn source(self) -> &'a str {
