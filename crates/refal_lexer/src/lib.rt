@@ -12,10 +12,10 @@ ghost use Rattle.refal_rows.specs.Rows.{putRow};
 ghost use mathlib.Core.Bool.{true};
 
 mod blank;
-mod class;
+pub mod class;
 mod dispatch;
 mod literal;
-mod number;
+pub mod number;
 mod runs;
 mod word;
 

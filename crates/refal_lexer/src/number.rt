@@ -33,7 +33,7 @@ fn add_digit(v: u64, b: u8) -> u64
     }
 }
 
-fn whole_end(src: &[u8], at: usize) -> Whole
+pub fn whole_end(src: &[u8], at: usize) -> Whole
     requires { ⌜ at ≤ length (now src) ⌝ }
     ensures { λ r. ⌜ (r .end ≡ at + span digit (drop at (now (src .entry)))) × (r .end ≤ length (now (src .entry))) × (r .worth ≡ worth 0 (drop at (now (src .entry)))) ⌝ }
 {
@@ -51,7 +51,7 @@ fn whole_end(src: &[u8], at: usize) -> Whole
 }
 
 // Where the part that `mark` begins ends: at itself if there is none.
-fn part_end(src: &[u8], at: usize, mark: u8) -> usize
+pub fn part_end(src: &[u8], at: usize, mark: u8) -> usize
     requires { ⌜ (at ≤ length (now src)) × (0 < mark) ⌝ }
     ensures { λ r. ⌜ (r ≡ at + part mark (drop at (now (src .entry)))) × (r ≤ length (now (src .entry))) ⌝ }
 {

@@ -7,7 +7,7 @@ use crate::token::write_char;
 use crate::token::write_text;
 use crate::window::copy16;
 use crate::window::names16;
-use crate::words::is_upper;
+use refal_lexer::class::is_upper;
 ghost use mathlib.Core.Path.{_≡_};
 ghost use mathlib.Core.Bool.{true};
 ghost use mathlib.Core.List.{[], _∷_, _++_};

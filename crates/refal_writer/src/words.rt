@@ -1,11 +1,14 @@
 // Whether a word is a spelling that reading gives: an Identifier, a Number, a variable's index.
+use refal_lexer::class::is_digit;
+use refal_lexer::class::is_upper;
+use refal_lexer::number::part_end;
+use refal_lexer::number::whole_end;
 ghost use mathlib.Core.Path.{_≡_};
 ghost use Prim.Native.Nat.{_+_, _≤_, _<_};
 ghost use lib.ListN.{length, drop};
 ghost use Rattle.refal_text.specs.Span.{span};
-ghost use Rattle.refal_lexer.specs.Classes.{nameByte, digit, upper};
-ghost use Rattle.refal_lexer.specs.Numbers.{part, numberScan};
-ghost use Rattle.refal_lexer.specs.NumberLaws.{worth, digitStep};
+ghost use Rattle.refal_lexer.specs.Classes.{nameByte};
+ghost use Rattle.refal_lexer.specs.Numbers.{numberScan};
 ghost use Rattle.refal_spelling.specs.Spells.{tokenTo, spells, spellsIndex};
 
 pub fn is_name_byte(b: u8) -> bool
@@ -13,18 +16,6 @@ pub fn is_name_byte(b: u8) -> bool
 {
     (((((65 <= b) & (b <= 90)) | ((97 <= b) & (b <= 122))) | ((48 <= b) & (b <= 57))) | (b == 95))
         | (b == 45)
-}
-
-fn is_digit(b: u8) -> bool
-    ensures { λ r. ⌜ r ≡ digit b ⌝ }
-{
-    (48 <= b) & (b <= 57)
-}
-
-pub fn is_upper(b: u8) -> bool
-    ensures { λ r. ⌜ r ≡ upper b ⌝ }
-{
-    (65 <= b) & (b <= 90)
 }
 
 // Where the bytes of a name from `at` on end.
@@ -67,60 +58,6 @@ pub fn is_index(word: &[u8]) -> bool
     let n = word.len();
     let end = name_end(word, 0);
     ((1 <= n) & (n <= 15)) & (end == n)
-}
-
-// Where a run of digits ends, and what it is worth, or some number above 4294967295 where it is worth more.
-struct Whole {
-    end: usize,
-    worth: u64,
-}
-
-fn wide(b: u8) -> u64
-    ensures { λ r. ⌜ r ≡ b ⌝ }
-{
-    b as u64
-}
-
-fn add_digit(v: u64, b: u8) -> u64
-    requires { ⌜ 48 ≤ b ⌝ }
-    ensures { λ r. ⌜ r ≡ digitStep v b ⌝ }
-{
-    if v <= 4294967295 {
-        v * 10 + (wide(b) - 48)
-    } else {
-        v
-    }
-}
-
-fn whole_end(word: &[u8], at: usize) -> Whole
-    requires { ⌜ at ≤ length (now word) ⌝ }
-    ensures { λ r. ⌜ (r .end ≡ at + span digit (drop at (now (word .entry)))) × (r .end ≤ length (now (word .entry))) × (r .worth ≡ worth 0 (drop at (now (word .entry)))) ⌝ }
-{
-    let mut i = at;
-    let mut v = 0u64;
-    while i < word.len() {
-        let b = word[i];
-        if !is_digit(b) {
-            return Whole { end: i, worth: v };
-        }
-        v = add_digit(v, b);
-        i += 1;
-    }
-    Whole { end: i, worth: v }
-}
-
-// Where the part that `mark` begins ends: at itself if there is none.
-fn part_end(word: &[u8], at: usize, mark: u8) -> usize
-    requires { ⌜ (at ≤ length (now word)) × (0 < mark) ⌝ }
-    ensures { λ r. ⌜ (r ≡ at + part mark (drop at (now (word .entry)))) × (r ≤ length (now (word .entry))) ⌝ }
-{
-    let b = refal_text::byte(word, at);
-    if b == mark {
-        let next = at + 1;
-        let w = whole_end(word, next);
-        return w.end;
-    }
-    at
 }
 
 // A number whose digits start at `from`: behind a sign where that is 1.
