@@ -8,9 +8,6 @@ use Rattle.refal_lexer.specs.ClassLaws.{Table}
 use borrow.Author.Needs.{needs}
 use Rattle.refal_lexer.proofs.lex_all.Statement.{statement}
 use Rattle.refal_lexer.proofs.lex_all.Tie as tie
-use Rattle.refal_lexer.proofs.lex_all.Reads as reads
-use Rattle.refal_lexer.proofs.lex_all.Lts as lts
-use Rattle.refal_lexer.proofs.lex_by.Reads as lex-by-reads
 
 table : List ℕ
 table =

@@ -14,19 +14,6 @@ use Rattle.refal_lexer.specs.ShapeLaws.{literal-few, literal-quote}
 use borrow.Author.Needs.{needs}
 use Rattle.refal_lexer.proofs.lex_by.Statement.{statement}
 use Rattle.refal_lexer.proofs.lex_by.Tie as tie
-use Rattle.refal_lexer.proofs.lex_by.Reads as reads
-use Rattle.refal_lexer.proofs.lex_by.Lts as lts
-use Rattle.refal_lexer.proofs.blank.skip_blank.Reads as skip-blank-reads
-use Rattle.refal_lexer.proofs.blank.skip_space.Reads as skip-space-reads
-use Rattle.refal_lexer.proofs.class.class_of.Reads as class-of-reads
-use Rattle.refal_lexer.proofs.dispatch.scan_at.Reads as scan-at-reads
-use Rattle.refal_lexer.proofs.literal.literal_at.Reads as literal-at-reads
-use Rattle.refal_lexer.proofs.literal.put_chars.Reads as put-chars-reads
-use Rattle.refal_lexer.proofs.put_token.Reads as put-token-reads
-use Rattle.refal_lexer.proofs.refused.Reads as refused-reads
-use Rattle.refal_lexer.proofs.word.name_at.Reads as name-at-reads
-use Rattle.refal_lexer.proofs.word.variable_at.Reads as variable-at-reads
-use Rattle.refal_rows.proofs.put6.Reads as put6-reads
 
 abbrev Inv-loop : tie.InvT-loop
 Inv-loop src rows₀ table at₀ n₀ line₀ rows at n line = (at ≤ length src) × (n ≤ at) × (length rows ≡ length rows₀) × Leads (lex 0 at line (drop at src)) (lex 0 0 true src) rows rows₀ n

@@ -6,12 +6,6 @@ use Rattle.refal_lexer.specs.ReadLaws.{read-refused, read-done, answer-l
 use borrow.Author.Needs.{needs}
 use Rattle.refal_lexer.proofs.read.Statement.{statement}
 use Rattle.refal_lexer.proofs.read.Tie as tie
-use Rattle.refal_lexer.proofs.read.Reads as reads
-use Rattle.refal_lexer.proofs.read.Lts as lts
-use Rattle.refal_lexer.proofs.lex_all.Reads as lex-all-reads
-use Rattle.refal_lexer.proofs.refused.Reads as refused-reads
-use Rattle.refal_rows.proofs.clear.Reads as clear-reads
-use Rattle.refal_text.proofs.first_ill.Reads as first-ill-reads
 
 -- src/lib.rt:119:9
 clear-requires : tie.Need-clear-requires

@@ -9,12 +9,6 @@ use Rattle.refal_parser.proofs.Final.{parsed-bad, parsed-good, refused,
 use borrow.Author.Needs.{needs}
 use Rattle.refal_parser.proofs.parse.Statement.{statement}
 use Rattle.refal_parser.proofs.parse.Tie as tie
-use Rattle.refal_parser.proofs.parse.Reads as reads
-use Rattle.refal_parser.proofs.parse.Lts as lts
-use Rattle.refal_parser.proofs.check.check.Reads as check-reads
-use Rattle.refal_parser.proofs.items.program.Reads as program-reads
-use Rattle.refal_parser.proofs.refused.Reads as refused-reads
-use Rattle.refal_rows.proofs.clear.Reads as clear-reads
 
 -- src/lib.rt:36:9
 check-requires : tie.Need-check-requires

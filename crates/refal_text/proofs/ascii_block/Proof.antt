@@ -2,9 +2,6 @@
 use borrow.Author.Needs.{needs}
 use Rattle.refal_text.proofs.ascii_block.Statement.{statement}
 use Rattle.refal_text.proofs.ascii_block.Tie as tie
-use Rattle.refal_text.proofs.ascii_block.Reads as reads
-use Rattle.refal_text.proofs.ascii_block.Lts as lts
-use Rattle.refal_text.proofs.ascii_eight.Reads as ascii-eight-reads
 
 -- src/lib.rt:169:6
 ascii-eight-requires : tie.Need-ascii-eight-requires

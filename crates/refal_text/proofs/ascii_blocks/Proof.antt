@@ -10,9 +10,6 @@ use Rattle.refal_text.specs.AsciiLaws.{block-on}
 use borrow.Author.Needs.{needs}
 use Rattle.refal_text.proofs.ascii_blocks.Statement.{statement}
 use Rattle.refal_text.proofs.ascii_blocks.Tie as tie
-use Rattle.refal_text.proofs.ascii_blocks.Reads as reads
-use Rattle.refal_text.proofs.ascii_blocks.Lts as lts
-use Rattle.refal_text.proofs.ascii_block.Reads as ascii-block-reads
 
 abbrev Inv-loop : tie.InvT-loop
 Inv-loop src at i₀ i = (i ≤ length src) × (i + span ascii (drop i src) ≡ at + span ascii (drop at src))

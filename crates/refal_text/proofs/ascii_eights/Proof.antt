@@ -10,10 +10,6 @@ use Rattle.refal_text.specs.AsciiLaws.{eight-on}
 use borrow.Author.Needs.{needs}
 use Rattle.refal_text.proofs.ascii_eights.Statement.{statement}
 use Rattle.refal_text.proofs.ascii_eights.Tie as tie
-use Rattle.refal_text.proofs.ascii_eights.Reads as reads
-use Rattle.refal_text.proofs.ascii_eights.Lts as lts
-use Rattle.refal_text.proofs.ascii_blocks.Reads as ascii-blocks-reads
-use Rattle.refal_text.proofs.ascii_eight.Reads as ascii-eight-reads
 
 abbrev Inv-loop : tie.InvT-loop
 Inv-loop src at i₀ i = (i ≤ length src) × (i + span ascii (drop i src) ≡ at + span ascii (drop at src))

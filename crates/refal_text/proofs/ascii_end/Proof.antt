@@ -10,9 +10,6 @@ use Rattle.refal_text.specs.SpanLaws.{span-end, span-stop, span-step}
 use borrow.Author.Needs.{needs}
 use Rattle.refal_text.proofs.ascii_end.Statement.{statement}
 use Rattle.refal_text.proofs.ascii_end.Tie as tie
-use Rattle.refal_text.proofs.ascii_end.Reads as reads
-use Rattle.refal_text.proofs.ascii_end.Lts as lts
-use Rattle.refal_text.proofs.ascii_eights.Reads as ascii-eights-reads
 
 abbrev Inv-loop : tie.InvT-loop
 Inv-loop src at i₀ i = (i ≤ length src) × (i + span ascii (drop i src) ≡ at + span ascii (drop at src))

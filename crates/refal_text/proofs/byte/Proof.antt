@@ -4,8 +4,6 @@ use lib.ListN.{List·getD-eq-default}
 use borrow.Author.Needs.{needs}
 use Rattle.refal_text.proofs.byte.Statement.{statement}
 use Rattle.refal_text.proofs.byte.Tie as tie
-use Rattle.refal_text.proofs.byte.Reads as reads
-use Rattle.refal_text.proofs.byte.Lts as lts
 
 -- src/lib.rt:19:24
 shared-slice-read-result : tie.Need-shared-slice-read-result

@@ -3,9 +3,6 @@ use Rattle.refal_text.specs.Utf8Laws.{decode-past}
 use borrow.Author.Needs.{needs}
 use Rattle.refal_text.proofs.char_at.Statement.{statement}
 use Rattle.refal_text.proofs.char_at.Tie as tie
-use Rattle.refal_text.proofs.char_at.Reads as reads
-use Rattle.refal_text.proofs.char_at.Lts as lts
-use Rattle.refal_text.proofs.char_in.Reads as char-in-reads
 
 -- src/lib.rt:128:9
 char-in-requires : tie.Need-char-in-requires

@@ -5,14 +5,6 @@ use Rattle.refal_text.specs.Utf8Laws.{leads-lo, char-one, char-two, char
 use borrow.Author.Needs.{needs}
 use Rattle.refal_text.proofs.char_in.Statement.{statement}
 use Rattle.refal_text.proofs.char_in.Tie as tie
-use Rattle.refal_text.proofs.char_in.Reads as reads
-use Rattle.refal_text.proofs.char_in.Lts as lts
-use Rattle.refal_text.proofs.byte.Reads as byte-reads
-use Rattle.refal_text.proofs.four_at.Reads as four-at-reads
-use Rattle.refal_text.proofs.lead.Reads as lead-reads
-use Rattle.refal_text.proofs.three_at.Reads as three-at-reads
-use Rattle.refal_text.proofs.two_at.Reads as two-at-reads
-use Rattle.refal_text.proofs.wide.Reads as wide-reads
 
 -- src/lib.rt:100:13
 shared-slice-read-a : tie.Need-shared-slice-read-a

@@ -12,13 +12,6 @@ use Rattle.refal_text.specs.Utf8Laws.{well-end, well-stop, well-step, we
 use borrow.Author.Needs.{needs}
 use Rattle.refal_text.proofs.first_ill.Statement.{statement}
 use Rattle.refal_text.proofs.first_ill.Tie as tie
-use Rattle.refal_text.proofs.first_ill.Reads as reads
-use Rattle.refal_text.proofs.first_ill.Lts as lts
-use Rattle.refal_text.proofs.ascii_end.Reads as ascii-end-reads
-use Rattle.refal_text.proofs.four_in.Reads as four-in-reads
-use Rattle.refal_text.proofs.lead.Reads as lead-reads
-use Rattle.refal_text.proofs.three_in.Reads as three-in-reads
-use Rattle.refal_text.proofs.two_in.Reads as two-in-reads
 
 abbrev Inv-loop : tie.InvT-loop
 Inv-loop src at₀ at = (at ≤ length src) × (at + wellTo 0 (drop at src) ≡ wellTo 0 src)

@@ -8,9 +8,6 @@ use Rattle.refal_rows.specs.Tests.{and-left, and-right, range-lo}
 use borrow.Author.Needs.{needs}
 use Rattle.refal_text.proofs.four_at.Statement.{statement}
 use Rattle.refal_text.proofs.four_at.Tie as tie
-use Rattle.refal_text.proofs.four_at.Reads as reads
-use Rattle.refal_text.proofs.four_at.Lts as lts
-use Rattle.refal_text.proofs.is_four.Reads as is-four-reads
 
 -- src/lib.rt:105:9
 is-four-requires : tie.Need-is-four-requires

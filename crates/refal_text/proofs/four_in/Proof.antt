@@ -6,10 +6,6 @@ use Rattle.refal_text.specs.Utf8.{well4}
 use borrow.Author.Needs.{needs}
 use Rattle.refal_text.proofs.four_in.Statement.{statement}
 use Rattle.refal_text.proofs.four_in.Tie as tie
-use Rattle.refal_text.proofs.four_in.Reads as reads
-use Rattle.refal_text.proofs.four_in.Lts as lts
-use Rattle.refal_text.proofs.byte.Reads as byte-reads
-use Rattle.refal_text.proofs.is_four.Reads as is-four-reads
 
 -- src/lib.rt:188:13
 shared-slice-read-is-four : tie.Need-shared-slice-read-is-four

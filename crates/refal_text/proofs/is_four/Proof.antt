@@ -2,9 +2,6 @@
 use borrow.Author.Needs.{needs}
 use Rattle.refal_text.proofs.is_four.Statement.{statement}
 use Rattle.refal_text.proofs.is_four.Tie as tie
-use Rattle.refal_text.proofs.is_four.Reads as reads
-use Rattle.refal_text.proofs.is_four.Lts as lts
-use Rattle.refal_text.proofs.is_second.Reads as is-second-reads
 
 -- src/lib.rt:73:9
 is-second-requires : tie.Need-is-second-requires

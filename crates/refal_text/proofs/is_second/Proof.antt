@@ -2,8 +2,6 @@
 use borrow.Author.Tests.{ne-eqb}
 use Rattle.refal_text.proofs.is_second.Statement.{statement}
 use Rattle.refal_text.proofs.is_second.Tie as tie
-use Rattle.refal_text.proofs.is_second.Reads as reads
-use Rattle.refal_text.proofs.is_second.Lts as lts
 
 -- src/lib.rt:40:9
 returns : tie.Need-returns

@@ -2,9 +2,6 @@
 use borrow.Author.Needs.{needs}
 use Rattle.refal_text.proofs.is_three.Statement.{statement}
 use Rattle.refal_text.proofs.is_three.Tie as tie
-use Rattle.refal_text.proofs.is_three.Reads as reads
-use Rattle.refal_text.proofs.is_three.Lts as lts
-use Rattle.refal_text.proofs.is_second.Reads as is-second-reads
 
 -- src/lib.rt:65:9
 is-second-requires : tie.Need-is-second-requires

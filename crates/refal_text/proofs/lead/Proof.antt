@@ -2,8 +2,6 @@
 use Rattle.refal_text.specs.Utf8Laws.{leads-is}
 use Rattle.refal_text.proofs.lead.Statement.{statement}
 use Rattle.refal_text.proofs.lead.Tie as tie
-use Rattle.refal_text.proofs.lead.Reads as reads
-use Rattle.refal_text.proofs.lead.Lts as lts
 
 -- src/lib.rt:29:1
 returns : tie.Need-returns

@@ -6,9 +6,6 @@ use Rattle.refal_rows.specs.Tests.{and-left, and-right, range-lo}
 use borrow.Author.Needs.{needs}
 use Rattle.refal_text.proofs.three_at.Statement.{statement}
 use Rattle.refal_text.proofs.three_at.Tie as tie
-use Rattle.refal_text.proofs.three_at.Reads as reads
-use Rattle.refal_text.proofs.three_at.Lts as lts
-use Rattle.refal_text.proofs.is_three.Reads as is-three-reads
 
 -- src/lib.rt:93:9
 is-three-requires : tie.Need-is-three-requires

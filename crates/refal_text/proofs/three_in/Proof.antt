@@ -5,10 +5,6 @@ use Rattle.refal_text.specs.Utf8.{well3}
 use borrow.Author.Needs.{needs}
 use Rattle.refal_text.proofs.three_in.Statement.{statement}
 use Rattle.refal_text.proofs.three_in.Tie as tie
-use Rattle.refal_text.proofs.three_in.Reads as reads
-use Rattle.refal_text.proofs.three_in.Lts as lts
-use Rattle.refal_text.proofs.byte.Reads as byte-reads
-use Rattle.refal_text.proofs.is_three.Reads as is-three-reads
 
 -- src/lib.rt:181:14
 shared-slice-read-is-three : tie.Need-shared-slice-read-is-three

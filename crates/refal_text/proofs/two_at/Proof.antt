@@ -6,9 +6,6 @@ use Rattle.refal_rows.specs.Tests.{and-right, range-lo}
 use borrow.Author.Needs.{needs}
 use Rattle.refal_text.proofs.two_at.Statement.{statement}
 use Rattle.refal_text.proofs.two_at.Tie as tie
-use Rattle.refal_text.proofs.two_at.Reads as reads
-use Rattle.refal_text.proofs.two_at.Lts as lts
-use Rattle.refal_text.proofs.is_two.Reads as is-two-reads
 
 -- src/lib.rt:81:9
 is-two-requires : tie.Need-is-two-requires

@@ -5,10 +5,6 @@ use Rattle.refal_text.specs.Utf8.{well2}
 use borrow.Author.Needs.{needs}
 use Rattle.refal_text.proofs.two_in.Statement.{statement}
 use Rattle.refal_text.proofs.two_in.Tie as tie
-use Rattle.refal_text.proofs.two_in.Reads as reads
-use Rattle.refal_text.proofs.two_in.Lts as lts
-use Rattle.refal_text.proofs.byte.Reads as byte-reads
-use Rattle.refal_text.proofs.is_two.Reads as is-two-reads
 
 -- src/lib.rt:174:12
 shared-slice-read-is-two : tie.Need-shared-slice-read-is-two

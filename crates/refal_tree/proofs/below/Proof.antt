@@ -6,10 +6,6 @@ use Rattle.refal_tree.specs.States.{counts}
 use borrow.Author.Needs.{needs}
 use Rattle.refal_tree.proofs.below.Statement.{statement}
 use Rattle.refal_tree.proofs.below.Tie as tie
-use Rattle.refal_tree.proofs.below.Reads as reads
-use Rattle.refal_tree.proofs.below.Lts as lts
-use Rattle.refal_tree.proofs.lower.Reads as lower-reads
-use Rattle.refal_tree.proofs.states.counts.Reads as counts-reads
 
 counts-requires : tie.Need-counts-requires
 counts-requires c κs = search needs

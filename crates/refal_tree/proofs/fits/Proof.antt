@@ -2,11 +2,6 @@
 use borrow.Author.Needs.{needs}
 use Rattle.refal_tree.proofs.fits.Statement.{statement}
 use Rattle.refal_tree.proofs.fits.Tie as tie
-use Rattle.refal_tree.proofs.fits.Reads as reads
-use Rattle.refal_tree.proofs.fits.Lts as lts
-use Rattle.refal_tree.proofs.fields.fields_ok.Reads as fields-ok-reads
-use Rattle.refal_tree.proofs.states.room.Reads as room-reads
-use Rattle.refal_tree.proofs.states.stands.Reads as stands-reads
 
 fields-ok-requires : tie.Need-fields-ok-requires
 fields-ok-requires c κs = search needs

@@ -7,9 +7,6 @@ use Rattle.refal_tree.specs.Whole.{not-whole, too-many, all-rows}
 use borrow.Author.Needs.{needs}
 use Rattle.refal_tree.proofs.lawful.Statement.{statement}
 use Rattle.refal_tree.proofs.lawful.Tie as tie
-use Rattle.refal_tree.proofs.lawful.Reads as reads
-use Rattle.refal_tree.proofs.lawful.Lts as lts
-use Rattle.refal_tree.proofs.check.Reads as check-reads
 
 returns : tie.Need-returns
 returns c = let a = c .before .before .args in sym (not-whole (a .tree .now) (c .if1 .taken))

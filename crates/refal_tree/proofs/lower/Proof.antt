@@ -3,8 +3,6 @@ use Rattle.refal_tree.specs.Levels.{lower-is}
 use borrow.Author.Needs.{needs}
 use Rattle.refal_tree.proofs.lower.Statement.{statement}
 use Rattle.refal_tree.proofs.lower.Tie as tie
-use Rattle.refal_tree.proofs.lower.Reads as reads
-use Rattle.refal_tree.proofs.lower.Lts as lts
 
 returns : tie.Need-returns
 returns c = search needs

@@ -7,9 +7,6 @@ use Rattle.refal_tree.specs.Rules.{rowOk}
 use borrow.Author.Needs.{needs}
 use Rattle.refal_tree.proofs.row_ok.Statement.{statement}
 use Rattle.refal_tree.proofs.row_ok.Tie as tie
-use Rattle.refal_tree.proofs.row_ok.Reads as reads
-use Rattle.refal_tree.proofs.row_ok.Lts as lts
-use Rattle.refal_tree.proofs.fits.Reads as fits-reads
 
 mul-at : tie.Need-mul-at
 mul-at c = search needs

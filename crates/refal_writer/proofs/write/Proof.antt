@@ -13,11 +13,6 @@ use Rattle.refal_writer.specs.WriteLaws.{whole-rows, no-rows, few-rows, 
 use borrow.Author.Needs.{needs}
 use Rattle.refal_writer.proofs.write.Statement.{statement}
 use Rattle.refal_writer.proofs.write.Tie as tie
-use Rattle.refal_writer.proofs.write.Reads as reads
-use Rattle.refal_writer.proofs.write.Lts as lts
-use Rattle.refal_rows.proofs.clear_bytes.Reads as clear-bytes-reads
-use Rattle.refal_writer.proofs.refused.Reads as refused-reads
-use Rattle.refal_writer.proofs.walk.write_rows.Reads as write-rows-reads
 
 clear-bytes-requires : tie.Need-clear-bytes-requires
 clear-bytes-requires c κs = search needs

@@ -5,9 +5,6 @@ use lib.ListN.{length}
 use borrow.Author.Needs.{needs}
 use Rattle.tree.proofs.put_rows.Statement.{statement}
 use Rattle.tree.proofs.put_rows.Tie as tie
-use Rattle.tree.proofs.put_rows.Reads as reads
-use Rattle.tree.proofs.put_rows.Lts as lts
-use Rattle.tree.proofs.put_row.Reads as put-row-reads
 
 abbrev Inv-loop : tie.InvT-loop
 Inv-loop rows at₀ i₀ at i = (at ≤ length rows) × (i ≤ at)

@@ -6,11 +6,6 @@ use lib.Seq.{length-take-le}
 use borrow.Author.Needs.{needs}
 use Rattle.tree.proofs.put_source.Statement.{statement}
 use Rattle.tree.proofs.put_source.Tie as tie
-use Rattle.tree.proofs.put_source.Reads as reads
-use Rattle.tree.proofs.put_source.Lts as lts
-use Rattle.refal_lexer.proofs.read.Reads as read-reads
-use Rattle.tree.proofs.put_refusal.Reads as put-refusal-reads
-use Rattle.tree.proofs.put_tree.Reads as put-tree-reads
 
 -- src/main.rt:65:37
 slice-aggregate-read : tie.Need-slice-aggregate-read

@@ -6,11 +6,6 @@ use lib.Seq.{length-take-le}
 use borrow.Author.Needs.{needs}
 use Rattle.tree.proofs.put_tree.Statement.{statement}
 use Rattle.tree.proofs.put_tree.Tie as tie
-use Rattle.tree.proofs.put_tree.Reads as reads
-use Rattle.tree.proofs.put_tree.Lts as lts
-use Rattle.refal_parser.proofs.parse.Reads as parse-reads
-use Rattle.tree.proofs.put_refusal.Reads as put-refusal-reads
-use Rattle.tree.proofs.put_rows.Reads as put-rows-reads
 
 -- src/main.rt:50:39
 slice-aggregate-parse : tie.Need-slice-aggregate-parse

@@ -5,12 +5,6 @@ use native.Mathlib.Omega.{arith}
 use borrow.Author.Needs.{needs}
 use Rattle.vectors.proofs.call.Statement.{statement}
 use Rattle.vectors.proofs.call.Tie as tie
-use Rattle.vectors.proofs.call.Reads as reads
-use Rattle.vectors.proofs.call.Lts as lts
-use Rattle.vectors.proofs.equal.Reads as equal-reads
-use Rattle.vectors.proofs.index.Reads as index-reads
-use Rattle.vectors.proofs.name.Reads as name-reads
-use Rattle.vectors.proofs.write.Reads as write-reads
 
 -- src/main.rt:190:9
 returns : tie.Need-returns

@@ -5,10 +5,6 @@ use native.Mathlib.Omega.{arith}
 use borrow.Author.Needs.{needs}
 use Rattle.vectors.proofs.call_rows.Statement.{statement}
 use Rattle.vectors.proofs.call_rows.Tie as tie
-use Rattle.vectors.proofs.call_rows.Reads as reads
-use Rattle.vectors.proofs.call_rows.Lts as lts
-use Rattle.vectors.proofs.parse.Reads as parse-reads
-use Rattle.vectors.proofs.read.Reads as read-reads
 
 -- src/main.rt:136:9
 returns : tie.Need-returns

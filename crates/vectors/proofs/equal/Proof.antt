@@ -5,10 +5,6 @@ use native.Mathlib.Omega.{arith}
 use borrow.Author.Needs.{needs}
 use Rattle.vectors.proofs.equal.Statement.{statement}
 use Rattle.vectors.proofs.equal.Tie as tie
-use Rattle.vectors.proofs.equal.Reads as reads
-use Rattle.vectors.proofs.equal.Lts as lts
-use Rattle.io.proofs.write_all.Reads as write-all-reads
-use Rattle.refal5.proofs.refal5_names_equal.Reads as refal5-names-equal-reads
 
 -- src/main.rt:77:9
 returns : tie.Need-returns

@@ -2,9 +2,6 @@
 use borrow.Author.Needs.{needs}
 use Rattle.vectors.proofs.main.Statement.{statement}
 use Rattle.vectors.proofs.main.Tie as tie
-use Rattle.vectors.proofs.main.Reads as reads
-use Rattle.vectors.proofs.main.Lts as lts
-use Rattle.vectors.proofs.record.Reads as record-reads
 
 abbrev Inv-loop : tie.InvT-loop
 Inv-loop turns₀ turns = Unit {0}

@@ -5,11 +5,6 @@ use native.Mathlib.Omega.{arith}
 use borrow.Author.Needs.{needs}
 use Rattle.vectors.proofs.parse_first.Statement.{statement}
 use Rattle.vectors.proofs.parse_first.Tie as tie
-use Rattle.vectors.proofs.parse_first.Reads as reads
-use Rattle.vectors.proofs.parse_first.Lts as lts
-use Rattle.refal5.proofs.refal5_parse.Reads as refal5-parse-reads
-use Rattle.vectors.proofs.put_answer.Reads as put-answer-reads
-use Rattle.vectors.proofs.put_words.Reads as put-words-reads
 
 -- src/main.rt:112:9
 returns : tie.Need-returns

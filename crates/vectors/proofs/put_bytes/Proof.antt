@@ -3,10 +3,6 @@ use Prim.Native.Nat.{_-_}
 use borrow.Author.Needs.{needs}
 use Rattle.vectors.proofs.put_bytes.Statement.{statement}
 use Rattle.vectors.proofs.put_bytes.Tie as tie
-use Rattle.vectors.proofs.put_bytes.Reads as reads
-use Rattle.vectors.proofs.put_bytes.Lts as lts
-use Rattle.io.proofs.write_all.Reads as write-all-reads
-use Rattle.vectors.proofs.put_byte.Reads as put-byte-reads
 
 abbrev Inv-loop : tie.InvT-loop
 Inv-loop bytes n i₀ t4 i = Unit {0}

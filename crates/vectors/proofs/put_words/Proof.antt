@@ -3,10 +3,6 @@ use Prim.Native.Nat.{_-_}
 use borrow.Author.Needs.{needs}
 use Rattle.vectors.proofs.put_words.Statement.{statement}
 use Rattle.vectors.proofs.put_words.Tie as tie
-use Rattle.vectors.proofs.put_words.Reads as reads
-use Rattle.vectors.proofs.put_words.Lts as lts
-use Rattle.io.proofs.write_all.Reads as write-all-reads
-use Rattle.vectors.proofs.put_word.Reads as put-word-reads
 
 abbrev Inv-loop : tie.InvT-loop
 Inv-loop words n i₀ t4 i = Unit {0}

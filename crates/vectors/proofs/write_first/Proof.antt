@@ -5,11 +5,6 @@ use native.Mathlib.Omega.{arith}
 use borrow.Author.Needs.{needs}
 use Rattle.vectors.proofs.write_first.Statement.{statement}
 use Rattle.vectors.proofs.write_first.Tie as tie
-use Rattle.vectors.proofs.write_first.Reads as reads
-use Rattle.vectors.proofs.write_first.Lts as lts
-use Rattle.refal5.proofs.refal5_write.Reads as refal5-write-reads
-use Rattle.vectors.proofs.put_answer.Reads as put-answer-reads
-use Rattle.vectors.proofs.put_bytes.Reads as put-bytes-reads
 
 -- src/main.rt:150:9
 returns : tie.Need-returns

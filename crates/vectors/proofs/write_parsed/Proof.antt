@@ -5,10 +5,6 @@ use native.Mathlib.Omega.{arith}
 use borrow.Author.Needs.{needs}
 use Rattle.vectors.proofs.write_parsed.Statement.{statement}
 use Rattle.vectors.proofs.write_parsed.Tie as tie
-use Rattle.vectors.proofs.write_parsed.Reads as reads
-use Rattle.vectors.proofs.write_parsed.Lts as lts
-use Rattle.refal5.proofs.refal5_parse.Reads as refal5-parse-reads
-use Rattle.vectors.proofs.write_first.Reads as write-first-reads
 
 -- src/main.rt:161:9
 returns : tie.Need-returns

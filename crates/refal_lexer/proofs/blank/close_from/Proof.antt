@@ -9,8 +9,6 @@ use Rattle.refal_lexer.specs.BlankLaws.{close-end, close-stop, close-ste
 use borrow.Author.Needs.{needs}
 use Rattle.refal_lexer.proofs.blank.close_from.Statement.{statement}
 use Rattle.refal_lexer.proofs.blank.close_from.Tie as tie
-use Rattle.refal_lexer.proofs.blank.close_from.Reads as reads
-use Rattle.refal_lexer.proofs.blank.close_from.Lts as lts
 
 abbrev Inv-loop : tie.InvT-loop
 Inv-loop src at i₀ star₀ i star = (at + 2 ≤ i) × (i ≤ length src) × (closeFrom star i (drop i src) ≡ closeFrom false (at + 2) (drop (at + 2) src))

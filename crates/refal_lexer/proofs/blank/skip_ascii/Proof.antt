@@ -10,10 +10,6 @@ use Rattle.refal_lexer.specs.LexLaws.{lex-ascii}
 use borrow.Author.Needs.{needs}
 use Rattle.refal_lexer.proofs.blank.skip_ascii.Statement.{statement}
 use Rattle.refal_lexer.proofs.blank.skip_ascii.Tie as tie
-use Rattle.refal_lexer.proofs.blank.skip_ascii.Reads as reads
-use Rattle.refal_lexer.proofs.blank.skip_ascii.Lts as lts
-use Rattle.refal_lexer.proofs.blank.line_after.Reads as line-after-reads
-use Rattle.refal_lexer.proofs.class.is_blank.Reads as is-blank-reads
 
 abbrev Inv-loop : tie.InvT-loop
 Inv-loop src at line i₀ l₀ i l = (lex 0 i l (drop i src) ≡ lex 0 at line (drop at src)) × (at ≤ i) × (i ≤ length src)

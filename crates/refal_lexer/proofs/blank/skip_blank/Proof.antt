@@ -10,11 +10,6 @@ use Rattle.refal_lexer.specs.ScanLaws.{scan-slash}
 use borrow.Author.Needs.{needs}
 use Rattle.refal_lexer.proofs.blank.skip_blank.Statement.{statement}
 use Rattle.refal_lexer.proofs.blank.skip_blank.Tie as tie
-use Rattle.refal_lexer.proofs.blank.skip_blank.Reads as reads
-use Rattle.refal_lexer.proofs.blank.skip_blank.Lts as lts
-use Rattle.refal_lexer.proofs.blank.skip_between.Reads as skip-between-reads
-use Rattle.refal_lexer.proofs.blank.skip_white.Reads as skip-white-reads
-use Rattle.refal_lexer.proofs.blank.slash_at.Reads as slash-at-reads
 
 abbrev Inv-loop : tie.InvT-loop
 Inv-loop src at line i₀ l₀ i l = (lex 0 i l (drop i src) ≡ lex 0 at line (drop at src)) × (at ≤ i) × (i ≤ length src)

@@ -3,10 +3,6 @@ use Rattle.refal_lexer.specs.LexLaws.{lex-space}
 use borrow.Author.Needs.{needs}
 use Rattle.refal_lexer.proofs.blank.skip_space.Statement.{statement}
 use Rattle.refal_lexer.proofs.blank.skip_space.Tie as tie
-use Rattle.refal_lexer.proofs.blank.skip_space.Reads as reads
-use Rattle.refal_lexer.proofs.blank.skip_space.Lts as lts
-use Rattle.refal_lexer.proofs.blank.one_if.Reads as one-if-reads
-use Rattle.refal_text.proofs.byte.Reads as byte-reads
 
 -- src/blank.rt:83:9
 byte-requires : tie.Need-byte-requires

@@ -12,15 +12,6 @@ use Rattle.refal_lexer.specs.BlankLaws.{white-two, white-three}
 use borrow.Author.Needs.{needs}
 use Rattle.refal_lexer.proofs.blank.skip_white.Statement.{statement}
 use Rattle.refal_lexer.proofs.blank.skip_white.Tie as tie
-use Rattle.refal_lexer.proofs.blank.skip_white.Reads as reads
-use Rattle.refal_lexer.proofs.blank.skip_white.Lts as lts
-use Rattle.refal_lexer.proofs.blank.line_after.Reads as line-after-reads
-use Rattle.refal_lexer.proofs.blank.skip_ascii.Reads as skip-ascii-reads
-use Rattle.refal_lexer.proofs.blank.three_white.Reads as three-white-reads
-use Rattle.refal_lexer.proofs.blank.two_white.Reads as two-white-reads
-use Rattle.refal_lexer.proofs.class.is_blank.Reads as is-blank-reads
-use Rattle.refal_text.proofs.byte.Reads as byte-reads
-use Rattle.refal_text.proofs.lead.Reads as lead-reads
 
 abbrev Inv-loop : tie.InvT-loop
 Inv-loop src at line i₀ l₀ i l = (lex 0 i l (drop i src) ≡ lex 0 at line (drop at src)) × (at ≤ i) × (i ≤ length src)

@@ -4,10 +4,6 @@ use Rattle.refal_lexer.specs.BlankLaws.{slash-star, slash-bad, slash-in}
 use borrow.Author.Needs.{needs}
 use Rattle.refal_lexer.proofs.blank.slash_at.Statement.{statement}
 use Rattle.refal_lexer.proofs.blank.slash_at.Tie as tie
-use Rattle.refal_lexer.proofs.blank.slash_at.Reads as reads
-use Rattle.refal_lexer.proofs.blank.slash_at.Lts as lts
-use Rattle.refal_lexer.proofs.blank.close_from.Reads as close-from-reads
-use Rattle.refal_text.proofs.byte.Reads as byte-reads
 
 -- src/blank.rt:123:16
 add-next : tie.Need-add-next

@@ -3,9 +3,6 @@ use native.Mathlib.Omega.{arith}
 use borrow.Author.Needs.{needs}
 use Rattle.refal_lexer.proofs.blank.star_at.Statement.{statement}
 use Rattle.refal_lexer.proofs.blank.star_at.Tie as tie
-use Rattle.refal_lexer.proofs.blank.star_at.Reads as reads
-use Rattle.refal_lexer.proofs.blank.star_at.Lts as lts
-use Rattle.refal_lexer.proofs.runs.line_end.Reads as line-end-reads
 
 -- src/blank.rt:88:16
 add-next : tie.Need-add-next

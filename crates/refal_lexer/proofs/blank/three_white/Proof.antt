@@ -6,10 +6,6 @@ use Rattle.refal_rows.specs.Tests.{and-left, and-right, range-lo}
 use borrow.Author.Needs.{needs}
 use Rattle.refal_lexer.proofs.blank.three_white.Statement.{statement}
 use Rattle.refal_lexer.proofs.blank.three_white.Tie as tie
-use Rattle.refal_lexer.proofs.blank.three_white.Reads as reads
-use Rattle.refal_lexer.proofs.blank.three_white.Lts as lts
-use Rattle.refal_text.proofs.is_three.Reads as is-three-reads
-use Rattle.refal_text.proofs.is_white.Reads as is-white-reads
 
 -- src/blank.rt:44:9
 is-three-requires : tie.Need-is-three-requires

@@ -7,10 +7,6 @@ use Rattle.refal_rows.specs.Tests.{and-left, and-right, range-lo}
 use borrow.Author.Needs.{needs}
 use Rattle.refal_lexer.proofs.blank.two_white.Statement.{statement}
 use Rattle.refal_lexer.proofs.blank.two_white.Tie as tie
-use Rattle.refal_lexer.proofs.blank.two_white.Reads as reads
-use Rattle.refal_lexer.proofs.blank.two_white.Lts as lts
-use Rattle.refal_text.proofs.is_two.Reads as is-two-reads
-use Rattle.refal_text.proofs.is_white.Reads as is-white-reads
 
 -- src/blank.rt:31:9
 is-two-requires : tie.Need-is-two-requires

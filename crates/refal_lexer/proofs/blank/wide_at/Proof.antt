@@ -5,11 +5,6 @@ use Rattle.refal_text.specs.Utf8Laws.{step-in}
 use borrow.Author.Needs.{needs}
 use Rattle.refal_lexer.proofs.blank.wide_at.Statement.{statement}
 use Rattle.refal_lexer.proofs.blank.wide_at.Tie as tie
-use Rattle.refal_lexer.proofs.blank.wide_at.Reads as reads
-use Rattle.refal_lexer.proofs.blank.wide_at.Lts as lts
-use Rattle.refal_lexer.proofs.blank.line_after.Reads as line-after-reads
-use Rattle.refal_text.proofs.char_at.Reads as char-at-reads
-use Rattle.refal_text.proofs.is_white.Reads as is-white-reads
 
 -- src/blank.rt:139:9
 char-at-requires : tie.Need-char-at-requires

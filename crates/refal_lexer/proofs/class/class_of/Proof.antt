@@ -2,8 +2,6 @@
 use borrow.Author.Needs.{needs}
 use Rattle.refal_lexer.proofs.class.class_of.Statement.{statement}
 use Rattle.refal_lexer.proofs.class.class_of.Tie as tie
-use Rattle.refal_lexer.proofs.class.class_of.Reads as reads
-use Rattle.refal_lexer.proofs.class.class_of.Lts as lts
 
 -- src/class.rt:271:5
 shared-slice-read-result : tie.Need-shared-slice-read-result

@@ -5,9 +5,6 @@ use Rattle.refal_lexer.specs.ClassLaws.{name-class}
 use borrow.Author.Needs.{needs}
 use Rattle.refal_lexer.proofs.class.is_name.Statement.{statement}
 use Rattle.refal_lexer.proofs.class.is_name.Tie as tie
-use Rattle.refal_lexer.proofs.class.is_name.Reads as reads
-use Rattle.refal_lexer.proofs.class.is_name.Lts as lts
-use Rattle.refal_lexer.proofs.class.class_of.Reads as class-of-reads
 
 -- src/class.rt:279:9
 class-of-requires : tie.Need-class-of-requires

@@ -7,14 +7,6 @@ use Rattle.refal_lexer.specs.ScanLaws.{rare-class, rare-sign, rare-wide,
 use borrow.Author.Needs.{needs}
 use Rattle.refal_lexer.proofs.dispatch.rare_at.Statement.{statement}
 use Rattle.refal_lexer.proofs.dispatch.rare_at.Tie as tie
-use Rattle.refal_lexer.proofs.dispatch.rare_at.Reads as reads
-use Rattle.refal_lexer.proofs.dispatch.rare_at.Lts as lts
-use Rattle.refal_lexer.proofs.blank.slash_at.Reads as slash-at-reads
-use Rattle.refal_lexer.proofs.blank.star_at.Reads as star-at-reads
-use Rattle.refal_lexer.proofs.blank.wide_at.Reads as wide-at-reads
-use Rattle.refal_lexer.proofs.dispatch.sign_at.Reads as sign-at-reads
-use Rattle.refal_lexer.proofs.word.directive_at.Reads as directive-at-reads
-use Rattle.refal_lexer.proofs.word.other_at.Reads as other-at-reads
 
 -- src/dispatch.rt:36:14
 star-at-requires : tie.Need-star-at-requires

@@ -9,16 +9,6 @@ use Rattle.refal_lexer.specs.ScanLaws.{scan-class, scan-digit, class-sin
 use borrow.Author.Needs.{needs}
 use Rattle.refal_lexer.proofs.dispatch.scan_at.Statement.{statement}
 use Rattle.refal_lexer.proofs.dispatch.scan_at.Tie as tie
-use Rattle.refal_lexer.proofs.dispatch.scan_at.Reads as reads
-use Rattle.refal_lexer.proofs.dispatch.scan_at.Lts as lts
-use Rattle.refal_lexer.proofs.blank.line_after.Reads as line-after-reads
-use Rattle.refal_lexer.proofs.class.class_of.Reads as class-of-reads
-use Rattle.refal_lexer.proofs.dispatch.rare_at.Reads as rare-at-reads
-use Rattle.refal_lexer.proofs.literal.literal_at.Reads as literal-at-reads
-use Rattle.refal_lexer.proofs.number.number_at.Reads as number-at-reads
-use Rattle.refal_lexer.proofs.word.name_at.Reads as name-at-reads
-use Rattle.refal_lexer.proofs.word.variable_at.Reads as variable-at-reads
-use Rattle.refal_text.proofs.wide.Reads as wide-reads
 
 -- src/dispatch.rt:59:13
 shared-slice-read-b : tie.Need-shared-slice-read-b

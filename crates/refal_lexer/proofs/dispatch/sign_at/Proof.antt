@@ -5,12 +5,6 @@ use Rattle.refal_lexer.specs.ScanLaws.{sign-number, sign-name, sign-bad,
 use borrow.Author.Needs.{needs}
 use Rattle.refal_lexer.proofs.dispatch.sign_at.Statement.{statement}
 use Rattle.refal_lexer.proofs.dispatch.sign_at.Tie as tie
-use Rattle.refal_lexer.proofs.dispatch.sign_at.Reads as reads
-use Rattle.refal_lexer.proofs.dispatch.sign_at.Lts as lts
-use Rattle.refal_lexer.proofs.class.is_digit.Reads as is-digit-reads
-use Rattle.refal_lexer.proofs.number.number_at.Reads as number-at-reads
-use Rattle.refal_lexer.proofs.word.other_at.Reads as other-at-reads
-use Rattle.refal_text.proofs.byte.Reads as byte-reads
 
 -- src/dispatch.rt:15:16
 add-next : tie.Need-add-next

@@ -2,8 +2,6 @@
 use borrow.Author.Tests.{lt-ltb, le-ltb, eq-eqb, ne-eqb}
 use Rattle.refal_lexer.proofs.literal.close_at.Statement.{statement}
 use Rattle.refal_lexer.proofs.literal.close_at.Tie as tie
-use Rattle.refal_lexer.proofs.literal.close_at.Reads as reads
-use Rattle.refal_lexer.proofs.literal.close_at.Lts as lts
 
 -- src/literal.rt:41:9
 returns : tie.Need-returns

@@ -3,11 +3,6 @@ use Rattle.refal_lexer.specs.LiteralLaws.{char-double, char-close, char-
 use borrow.Author.Needs.{needs}
 use Rattle.refal_lexer.proofs.literal.lit_char.Statement.{statement}
 use Rattle.refal_lexer.proofs.literal.lit_char.Tie as tie
-use Rattle.refal_lexer.proofs.literal.lit_char.Reads as reads
-use Rattle.refal_lexer.proofs.literal.lit_char.Lts as lts
-use Rattle.refal_text.proofs.byte.Reads as byte-reads
-use Rattle.refal_text.proofs.char_at.Reads as char-at-reads
-use Rattle.refal_text.proofs.wide.Reads as wide-reads
 
 -- src/literal.rt:18:13
 shared-slice-read-b : tie.Need-shared-slice-read-b

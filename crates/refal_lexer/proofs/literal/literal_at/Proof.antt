@@ -9,11 +9,6 @@ use Rattle.refal_lexer.specs.Literals.{litFrom}
 use Rattle.refal_lexer.specs.LiteralLaws.{lit-end, lit-close, lit-newline, lit-step, close-in, plain-first, plain-more}
 use Rattle.refal_lexer.proofs.literal.literal_at.Statement.{statement}
 use Rattle.refal_lexer.proofs.literal.literal_at.Tie as tie
-use Rattle.refal_lexer.proofs.literal.literal_at.Reads as reads
-use Rattle.refal_lexer.proofs.literal.literal_at.Lts as lts
-use Rattle.refal_lexer.proofs.literal.close_at.Reads as close-at-reads
-use Rattle.refal_lexer.proofs.literal.lit_char.Reads as lit-char-reads
-use Rattle.refal_lexer.proofs.literal.plain_end.Reads as plain-end-reads
 
 abbrev Inv-loop : tie.InvT-loop
 Inv-loop src at q first i₀ n₀ i n = (at < i) × (i ≤ length src) × (n ≤ i) × (litFrom q 0 i n (drop i src) ≡ litFrom q 0 (at + 1) 0 (drop (at + 1) src))

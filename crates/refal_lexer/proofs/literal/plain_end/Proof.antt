@@ -7,9 +7,6 @@ use borrow.Author.Needs.{needs}
 use Rattle.refal_lexer.specs.LiteralLaws.{PlainRun, plain-start, plain-step}
 use Rattle.refal_lexer.proofs.literal.plain_end.Statement.{statement}
 use Rattle.refal_lexer.proofs.literal.plain_end.Tie as tie
-use Rattle.refal_lexer.proofs.literal.plain_end.Reads as reads
-use Rattle.refal_lexer.proofs.literal.plain_end.Lts as lts
-use Rattle.refal_lexer.proofs.literal.is_plain.Reads as is-plain-reads
 
 abbrev Inv-loop : tie.InvT-loop
 Inv-loop src at q i₀ i = PlainRun q src at i

@@ -8,11 +8,6 @@ use Rattle.refal_lexer.specs.Literals.{charTokens}
 use Rattle.refal_lexer.specs.LiteralLaws.{chars-end, chars-close, chars-step, Fills, fills-start, fills-row, fills-then, fills-end}
 use Rattle.refal_lexer.proofs.literal.put_chars.Statement.{statement}
 use Rattle.refal_lexer.proofs.literal.put_chars.Tie as tie
-use Rattle.refal_lexer.proofs.literal.put_chars.Reads as reads
-use Rattle.refal_lexer.proofs.literal.put_chars.Lts as lts
-use Rattle.refal_lexer.proofs.literal.lit_char.Reads as lit-char-reads
-use Rattle.refal_lexer.proofs.literal.put_plain.Reads as put-plain-reads
-use Rattle.refal_rows.proofs.put6.Reads as put6-reads
 
 abbrev Inv-loop : tie.InvT-loop
 Inv-loop src at end q rows₀ n first i₀ k₀ rows i k = (at < i) × (i ≤ length src) × (k ≤ i) × (length rows ≡ length rows₀) × Fills (charTokens q at end 0 (drop i src)) (charTokens q at end 0 (drop i₀ src)) rows rows₀ k k₀

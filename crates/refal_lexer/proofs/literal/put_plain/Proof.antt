@@ -9,11 +9,6 @@ use Rattle.refal_lexer.specs.Literals.{charTokens}
 use Rattle.refal_lexer.specs.LiteralLaws.{Fills, fills-start, fills-row, fills-at, plain-token}
 use Rattle.refal_lexer.proofs.literal.put_plain.Statement.{statement}
 use Rattle.refal_lexer.proofs.literal.put_plain.Tie as tie
-use Rattle.refal_lexer.proofs.literal.put_plain.Reads as reads
-use Rattle.refal_lexer.proofs.literal.put_plain.Lts as lts
-use Rattle.refal_lexer.proofs.literal.is_plain.Reads as is-plain-reads
-use Rattle.refal_rows.proofs.put6.Reads as put6-reads
-use Rattle.refal_text.proofs.wide.Reads as wide-reads
 
 abbrev Inv-loop : tie.InvT-loop
 Inv-loop src at q from to rows₀ n i₀ k₀ rows i k = (at ≤ i) × (i ≤ length src) × (k ≡ n + (i - at)) × (length rows ≡ length rows₀) × Fills (charTokens q from to 0 (drop i src)) (charTokens q from to 0 (drop at src)) rows rows₀ k n

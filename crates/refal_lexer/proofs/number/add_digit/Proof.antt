@@ -3,9 +3,6 @@ use borrow.Author.Tests.{le-leb, lt-leb}
 use borrow.Author.Needs.{needs}
 use Rattle.refal_lexer.proofs.number.add_digit.Statement.{statement}
 use Rattle.refal_lexer.proofs.number.add_digit.Tie as tie
-use Rattle.refal_lexer.proofs.number.add_digit.Reads as reads
-use Rattle.refal_lexer.proofs.number.add_digit.Lts as lts
-use Rattle.refal_lexer.proofs.number.wide.Reads as wide-reads
 
 -- src/number.rt:30:9
 mul-result : tie.Need-mul-result

@@ -7,11 +7,6 @@ use Rattle.refal_lexer.specs.NumberLaws.{number-point, number-e, number-
 use borrow.Author.Needs.{needs}
 use Rattle.refal_lexer.proofs.number.number_at.Statement.{statement}
 use Rattle.refal_lexer.proofs.number.number_at.Tie as tie
-use Rattle.refal_lexer.proofs.number.number_at.Reads as reads
-use Rattle.refal_lexer.proofs.number.number_at.Lts as lts
-use Rattle.refal_lexer.proofs.number.part_end.Reads as part-end-reads
-use Rattle.refal_lexer.proofs.number.whole_at.Reads as whole-at-reads
-use Rattle.refal_lexer.proofs.number.whole_end.Reads as whole-end-reads
 
 -- src/number.rt:92:9
 whole-end-requires : tie.Need-whole-end-requires

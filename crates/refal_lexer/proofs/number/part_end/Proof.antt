@@ -6,10 +6,6 @@ use Rattle.refal_lexer.specs.NumberLaws.{part-here, part-none}
 use borrow.Author.Needs.{needs}
 use Rattle.refal_lexer.proofs.number.part_end.Statement.{statement}
 use Rattle.refal_lexer.proofs.number.part_end.Tie as tie
-use Rattle.refal_lexer.proofs.number.part_end.Reads as reads
-use Rattle.refal_lexer.proofs.number.part_end.Lts as lts
-use Rattle.refal_lexer.proofs.runs.digits_end.Reads as digits-end-reads
-use Rattle.refal_text.proofs.byte.Reads as byte-reads
 
 -- src/number.rt:58:9
 byte-requires : tie.Need-byte-requires

@@ -3,8 +3,6 @@ use borrow.Author.Tests.{lt-ltb, le-ltb, le-leb, lt-leb}
 use borrow.Author.Needs.{needs}
 use Rattle.refal_lexer.proofs.number.whole_at.Statement.{statement}
 use Rattle.refal_lexer.proofs.number.whole_at.Tie as tie
-use Rattle.refal_lexer.proofs.number.whole_at.Reads as reads
-use Rattle.refal_lexer.proofs.number.whole_at.Lts as lts
 
 -- src/number.rt:72:9
 returns : tie.Need-returns

@@ -12,10 +12,6 @@ use Rattle.refal_lexer.specs.NumberLaws.{worth, worth-end, worth-stop, w
 use borrow.Author.Needs.{needs}
 use Rattle.refal_lexer.proofs.number.whole_end.Statement.{statement}
 use Rattle.refal_lexer.proofs.number.whole_end.Tie as tie
-use Rattle.refal_lexer.proofs.number.whole_end.Reads as reads
-use Rattle.refal_lexer.proofs.number.whole_end.Lts as lts
-use Rattle.refal_lexer.proofs.class.is_digit.Reads as is-digit-reads
-use Rattle.refal_lexer.proofs.number.add_digit.Reads as add-digit-reads
 
 abbrev Inv-loop : tie.InvT-loop
 Inv-loop src at i₀ v₀ i v = (i ≤ length src) × (i + span digit (drop i src) ≡ at + span digit (drop at src)) × (worth v (drop i src) ≡ worth 0 (drop at src))

@@ -10,9 +10,6 @@ use Rattle.refal_lexer.specs.Classes.{digit}
 use borrow.Author.Needs.{needs}
 use Rattle.refal_lexer.proofs.runs.digits_end.Statement.{statement}
 use Rattle.refal_lexer.proofs.runs.digits_end.Tie as tie
-use Rattle.refal_lexer.proofs.runs.digits_end.Reads as reads
-use Rattle.refal_lexer.proofs.runs.digits_end.Lts as lts
-use Rattle.refal_lexer.proofs.class.is_digit.Reads as is-digit-reads
 
 abbrev Inv-loop : tie.InvT-loop
 Inv-loop src at i₀ i = (i ≤ length src) × (i + span digit (drop i src) ≡ at + span digit (drop at src))

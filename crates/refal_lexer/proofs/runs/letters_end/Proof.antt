@@ -10,9 +10,6 @@ use Rattle.refal_lexer.specs.Classes.{letter}
 use borrow.Author.Needs.{needs}
 use Rattle.refal_lexer.proofs.runs.letters_end.Statement.{statement}
 use Rattle.refal_lexer.proofs.runs.letters_end.Tie as tie
-use Rattle.refal_lexer.proofs.runs.letters_end.Reads as reads
-use Rattle.refal_lexer.proofs.runs.letters_end.Lts as lts
-use Rattle.refal_lexer.proofs.class.is_letter.Reads as is-letter-reads
 
 abbrev Inv-loop : tie.InvT-loop
 Inv-loop src at i₀ i = (i ≤ length src) × (i + span letter (drop i src) ≡ at + span letter (drop at src))

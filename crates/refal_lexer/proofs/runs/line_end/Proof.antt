@@ -11,8 +11,6 @@ use Rattle.refal_lexer.specs.Classes.{notNewline}
 use borrow.Author.Needs.{needs}
 use Rattle.refal_lexer.proofs.runs.line_end.Statement.{statement}
 use Rattle.refal_lexer.proofs.runs.line_end.Tie as tie
-use Rattle.refal_lexer.proofs.runs.line_end.Reads as reads
-use Rattle.refal_lexer.proofs.runs.line_end.Lts as lts
 
 abbrev Inv-loop : tie.InvT-loop
 Inv-loop src at i₀ i = (i ≤ length src) × (i + span notNewline (drop i src) ≡ at + span notNewline (drop at src))

@@ -10,9 +10,6 @@ use Rattle.refal_lexer.specs.Classes.{nameByte}
 use borrow.Author.Needs.{needs}
 use Rattle.refal_lexer.proofs.runs.name_end.Statement.{statement}
 use Rattle.refal_lexer.proofs.runs.name_end.Tie as tie
-use Rattle.refal_lexer.proofs.runs.name_end.Reads as reads
-use Rattle.refal_lexer.proofs.runs.name_end.Lts as lts
-use Rattle.refal_lexer.proofs.class.is_name.Reads as is-name-reads
 
 abbrev Inv-loop : tie.InvT-loop
 Inv-loop src at table i₀ i = (i ≤ length src) × (i + span nameByte (drop i src) ≡ at + span nameByte (drop at src))

@@ -6,11 +6,6 @@ use Rattle.refal_lexer.specs.WordLaws.{directive-entry, directive-extern
 use borrow.Author.Needs.{needs}
 use Rattle.refal_lexer.proofs.word.directive_at.Statement.{statement}
 use Rattle.refal_lexer.proofs.word.directive_at.Tie as tie
-use Rattle.refal_lexer.proofs.word.directive_at.Reads as reads
-use Rattle.refal_lexer.proofs.word.directive_at.Lts as lts
-use Rattle.refal_lexer.proofs.runs.letters_end.Reads as letters-end-reads
-use Rattle.refal_lexer.proofs.word.is_extern.Reads as is-extern-reads
-use Rattle.refal_lexer.proofs.word.is_word.Reads as is-word-reads
 
 -- src/word.rt:136:16
 add-next : tie.Need-add-next

@@ -4,10 +4,6 @@ use Rattle.refal_lexer.specs.WordLaws.{index-none, index-fits, index-lon
 use borrow.Author.Needs.{needs}
 use Rattle.refal_lexer.proofs.word.index_at.Statement.{statement}
 use Rattle.refal_lexer.proofs.word.index_at.Tie as tie
-use Rattle.refal_lexer.proofs.word.index_at.Reads as reads
-use Rattle.refal_lexer.proofs.word.index_at.Lts as lts
-use Rattle.refal_lexer.proofs.runs.name_end.Reads as name-end-reads
-use Rattle.refal_text.proofs.wide.Reads as wide-reads
 
 -- src/word.rt:47:17
 add-start : tie.Need-add-start

@@ -2,9 +2,6 @@
 use borrow.Author.Needs.{needs}
 use Rattle.refal_lexer.proofs.word.is_extern.Statement.{statement}
 use Rattle.refal_lexer.proofs.word.is_extern.Tie as tie
-use Rattle.refal_lexer.proofs.word.is_extern.Reads as reads
-use Rattle.refal_lexer.proofs.word.is_extern.Lts as lts
-use Rattle.refal_lexer.proofs.word.is_word.Reads as is-word-reads
 
 -- src/word.rt:125:33
 slice-aggregate-is-word : tie.Need-slice-aggregate-is-word

@@ -3,9 +3,6 @@ use lib.ListN.{length}
 use borrow.Author.Needs.{needs}
 use Rattle.refal_lexer.proofs.word.is_word.Statement.{statement}
 use Rattle.refal_lexer.proofs.word.is_word.Tie as tie
-use Rattle.refal_lexer.proofs.word.is_word.Reads as reads
-use Rattle.refal_lexer.proofs.word.is_word.Lts as lts
-use Rattle.refal_lexer.proofs.word.starts.Reads as starts-reads
 
 -- src/word.rt:116:9
 starts-requires : tie.Need-starts-requires

@@ -4,9 +4,6 @@ use Rattle.refal_lexer.specs.WordLaws.{name-fits, name-long}
 use borrow.Author.Needs.{needs}
 use Rattle.refal_lexer.proofs.word.name_at.Statement.{statement}
 use Rattle.refal_lexer.proofs.word.name_at.Tie as tie
-use Rattle.refal_lexer.proofs.word.name_at.Reads as reads
-use Rattle.refal_lexer.proofs.word.name_at.Lts as lts
-use Rattle.refal_lexer.proofs.runs.name_end.Reads as name-end-reads
 
 -- src/word.rt:17:16
 add-next : tie.Need-add-next

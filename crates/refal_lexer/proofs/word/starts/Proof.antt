@@ -9,8 +9,6 @@ use Rattle.refal_lexer.specs.WordLaws.{prefix-end, prefix-short, prefix-
 use borrow.Author.Needs.{needs}
 use Rattle.refal_lexer.proofs.word.starts.Statement.{statement}
 use Rattle.refal_lexer.proofs.word.starts.Tie as tie
-use Rattle.refal_lexer.proofs.word.starts.Reads as reads
-use Rattle.refal_lexer.proofs.word.starts.Lts as lts
 
 abbrev Inv-loop : tie.InvT-loop
 Inv-loop src at w i₀ j₀ i j = (i ≤ length src) × (j ≤ length w) × (prefix (drop j w) (drop i src) ≡ prefix w (drop at src))

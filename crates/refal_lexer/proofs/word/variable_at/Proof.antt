@@ -6,14 +6,6 @@ use Rattle.refal_lexer.specs.WordLaws.{variable-dot, variable-one, varia
 use borrow.Author.Needs.{needs}
 use Rattle.refal_lexer.proofs.word.variable_at.Statement.{statement}
 use Rattle.refal_lexer.proofs.word.variable_at.Tie as tie
-use Rattle.refal_lexer.proofs.word.variable_at.Reads as reads
-use Rattle.refal_lexer.proofs.word.variable_at.Lts as lts
-use Rattle.refal_lexer.proofs.class.is_digit.Reads as is-digit-reads
-use Rattle.refal_lexer.proofs.class.is_upper.Reads as is-upper-reads
-use Rattle.refal_lexer.proofs.word.index_at.Reads as index-at-reads
-use Rattle.refal_lexer.proofs.word.other_at.Reads as other-at-reads
-use Rattle.refal_text.proofs.byte.Reads as byte-reads
-use Rattle.refal_text.proofs.wide.Reads as wide-reads
 
 -- src/word.rt:70:16
 add-next : tie.Need-add-next

@@ -4,11 +4,6 @@ use Rattle.refal_parser.proofs.TokenLaws.{ready-next, from-next, to-nex
 use borrow.Author.Needs.{needs}
 use Rattle.refal_parser.proofs.answers.taken.Statement.{statement}
 use Rattle.refal_parser.proofs.answers.taken.Tie as tie
-use Rattle.refal_parser.proofs.answers.taken.Reads as reads
-use Rattle.refal_parser.proofs.answers.taken.Lts as lts
-use Rattle.refal_parser.proofs.tokens.kind.Reads as kind-reads
-use Rattle.refal_parser.proofs.tokens.span_from.Reads as span-from-reads
-use Rattle.refal_parser.proofs.tokens.span_to.Reads as span-to-reads
 
 -- src/answers.rt:20:9
 kind-requires : tie.Need-kind-requires

@@ -4,10 +4,6 @@ use Rattle.refal_parser.proofs.Steps.{is-at, is-no, joins-none}
 use borrow.Author.Needs.{needs}
 use Rattle.refal_parser.proofs.block.joins.Statement.{statement}
 use Rattle.refal_parser.proofs.block.joins.Tie as tie
-use Rattle.refal_parser.proofs.block.joins.Reads as reads
-use Rattle.refal_parser.proofs.block.joins.Lts as lts
-use Rattle.refal_parser.proofs.answers.present.Reads as present-reads
-use Rattle.refal_parser.proofs.tokens.kind.Reads as kind-reads
 
 -- src/block.rt:20:9
 kind-requires : tie.Need-kind-requires

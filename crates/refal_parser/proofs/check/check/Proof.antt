@@ -10,10 +10,6 @@ use Rattle.refal_parser.proofs.CheckLaws.{ok-on, ok-last, ok-none, well
 use borrow.Author.Needs.{needs}
 use Rattle.refal_parser.proofs.check.check.Statement.{statement}
 use Rattle.refal_parser.proofs.check.check.Tie as tie
-use Rattle.refal_parser.proofs.check.check.Reads as reads
-use Rattle.refal_parser.proofs.check.check.Lts as lts
-use Rattle.refal_parser.proofs.check.good_eof.Reads as good-eof-reads
-use Rattle.refal_parser.proofs.check.good_token.Reads as good-token-reads
 
 abbrev Inv-loop : tie.InvT-loop
 Inv-loop tokens n i₀ good₀ i good = (i ≤ length tokens) × ((length tokens - i) % 6 ≡ 0) × (okTokens (rest tokens 0) ≡ good && okTokens (rest tokens i))

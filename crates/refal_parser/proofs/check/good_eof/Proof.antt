@@ -6,9 +6,6 @@ use lib.ListN.{getD}
 use borrow.Author.Needs.{needs}
 use Rattle.refal_parser.proofs.check.good_eof.Statement.{statement}
 use Rattle.refal_parser.proofs.check.good_eof.Tie as tie
-use Rattle.refal_parser.proofs.check.good_eof.Reads as reads
-use Rattle.refal_parser.proofs.check.good_eof.Lts as lts
-use Rattle.refal_parser.proofs.check.good_fields.Reads as good-fields-reads
 
 -- src/check.rt:53:16
 mul-kind : tie.Need-mul-kind

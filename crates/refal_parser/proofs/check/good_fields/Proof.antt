@@ -2,12 +2,6 @@
 use borrow.Author.Needs.{needs}
 use Rattle.refal_parser.proofs.check.good_fields.Statement.{statement}
 use Rattle.refal_parser.proofs.check.good_fields.Tie as tie
-use Rattle.refal_parser.proofs.check.good_fields.Reads as reads
-use Rattle.refal_parser.proofs.check.good_fields.Lts as lts
-use Rattle.refal_parser.proofs.check.pick.Reads as pick-reads
-use Rattle.refal_parser.proofs.check.scalar.Reads as scalar-reads
-use Rattle.refal_parser.proofs.check.uses_detail.Reads as uses-detail-reads
-use Rattle.refal_parser.proofs.check.uses_text.Reads as uses-text-reads
 
 -- src/check.rt:36:18
 uses-detail-requires : tie.Need-uses-detail-requires

@@ -6,9 +6,6 @@ use lib.ListN.{getD}
 use borrow.Author.Needs.{needs}
 use Rattle.refal_parser.proofs.check.good_token.Statement.{statement}
 use Rattle.refal_parser.proofs.check.good_token.Tie as tie
-use Rattle.refal_parser.proofs.check.good_token.Reads as reads
-use Rattle.refal_parser.proofs.check.good_token.Lts as lts
-use Rattle.refal_parser.proofs.check.good_fields.Reads as good-fields-reads
 
 -- src/check.rt:44:16
 mul-kind : tie.Need-mul-kind

@@ -11,14 +11,6 @@ use Rattle.refal_parser.proofs.Steps.{is-at, is-no, other, items-extern
 use borrow.Author.Needs.{needs}
 use Rattle.refal_parser.proofs.items.declaration.Statement.{statement}
 use Rattle.refal_parser.proofs.items.declaration.Tie as tie
-use Rattle.refal_parser.proofs.items.declaration.Reads as reads
-use Rattle.refal_parser.proofs.items.declaration.Lts as lts
-use Rattle.refal_parser.proofs.answers.present.Reads as present-reads
-use Rattle.refal_parser.proofs.items.name.Reads as name-reads
-use Rattle.refal_parser.proofs.nodes.put_span.Reads as put-span-reads
-use Rattle.refal_parser.proofs.tokens.end_before.Reads as end-before-reads
-use Rattle.refal_parser.proofs.tokens.kind.Reads as kind-reads
-use Rattle.refal_parser.proofs.tokens.span_from.Reads as span-from-reads
 
 abbrev Inv-loop : tie.InvT-loop
 Inv-loop tokens rows₀ at n first row j m i₀ k₀ rows i k = NamesInv tokens rows₀ rows at n i k

@@ -9,16 +9,6 @@ use Rattle.refal_parser.proofs.Steps.{is-at, is-no, other, head-open, h
 use borrow.Author.Needs.{needs}
 use Rattle.refal_parser.proofs.items.function.Statement.{statement}
 use Rattle.refal_parser.proofs.items.function.Tie as tie
-use Rattle.refal_parser.proofs.items.function.Reads as reads
-use Rattle.refal_parser.proofs.items.function.Lts as lts
-use Rattle.refal_parser.proofs.answers.present.Reads as present-reads
-use Rattle.refal_parser.proofs.block.block.Reads as block-reads
-use Rattle.refal_parser.proofs.nodes.put_node.Reads as put-node-reads
-use Rattle.refal_parser.proofs.tokens.end_before.Reads as end-before-reads
-use Rattle.refal_parser.proofs.tokens.kind.Reads as kind-reads
-use Rattle.refal_parser.proofs.tokens.span_from.Reads as span-from-reads
-use Rattle.refal_parser.proofs.tokens.text_len.Reads as text-len-reads
-use Rattle.refal_parser.proofs.tokens.text_start.Reads as text-start-reads
 
 -- src/items.rt:64:16
 add-open : tie.Need-add-open

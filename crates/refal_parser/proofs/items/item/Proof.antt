@@ -10,12 +10,6 @@ use Rattle.refal_parser.proofs.Steps.{is-no, other, items-name, items-e
 use borrow.Author.Needs.{needs}
 use Rattle.refal_parser.proofs.items.item.Statement.{statement}
 use Rattle.refal_parser.proofs.items.item.Tie as tie
-use Rattle.refal_parser.proofs.items.item.Reads as reads
-use Rattle.refal_parser.proofs.items.item.Lts as lts
-use Rattle.refal_parser.proofs.answers.taken.Reads as taken-reads
-use Rattle.refal_parser.proofs.items.declaration.Reads as declaration-reads
-use Rattle.refal_parser.proofs.items.function.Reads as function-reads
-use Rattle.refal_parser.proofs.tokens.kind.Reads as kind-reads
 
 -- src/items.rt:92:9
 kind-requires : tie.Need-kind-requires

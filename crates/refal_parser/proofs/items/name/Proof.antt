@@ -6,13 +6,6 @@ use Rattle.refal_parser.proofs.Steps.{is-at, is-no, other, first-name, 
 use borrow.Author.Needs.{needs}
 use Rattle.refal_parser.proofs.items.name.Statement.{statement}
 use Rattle.refal_parser.proofs.items.name.Tie as tie
-use Rattle.refal_parser.proofs.items.name.Reads as reads
-use Rattle.refal_parser.proofs.items.name.Lts as lts
-use Rattle.refal_parser.proofs.answers.taken.Reads as taken-reads
-use Rattle.refal_parser.proofs.nodes.put_node.Reads as put-node-reads
-use Rattle.refal_parser.proofs.tokens.kind.Reads as kind-reads
-use Rattle.refal_parser.proofs.tokens.text_len.Reads as text-len-reads
-use Rattle.refal_parser.proofs.tokens.text_start.Reads as text-start-reads
 
 -- src/items.rt:20:8
 kind-requires : tie.Need-kind-requires

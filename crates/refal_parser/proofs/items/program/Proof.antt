@@ -13,10 +13,6 @@ use Rattle.refal_parser.proofs.Steps.{is-at, is-no, other, items-eof, i
 use borrow.Author.Needs.{needs}
 use Rattle.refal_parser.proofs.items.program.Statement.{statement}
 use Rattle.refal_parser.proofs.items.program.Tie as tie
-use Rattle.refal_parser.proofs.items.program.Reads as reads
-use Rattle.refal_parser.proofs.items.program.Lts as lts
-use Rattle.refal_parser.proofs.items.item.Reads as item-reads
-use Rattle.refal_parser.proofs.tokens.kind.Reads as kind-reads
 
 abbrev Inv-loop : tie.InvT-loop
 Inv-loop tokens rows₀ i₀ m₀ rows i m = ProgramInv tokens rows₀ rows i m

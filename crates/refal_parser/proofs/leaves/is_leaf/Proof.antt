@@ -2,9 +2,6 @@
 use borrow.Author.Needs.{needs}
 use Rattle.refal_parser.proofs.leaves.is_leaf.Statement.{statement}
 use Rattle.refal_parser.proofs.leaves.is_leaf.Tie as tie
-use Rattle.refal_parser.proofs.leaves.is_leaf.Reads as reads
-use Rattle.refal_parser.proofs.leaves.is_leaf.Lts as lts
-use Rattle.refal_parser.proofs.leaves.letter.Reads as letter-reads
 
 -- src/leaves.rt:33:9
 letter-requires : tie.Need-letter-requires

@@ -2,9 +2,6 @@
 use borrow.Author.Needs.{needs}
 use Rattle.refal_parser.proofs.leaves.leaf_kind.Statement.{statement}
 use Rattle.refal_parser.proofs.leaves.leaf_kind.Tie as tie
-use Rattle.refal_parser.proofs.leaves.leaf_kind.Reads as reads
-use Rattle.refal_parser.proofs.leaves.leaf_kind.Lts as lts
-use Rattle.refal_parser.proofs.leaves.pick.Reads as pick-reads
 
 -- src/leaves.rt:46:9
 pick-requires : tie.Need-pick-requires

@@ -8,17 +8,6 @@ use Rattle.refal_parser.proofs.LeafLaws.{leaf-turn}
 use borrow.Author.Needs.{needs}
 use Rattle.refal_parser.proofs.leaves.leaves.Statement.{statement}
 use Rattle.refal_parser.proofs.leaves.leaves.Tie as tie
-use Rattle.refal_parser.proofs.leaves.leaves.Reads as reads
-use Rattle.refal_parser.proofs.leaves.leaves.Lts as lts
-use Rattle.refal_parser.proofs.leaves.is_leaf.Reads as is-leaf-reads
-use Rattle.refal_parser.proofs.leaves.leaf_kind.Reads as leaf-kind-reads
-use Rattle.refal_parser.proofs.nodes.put_node.Reads as put-node-reads
-use Rattle.refal_parser.proofs.tokens.detail.Reads as detail-reads
-use Rattle.refal_parser.proofs.tokens.kind.Reads as kind-reads
-use Rattle.refal_parser.proofs.tokens.span_from.Reads as span-from-reads
-use Rattle.refal_parser.proofs.tokens.span_to.Reads as span-to-reads
-use Rattle.refal_parser.proofs.tokens.text_len.Reads as text-len-reads
-use Rattle.refal_parser.proofs.tokens.text_start.Reads as text-start-reads
 
 abbrev Inv-loop : tie.InvT-loop
 Inv-loop tokens rows₀ at n i₀ m₀ rows i m = LeavesPost tokens rows₀ rows at n i m

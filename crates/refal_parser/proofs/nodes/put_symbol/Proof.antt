@@ -8,9 +8,6 @@ use Rattle.refal_parser.specs.Writers.{putNode}
 use borrow.Author.Needs.{needs}
 use Rattle.refal_parser.proofs.nodes.put_symbol.Statement.{statement}
 use Rattle.refal_parser.proofs.nodes.put_symbol.Tie as tie
-use Rattle.refal_parser.proofs.nodes.put_symbol.Reads as reads
-use Rattle.refal_parser.proofs.nodes.put_symbol.Lts as lts
-use Rattle.refal_parser.proofs.nodes.put_node.Reads as put-node-reads
 
 -- src/nodes.rt:38:16
 add-next : tie.Need-add-next

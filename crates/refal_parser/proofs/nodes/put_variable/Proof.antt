@@ -7,10 +7,6 @@ use Rattle.refal_parser.specs.Writers.{putNode}
 use borrow.Author.Needs.{needs}
 use Rattle.refal_parser.proofs.nodes.put_variable.Statement.{statement}
 use Rattle.refal_parser.proofs.nodes.put_variable.Tie as tie
-use Rattle.refal_parser.proofs.nodes.put_variable.Reads as reads
-use Rattle.refal_parser.proofs.nodes.put_variable.Lts as lts
-use Rattle.refal_parser.proofs.nodes.letter.Reads as letter-reads
-use Rattle.refal_parser.proofs.nodes.put_node.Reads as put-node-reads
 
 -- src/nodes.rt:66:39
 letter-requires : tie.Need-letter-requires

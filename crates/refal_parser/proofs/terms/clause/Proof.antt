@@ -5,10 +5,6 @@ use Rattle.refal_parser.proofs.Steps.{is-at, is-no}
 use borrow.Author.Needs.{needs}
 use Rattle.refal_parser.proofs.terms.clause.Statement.{statement}
 use Rattle.refal_parser.proofs.terms.clause.Tie as tie
-use Rattle.refal_parser.proofs.terms.clause.Reads as reads
-use Rattle.refal_parser.proofs.terms.clause.Lts as lts
-use Rattle.refal_parser.proofs.nodes.put_terms.Reads as put-terms-reads
-use Rattle.refal_parser.proofs.terms.until.Reads as until-reads
 
 -- src/terms.rt:177:17
 add-first : tie.Need-add-first

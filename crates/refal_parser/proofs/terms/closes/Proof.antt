@@ -7,11 +7,6 @@ use Rattle.refal_parser.proofs.Steps.{is-at, is-no, closes-here, closes
 use borrow.Author.Needs.{needs}
 use Rattle.refal_parser.proofs.terms.closes.Statement.{statement}
 use Rattle.refal_parser.proofs.terms.closes.Tie as tie
-use Rattle.refal_parser.proofs.terms.closes.Reads as reads
-use Rattle.refal_parser.proofs.terms.closes.Lts as lts
-use Rattle.refal_parser.proofs.answers.present.Reads as present-reads
-use Rattle.refal_parser.proofs.answers.taken.Reads as taken-reads
-use Rattle.refal_parser.proofs.tokens.kind.Reads as kind-reads
 
 -- src/terms.rt:53:9
 kind-requires : tie.Need-kind-requires

@@ -10,11 +10,6 @@ use Rattle.refal_parser.proofs.Steps.{is-no, term-step}
 use borrow.Author.Needs.{needs}
 use Rattle.refal_parser.proofs.terms.pattern.Statement.{statement}
 use Rattle.refal_parser.proofs.terms.pattern.Tie as tie
-use Rattle.refal_parser.proofs.terms.pattern.Reads as reads
-use Rattle.refal_parser.proofs.terms.pattern.Lts as lts
-use Rattle.refal_parser.proofs.nodes.put_terms.Reads as put-terms-reads
-use Rattle.refal_parser.proofs.terms.follows.Reads as follows-reads
-use Rattle.refal_parser.proofs.terms.terms.Reads as terms-reads
 
 -- src/terms.rt:209:17
 add-first : tie.Need-add-first

@@ -2,13 +2,6 @@
 use borrow.Author.Needs.{needs}
 use Rattle.refal_parser.proofs.terms.term_at.Statement.{statement}
 use Rattle.refal_parser.proofs.terms.term_at.Tie as tie
-use Rattle.refal_parser.proofs.terms.term_at.Reads as reads
-use Rattle.refal_parser.proofs.terms.term_at.Lts as lts
-use Rattle.refal_parser.proofs.terms.term_of.Reads as term-of-reads
-use Rattle.refal_parser.proofs.tokens.detail.Reads as detail-reads
-use Rattle.refal_parser.proofs.tokens.kind.Reads as kind-reads
-use Rattle.refal_parser.proofs.tokens.text_len.Reads as text-len-reads
-use Rattle.refal_parser.proofs.tokens.text_start.Reads as text-start-reads
 
 -- src/terms.rt:45:13
 kind-requires : tie.Need-kind-requires

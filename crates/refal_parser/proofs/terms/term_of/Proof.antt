@@ -6,9 +6,6 @@ use Rattle.refal_parser.proofs.Steps.{term-none}
 use borrow.Author.Needs.{needs}
 use Rattle.refal_parser.proofs.terms.term_of.Statement.{statement}
 use Rattle.refal_parser.proofs.terms.term_of.Tie as tie
-use Rattle.refal_parser.proofs.terms.term_of.Reads as reads
-use Rattle.refal_parser.proofs.terms.term_of.Lts as lts
-use Rattle.refal_parser.proofs.terms.variable_of.Reads as variable-of-reads
 
 -- src/terms.rt:34:14
 variable-of-requires : tie.Need-variable-of-requires

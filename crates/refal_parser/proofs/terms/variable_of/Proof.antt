@@ -5,8 +5,6 @@ use Rattle.refal_parser.specs.Machine.{variableOf}
 use Rattle.refal_parser.proofs.Steps.{variable-none}
 use Rattle.refal_parser.proofs.terms.variable_of.Statement.{statement}
 use Rattle.refal_parser.proofs.terms.variable_of.Tie as tie
-use Rattle.refal_parser.proofs.terms.variable_of.Reads as reads
-use Rattle.refal_parser.proofs.terms.variable_of.Lts as lts
 
 -- src/terms.rt:15:1
 returns : tie.Need-returns

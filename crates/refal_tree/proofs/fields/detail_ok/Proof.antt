@@ -3,9 +3,6 @@ use borrow.Author.Tests.{ne-eqb}
 use borrow.Author.Needs.{needs}
 use Rattle.refal_tree.proofs.fields.detail_ok.Statement.{statement}
 use Rattle.refal_tree.proofs.fields.detail_ok.Tie as tie
-use Rattle.refal_tree.proofs.fields.detail_ok.Reads as reads
-use Rattle.refal_tree.proofs.fields.detail_ok.Lts as lts
-use Rattle.refal_tree.proofs.fields.letter.Reads as letter-reads
 
 returns : tie.Need-returns
 returns c = rw (c .if1 .taken)

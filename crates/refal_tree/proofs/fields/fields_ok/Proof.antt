@@ -2,11 +2,6 @@
 use borrow.Author.Needs.{needs}
 use Rattle.refal_tree.proofs.fields.fields_ok.Statement.{statement}
 use Rattle.refal_tree.proofs.fields.fields_ok.Tie as tie
-use Rattle.refal_tree.proofs.fields.fields_ok.Reads as reads
-use Rattle.refal_tree.proofs.fields.fields_ok.Lts as lts
-use Rattle.refal_tree.proofs.fields.detail_ok.Reads as detail-ok-reads
-use Rattle.refal_tree.proofs.fields.span_ok.Reads as span-ok-reads
-use Rattle.refal_tree.proofs.fields.text_ok.Reads as text-ok-reads
 
 detail-ok-requires : tie.Need-detail-ok-requires
 detail-ok-requires c κs = search needs

@@ -2,9 +2,6 @@
 use borrow.Author.Needs.{needs}
 use Rattle.refal_tree.proofs.fields.span_ok.Statement.{statement}
 use Rattle.refal_tree.proofs.fields.span_ok.Tie as tie
-use Rattle.refal_tree.proofs.fields.span_ok.Reads as reads
-use Rattle.refal_tree.proofs.fields.span_ok.Lts as lts
-use Rattle.refal_tree.proofs.fields.spanless.Reads as spanless-reads
 
 spanless-requires : tie.Need-spanless-requires
 spanless-requires c κs = search needs

@@ -2,9 +2,6 @@
 use borrow.Author.Needs.{needs}
 use Rattle.refal_tree.proofs.fields.text_ok.Statement.{statement}
 use Rattle.refal_tree.proofs.fields.text_ok.Tie as tie
-use Rattle.refal_tree.proofs.fields.text_ok.Reads as reads
-use Rattle.refal_tree.proofs.fields.text_ok.Lts as lts
-use Rattle.refal_tree.proofs.fields.uses_text.Reads as uses-text-reads
 
 uses-text-requires : tie.Need-uses-text-requires
 uses-text-requires c κs = search needs

@@ -2,10 +2,6 @@
 use borrow.Author.Needs.{needs}
 use Rattle.refal_tree.proofs.leaves.is_leaf.Statement.{statement}
 use Rattle.refal_tree.proofs.leaves.is_leaf.Tie as tie
-use Rattle.refal_tree.proofs.leaves.is_leaf.Reads as reads
-use Rattle.refal_tree.proofs.leaves.is_leaf.Lts as lts
-use Rattle.refal_tree.proofs.leaves.leaf_ok.Reads as leaf-ok-reads
-use Rattle.refal_tree.proofs.leaves.wide.Reads as wide-reads
 
 mul-at : tie.Need-mul-at
 mul-at c = search needs

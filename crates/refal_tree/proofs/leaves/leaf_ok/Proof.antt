@@ -2,10 +2,6 @@
 use borrow.Author.Needs.{needs}
 use Rattle.refal_tree.proofs.leaves.leaf_ok.Statement.{statement}
 use Rattle.refal_tree.proofs.leaves.leaf_ok.Tie as tie
-use Rattle.refal_tree.proofs.leaves.leaf_ok.Reads as reads
-use Rattle.refal_tree.proofs.leaves.leaf_ok.Lts as lts
-use Rattle.refal_tree.proofs.fields.letter.Reads as letter-reads
-use Rattle.refal_tree.proofs.leaves.pick.Reads as pick-reads
 
 letter-requires : tie.Need-letter-requires
 letter-requires c κs = search needs

@@ -8,9 +8,6 @@ use Rattle.refal_tree.specs.Ranges.{okAt}
 use Rattle.refal_tree.specs.Leaves.{leaf-passed}
 use Rattle.refal_tree.proofs.leaves.leaves_end.Statement.{statement}
 use Rattle.refal_tree.proofs.leaves.leaves_end.Tie as tie
-use Rattle.refal_tree.proofs.leaves.leaves_end.Reads as reads
-use Rattle.refal_tree.proofs.leaves.leaves_end.Lts as lts
-use Rattle.refal_tree.proofs.leaves.is_leaf.Reads as is-leaf-reads
 
 abbrev Inv-loop : tie.InvT-loop
 Inv-loop tree from to i₀ i = (from ≤ i) × (i ≤ to) × ((left : ℕ) → okAt tree from to 9 left ≡ okAt tree i to 9 left)

@@ -6,9 +6,6 @@ use Rattle.refal_tree.specs.Ranges.{okAt}
 use borrow.Author.Needs.{needs}
 use Rattle.refal_tree.proofs.leaves.passed.Statement.{statement}
 use Rattle.refal_tree.proofs.leaves.passed.Tie as tie
-use Rattle.refal_tree.proofs.leaves.passed.Reads as reads
-use Rattle.refal_tree.proofs.leaves.passed.Lts as lts
-use Rattle.refal_tree.proofs.leaves.leaves_end.Reads as leaves-end-reads
 
 leaves-end-requires : tie.Need-leaves-end-requires
 leaves-end-requires c κs = search needs

@@ -3,13 +3,6 @@ use borrow.Author.Tests.{ne-eqb}
 use borrow.Author.Needs.{needs}
 use Rattle.refal_tree.proofs.states.after.Statement.{statement}
 use Rattle.refal_tree.proofs.states.after.Tie as tie
-use Rattle.refal_tree.proofs.states.after.Reads as reads
-use Rattle.refal_tree.proofs.states.after.Lts as lts
-use Rattle.refal_tree.proofs.states.after_colon.Reads as after-colon-reads
-use Rattle.refal_tree.proofs.states.after_condition.Reads as after-condition-reads
-use Rattle.refal_tree.proofs.states.after_item.Reads as after-item-reads
-use Rattle.refal_tree.proofs.states.after_term.Reads as after-term-reads
-use Rattle.refal_tree.proofs.states.only.Reads as only-reads
 
 after-term-requires : tie.Need-after-term-requires
 after-term-requires c κs = search needs

@@ -3,9 +3,6 @@ use borrow.Author.Tests.{ne-eqb}
 use borrow.Author.Needs.{needs}
 use Rattle.refal_tree.proofs.states.after_item.Statement.{statement}
 use Rattle.refal_tree.proofs.states.after_item.Tie as tie
-use Rattle.refal_tree.proofs.states.after_item.Reads as reads
-use Rattle.refal_tree.proofs.states.after_item.Lts as lts
-use Rattle.refal_tree.proofs.states.only.Reads as only-reads
 
 returns : tie.Need-returns
 returns c = rw (c .if1 .taken)

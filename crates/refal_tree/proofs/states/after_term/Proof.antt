@@ -3,9 +3,6 @@ use mathlib.Core.Path.{sym, _∙_}
 use borrow.Author.Needs.{needs}
 use Rattle.refal_tree.proofs.states.after_term.Statement.{statement}
 use Rattle.refal_tree.proofs.states.after_term.Tie as tie
-use Rattle.refal_tree.proofs.states.after_term.Reads as reads
-use Rattle.refal_tree.proofs.states.after_term.Lts as lts
-use Rattle.refal_tree.proofs.states.is_term.Reads as is-term-reads
 
 is-term-requires : tie.Need-is-term-requires
 is-term-requires c κs = search needs

@@ -2,8 +2,6 @@
 use borrow.Author.Tests.{ne-eqb}
 use Rattle.refal_tree.proofs.states.inside.Statement.{statement}
 use Rattle.refal_tree.proofs.states.inside.Tie as tie
-use Rattle.refal_tree.proofs.states.inside.Reads as reads
-use Rattle.refal_tree.proofs.states.inside.Lts as lts
 
 returns : tie.Need-returns
 returns c = rw (c .if1 .taken)

@@ -2,8 +2,6 @@
 use borrow.Author.Tests.{eq-eqb, ne-eqb}
 use Rattle.refal_tree.proofs.states.only.Statement.{statement}
 use Rattle.refal_tree.proofs.states.only.Tie as tie
-use Rattle.refal_tree.proofs.states.only.Reads as reads
-use Rattle.refal_tree.proofs.states.only.Lts as lts
 
 returns : tie.Need-returns
 returns c = rw (eq-eqb _ _ (c .if1 .taken))

@@ -2,9 +2,6 @@
 use borrow.Author.Needs.{needs}
 use Rattle.refal_tree.proofs.states.room.Statement.{statement}
 use Rattle.refal_tree.proofs.states.room.Tie as tie
-use Rattle.refal_tree.proofs.states.room.Reads as reads
-use Rattle.refal_tree.proofs.states.room.Lts as lts
-use Rattle.refal_tree.proofs.states.counts.Reads as counts-reads
 
 counts-requires : tie.Need-counts-requires
 counts-requires c κs = search needs

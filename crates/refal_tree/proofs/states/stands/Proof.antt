@@ -2,9 +2,6 @@
 use borrow.Author.Needs.{needs}
 use Rattle.refal_tree.proofs.states.stands.Statement.{statement}
 use Rattle.refal_tree.proofs.states.stands.Tie as tie
-use Rattle.refal_tree.proofs.states.stands.Reads as reads
-use Rattle.refal_tree.proofs.states.stands.Lts as lts
-use Rattle.refal_tree.proofs.states.after.Reads as after-reads
 
 after-requires : tie.Need-after-requires
 after-requires c κs = search needs

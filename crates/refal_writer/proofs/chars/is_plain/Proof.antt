@@ -2,9 +2,6 @@
 use borrow.Author.Needs.{needs}
 use Rattle.refal_writer.proofs.chars.is_plain.Statement.{statement}
 use Rattle.refal_writer.proofs.chars.is_plain.Tie as tie
-use Rattle.refal_writer.proofs.chars.is_plain.Reads as reads
-use Rattle.refal_writer.proofs.chars.is_plain.Lts as lts
-use Rattle.refal_writer.proofs.row.wide.Reads as wide-reads
 
 mul-at : tie.Need-mul-at
 mul-at c = search needs

@@ -12,11 +12,6 @@ use Rattle.refal_writer.specs.Going.{Going, going-start}
 use Rattle.refal_writer.specs.Chars.{plainAt, plain-turn}
 use Rattle.refal_writer.proofs.chars.put_chars.Statement.{statement}
 use Rattle.refal_writer.proofs.chars.put_chars.Tie as tie
-use Rattle.refal_writer.proofs.chars.put_chars.Reads as reads
-use Rattle.refal_writer.proofs.chars.put_chars.Lts as lts
-use Rattle.refal_writer.proofs.bytes.put4.Reads as put4-reads
-use Rattle.refal_writer.proofs.chars.is_plain.Reads as is-plain-reads
-use Rattle.refal_writer.proofs.leaf.low.Reads as low-reads
 
 abbrev Inv-loop : tie.InvT-loop
 Inv-loop tree from to begin out₀ i₀ at₀ out i at =

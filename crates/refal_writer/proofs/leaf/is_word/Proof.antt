@@ -3,10 +3,6 @@ use Rattle.refal_writer.specs.Windows.{word-of}
 use borrow.Author.Needs.{needs}
 use Rattle.refal_writer.proofs.leaf.is_word.Statement.{statement}
 use Rattle.refal_writer.proofs.leaf.is_word.Tie as tie
-use Rattle.refal_writer.proofs.leaf.is_word.Reads as reads
-use Rattle.refal_writer.proofs.leaf.is_word.Lts as lts
-use Rattle.refal_writer.proofs.window.names16.Reads as names16-reads
-use Rattle.refal_writer.proofs.words.is_upper.Reads as is-upper-reads
 
 names16-requires : tie.Need-names16-requires
 names16-requires c κs = search needs

@@ -5,8 +5,6 @@ use borrow.Author.Tests.{eq-eqb, ne-eqb}
 use Rattle.refal_text.specs.Pick.{pick}
 use Rattle.refal_writer.proofs.leaf.lead.Statement.{statement}
 use Rattle.refal_writer.proofs.leaf.lead.Tie as tie
-use Rattle.refal_writer.proofs.leaf.lead.Reads as reads
-use Rattle.refal_writer.proofs.leaf.lead.Lts as lts
 
 returns : tie.Need-returns
 returns c = sym (ap (λ (b : Bool). pick b 2 0) (eq-eqb _ 12 (c .if1 .taken)))

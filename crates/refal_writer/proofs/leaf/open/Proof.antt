@@ -8,18 +8,6 @@ use Rattle.refal_writer.specs.Windows.{short-some, short-few, short-in, 
 use borrow.Author.Needs.{needs}
 use Rattle.refal_writer.proofs.leaf.open.Statement.{statement}
 use Rattle.refal_writer.proofs.leaf.open.Tie as tie
-use Rattle.refal_writer.proofs.leaf.open.Reads as reads
-use Rattle.refal_writer.proofs.leaf.open.Lts as lts
-use Rattle.refal_writer.proofs.leaf.lead.Reads as lead-reads
-use Rattle.refal_writer.proofs.leaf.low.Reads as low-reads
-use Rattle.refal_writer.proofs.leaf.put_text.Reads as put-text-reads
-use Rattle.refal_writer.proofs.leaf.word_spelled.Reads as word-spelled-reads
-use Rattle.refal_writer.proofs.opening.write_opening.Reads as write-opening-reads
-use Rattle.refal_writer.proofs.spelling.is_char.Reads as is-char-reads
-use Rattle.refal_writer.proofs.spelling.row_spelled.Reads as row-spelled-reads
-use Rattle.refal_writer.proofs.spelling.text_spelled.Reads as text-spelled-reads
-use Rattle.refal_writer.proofs.token.write_char.Reads as write-char-reads
-use Rattle.refal_writer.proofs.token.write_text.Reads as write-text-reads
 
 write-char-requires : tie.Need-write-char-requires
 write-char-requires c κs = search needs

@@ -6,9 +6,6 @@ use Rattle.refal_writer.specs.Windows.{ahead-puts, lent-room}
 use borrow.Author.Needs.{needs}
 use Rattle.refal_writer.proofs.leaf.put_text.Statement.{statement}
 use Rattle.refal_writer.proofs.leaf.put_text.Tie as tie
-use Rattle.refal_writer.proofs.leaf.put_text.Reads as reads
-use Rattle.refal_writer.proofs.leaf.put_text.Lts as lts
-use Rattle.refal_writer.proofs.window.copy16.Reads as copy16-reads
 
 slice-write-out : tie.Need-slice-write-out
 slice-write-out c = search needs

@@ -4,10 +4,6 @@ use Rattle.refal_writer.specs.Windows.{rest-room, rest-word, word-spelle
 use borrow.Author.Needs.{needs}
 use Rattle.refal_writer.proofs.leaf.word_spelled.Statement.{statement}
 use Rattle.refal_writer.proofs.leaf.word_spelled.Tie as tie
-use Rattle.refal_writer.proofs.leaf.word_spelled.Reads as reads
-use Rattle.refal_writer.proofs.leaf.word_spelled.Lts as lts
-use Rattle.refal_writer.proofs.leaf.is_word.Reads as is-word-reads
-use Rattle.refal_writer.proofs.spelling.row_spelled.Reads as row-spelled-reads
 
 sub-is-word : tie.Need-sub-is-word
 sub-is-word c = omega arith

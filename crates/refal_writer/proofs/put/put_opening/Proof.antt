@@ -7,11 +7,6 @@ use Rattle.refal_writer.specs.RowTurns.{sentence-opening, sentence-spell
 use borrow.Author.Needs.{needs}
 use Rattle.refal_writer.proofs.put.put_opening.Statement.{statement}
 use Rattle.refal_writer.proofs.put.put_opening.Tie as tie
-use Rattle.refal_writer.proofs.put.put_opening.Reads as reads
-use Rattle.refal_writer.proofs.put.put_opening.Lts as lts
-use Rattle.refal_rows.proofs.least.Reads as least-reads
-use Rattle.refal_writer.proofs.opening.write_opening.Reads as write-opening-reads
-use Rattle.refal_writer.proofs.spelling.row_spelled.Reads as row-spelled-reads
 
 mul-w : tie.Need-mul-w
 mul-w c = search needs

@@ -11,10 +11,6 @@ use Rattle.refal_writer.specs.Runs.{going-same, took-as, took-turn}
 use borrow.Author.Needs.{needs}
 use Rattle.refal_writer.proofs.run.alike.Statement.{statement}
 use Rattle.refal_writer.proofs.run.alike.Tie as tie
-use Rattle.refal_writer.proofs.run.alike.Reads as reads
-use Rattle.refal_writer.proofs.run.alike.Lts as lts
-use Rattle.refal_writer.proofs.leaf.lead.Reads as lead-reads
-use Rattle.refal_writer.proofs.run.put_word.Reads as put-word-reads
 
 abbrev Inv-loop : tie.InvT-loop
 Inv-loop tree src from to k n edge begin out₀ step i₀ at₀ out i at = (step ≡ ahead k + (n + 1)) × (from ≤ i) × (i ≤ to) × (at ≤ length out₀) × (length out ≡ length out₀)

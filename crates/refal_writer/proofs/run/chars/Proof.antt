@@ -7,9 +7,6 @@ use Rattle.refal_writer.specs.Going.{Going, going-start}
 use borrow.Author.Needs.{needs}
 use Rattle.refal_writer.proofs.run.chars.Statement.{statement}
 use Rattle.refal_writer.proofs.run.chars.Tie as tie
-use Rattle.refal_writer.proofs.run.chars.Reads as reads
-use Rattle.refal_writer.proofs.run.chars.Lts as lts
-use Rattle.refal_writer.proofs.chars.put_chars.Reads as put-chars-reads
 
 returns : tie.Need-returns
 returns c = let a = c .before .before .before .args in

@@ -5,9 +5,6 @@ use mathlib.Core.Path.{refl}
 use borrow.Author.Needs.{needs}
 use Rattle.refal_writer.proofs.run.is_alike.Statement.{statement}
 use Rattle.refal_writer.proofs.run.is_alike.Tie as tie
-use Rattle.refal_writer.proofs.run.is_alike.Reads as reads
-use Rattle.refal_writer.proofs.run.is_alike.Lts as lts
-use Rattle.refal_writer.proofs.row.wide.Reads as wide-reads
 
 mul-w : tie.Need-mul-w
 mul-w c = search needs

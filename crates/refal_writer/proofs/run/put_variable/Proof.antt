@@ -10,17 +10,6 @@ use Rattle.refal_writer.specs.Runs.{more-is, took-variable}
 use borrow.Author.Needs.{needs}
 use Rattle.refal_writer.proofs.run.put_variable.Statement.{statement}
 use Rattle.refal_writer.proofs.run.put_variable.Tie as tie
-use Rattle.refal_writer.proofs.run.put_variable.Reads as reads
-use Rattle.refal_writer.proofs.run.put_variable.Lts as lts
-use Rattle.refal_tree.proofs.fields.letter.Reads as letter-reads
-use Rattle.refal_writer.proofs.leaf.low.Reads as low-reads
-use Rattle.refal_writer.proofs.row.wide.Reads as wide-reads
-use Rattle.refal_writer.proofs.run.is_alike.Reads as is-alike-reads
-use Rattle.refal_writer.proofs.short.few_ok.Reads as few-ok-reads
-use Rattle.refal_writer.proofs.short.many_ok.Reads as many-ok-reads
-use Rattle.refal_writer.proofs.short.put_few.Reads as put-few-reads
-use Rattle.refal_writer.proofs.short.put_many.Reads as put-many-reads
-use Rattle.refal_writer.proofs.wrote.put_pair.Reads as put-pair-reads
 
 mul-w : tie.Need-mul-w
 mul-w c = search needs

@@ -10,10 +10,6 @@ use Rattle.refal_writer.specs.Windows.{ahead}
 use borrow.Author.Needs.{needs}
 use Rattle.refal_writer.proofs.run.put_word.Statement.{statement}
 use Rattle.refal_writer.proofs.run.put_word.Tie as tie
-use Rattle.refal_writer.proofs.run.put_word.Reads as reads
-use Rattle.refal_writer.proofs.run.put_word.Lts as lts
-use Rattle.refal_writer.proofs.run.put_name.Reads as put-name-reads
-use Rattle.refal_writer.proofs.run.put_variable.Reads as put-variable-reads
 
 put-variable-requires : tie.Need-put-variable-requires
 put-variable-requires c κs = search needs

@@ -2,11 +2,6 @@
 use borrow.Author.Needs.{needs}
 use Rattle.refal_writer.proofs.run.run.Statement.{statement}
 use Rattle.refal_writer.proofs.run.run.Tie as tie
-use Rattle.refal_writer.proofs.run.run.Reads as reads
-use Rattle.refal_writer.proofs.run.run.Lts as lts
-use Rattle.refal_writer.proofs.row.kind.Reads as kind-reads
-use Rattle.refal_writer.proofs.run.chars.Reads as chars-reads
-use Rattle.refal_writer.proofs.run.words.Reads as words-reads
 
 kind-requires : tie.Need-kind-requires
 kind-requires c κs = search needs

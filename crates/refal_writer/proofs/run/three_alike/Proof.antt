@@ -5,8 +5,6 @@ use mathlib.Core.Path.{sym}
 use borrow.Author.Needs.{needs}
 use Rattle.refal_writer.proofs.run.three_alike.Statement.{statement}
 use Rattle.refal_writer.proofs.run.three_alike.Tie as tie
-use Rattle.refal_writer.proofs.run.three_alike.Reads as reads
-use Rattle.refal_writer.proofs.run.three_alike.Lts as lts
 
 add-end : tie.Need-add-end
 add-end c = search needs

@@ -7,11 +7,6 @@ use Rattle.refal_writer.specs.Runs.{starts-is}
 use borrow.Author.Needs.{needs}
 use Rattle.refal_writer.proofs.run.words.Statement.{statement}
 use Rattle.refal_writer.proofs.run.words.Tie as tie
-use Rattle.refal_writer.proofs.run.words.Reads as reads
-use Rattle.refal_writer.proofs.run.words.Lts as lts
-use Rattle.refal_writer.proofs.row.wide.Reads as wide-reads
-use Rattle.refal_writer.proofs.run.alike.Reads as alike-reads
-use Rattle.refal_writer.proofs.run.three_alike.Reads as three-alike-reads
 
 three-alike-requires : tie.Need-three-alike-requires
 three-alike-requires c κs = search needs

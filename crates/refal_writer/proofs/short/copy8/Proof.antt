@@ -9,8 +9,6 @@ use Rattle.refal_writer.specs.Short.{both-loops}
 use borrow.Author.Needs.{needs}
 use Rattle.refal_writer.proofs.short.copy8.Statement.{statement}
 use Rattle.refal_writer.proofs.short.copy8.Tie as tie
-use Rattle.refal_writer.proofs.short.copy8.Reads as reads
-use Rattle.refal_writer.proofs.short.copy8.Lts as lts
 
 abbrev Inv-loop : tie.InvT-loop
 Inv-loop src n out both₀ i₀ both i = (i ≤ n) × (length both ≡ 8) × (both ≡ take i src ++ drop i (replicate 8 0))

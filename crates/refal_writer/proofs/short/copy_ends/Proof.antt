@@ -5,9 +5,6 @@ use Prim.Native.Nat.{_-_}
 use borrow.Author.Needs.{needs}
 use Rattle.refal_writer.proofs.short.copy_ends.Statement.{statement}
 use Rattle.refal_writer.proofs.short.copy_ends.Tie as tie
-use Rattle.refal_writer.proofs.short.copy_ends.Reads as reads
-use Rattle.refal_writer.proofs.short.copy_ends.Lts as lts
-use Rattle.refal_writer.proofs.short.copy8.Reads as copy8-reads
 
 sub-k : tie.Need-sub-k
 sub-k c = search needs

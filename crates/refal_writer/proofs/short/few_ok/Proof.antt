@@ -3,9 +3,6 @@ use Rattle.refal_writer.specs.Short.{few-names}
 use borrow.Author.Needs.{needs}
 use Rattle.refal_writer.proofs.short.few_ok.Statement.{statement}
 use Rattle.refal_writer.proofs.short.few_ok.Tie as tie
-use Rattle.refal_writer.proofs.short.few_ok.Reads as reads
-use Rattle.refal_writer.proofs.short.few_ok.Lts as lts
-use Rattle.refal_writer.proofs.short.is_in.Reads as is-in-reads
 
 add-m : tie.Need-add-m
 add-m c = search needs

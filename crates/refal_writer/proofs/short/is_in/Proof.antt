@@ -4,8 +4,6 @@ use Rattle.refal_writer.specs.Short.{in-is}
 use borrow.Author.Needs.{needs}
 use Rattle.refal_writer.proofs.short.is_in.Statement.{statement}
 use Rattle.refal_writer.proofs.short.is_in.Tie as tie
-use Rattle.refal_writer.proofs.short.is_in.Reads as reads
-use Rattle.refal_writer.proofs.short.is_in.Lts as lts
 
 add-at : tie.Need-add-at
 add-at c = search needs

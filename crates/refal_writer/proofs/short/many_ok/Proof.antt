@@ -11,10 +11,6 @@ use Rattle.refal_writer.specs.Windows.{AllNames}
 use borrow.Author.Needs.{needs}
 use Rattle.refal_writer.proofs.short.many_ok.Statement.{statement}
 use Rattle.refal_writer.proofs.short.many_ok.Tie as tie
-use Rattle.refal_writer.proofs.short.many_ok.Reads as reads
-use Rattle.refal_writer.proofs.short.many_ok.Lts as lts
-use Rattle.refal_writer.proofs.short.is_in.Reads as is-in-reads
-use Rattle.refal_writer.proofs.window.names16.Reads as names16-reads
 
 abbrev Inv-loop : tie.InvT-loop
 Inv-loop edge src s n good₀ i₀ good i = (i ≤ n) × (good ≡ true → AllNames (drop s src) i)

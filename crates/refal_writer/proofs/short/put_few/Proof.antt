@@ -5,8 +5,6 @@ use Rattle.refal_writer.specs.Short.{few-adds}
 use borrow.Author.Needs.{needs}
 use Rattle.refal_writer.proofs.short.put_few.Statement.{statement}
 use Rattle.refal_writer.proofs.short.put_few.Tie as tie
-use Rattle.refal_writer.proofs.short.put_few.Reads as reads
-use Rattle.refal_writer.proofs.short.put_few.Lts as lts
 
 add-m : tie.Need-add-m
 add-m c = search needs

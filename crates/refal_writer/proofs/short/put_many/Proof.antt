@@ -3,9 +3,6 @@ use Rattle.refal_writer.specs.Short.{many-adds}
 use borrow.Author.Needs.{needs}
 use Rattle.refal_writer.proofs.short.put_many.Statement.{statement}
 use Rattle.refal_writer.proofs.short.put_many.Tie as tie
-use Rattle.refal_writer.proofs.short.put_many.Reads as reads
-use Rattle.refal_writer.proofs.short.put_many.Lts as lts
-use Rattle.refal_writer.proofs.short.copy_many.Reads as copy-many-reads
 
 sub-copy-many : tie.Need-sub-copy-many
 sub-copy-many c = search needs

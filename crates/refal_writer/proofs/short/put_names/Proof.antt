@@ -5,12 +5,6 @@ use borrow.Author.Tests.{not-false}
 use borrow.Author.Needs.{needs}
 use Rattle.refal_writer.proofs.short.put_names.Statement.{statement}
 use Rattle.refal_writer.proofs.short.put_names.Tie as tie
-use Rattle.refal_writer.proofs.short.put_names.Reads as reads
-use Rattle.refal_writer.proofs.short.put_names.Lts as lts
-use Rattle.refal_writer.proofs.short.few_ok.Reads as few-ok-reads
-use Rattle.refal_writer.proofs.short.many_ok.Reads as many-ok-reads
-use Rattle.refal_writer.proofs.short.put_few.Reads as put-few-reads
-use Rattle.refal_writer.proofs.short.put_many.Reads as put-many-reads
 
 few-ok-requires : tie.Need-few-ok-requires
 few-ok-requires c κs = search needs

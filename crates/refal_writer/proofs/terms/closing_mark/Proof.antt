@@ -5,8 +5,6 @@ use borrow.Author.Tests.{eq-eqb, ne-eqb}
 use Rattle.refal_text.specs.Pick.{pick}
 use Rattle.refal_writer.proofs.terms.closing_mark.Statement.{statement}
 use Rattle.refal_writer.proofs.terms.closing_mark.Tie as tie
-use Rattle.refal_writer.proofs.terms.closing_mark.Reads as reads
-use Rattle.refal_writer.proofs.terms.closing_mark.Lts as lts
 
 returns : tie.Need-returns
 returns c = sym (ap (λ (b : Bool). pick b 41 62) (eq-eqb _ 13 (c .if1 .taken)))

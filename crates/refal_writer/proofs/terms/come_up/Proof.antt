@@ -9,11 +9,6 @@ use Rattle.refal_writer.specs.Chains.{closings, up-start, up-turn, up-en
 use borrow.Author.Needs.{needs}
 use Rattle.refal_writer.proofs.terms.come_up.Statement.{statement}
 use Rattle.refal_writer.proofs.terms.come_up.Tie as tie
-use Rattle.refal_writer.proofs.terms.come_up.Reads as reads
-use Rattle.refal_writer.proofs.terms.come_up.Lts as lts
-use Rattle.refal_writer.proofs.row.kind.Reads as kind-reads
-use Rattle.refal_writer.proofs.terms.closing_mark.Reads as closing-mark-reads
-use Rattle.refal_writer.proofs.wrote.put_mark.Reads as put-mark-reads
 
 abbrev Inv-loop : tie.InvT-loop
 Inv-loop tree from to begin out₀ i₀ at₀ out i at = (from ≤ i) × (i ≤ to) × (at ≤ begin + 2 * (to - i)) × (length out ≡ length out₀) × Sofar (closings tree from (to - from)) (closings tree from (i - from)) begin at out₀ out

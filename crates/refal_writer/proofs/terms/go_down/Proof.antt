@@ -8,10 +8,6 @@ use Rattle.refal_writer.specs.Chains.{Chain, onlyAt, chain-start, chain-
 use Rattle.refal_writer.specs.Terms.{node-kind, node-left}
 use Rattle.refal_writer.proofs.terms.go_down.Statement.{statement}
 use Rattle.refal_writer.proofs.terms.go_down.Tie as tie
-use Rattle.refal_writer.proofs.terms.go_down.Reads as reads
-use Rattle.refal_writer.proofs.terms.go_down.Lts as lts
-use Rattle.refal_writer.proofs.terms.is_only.Reads as is-only-reads
-use Rattle.refal_writer.proofs.terms.open_node.Reads as open-node-reads
 
 abbrev Inv-loop : tie.InvT-loop
 Inv-loop tree src from to left edge begin out₀ i₀ at₀ good₀ below₀ out i at good below = Chain src tree from to left begin i at good out₀ out × (below ≡ left - (i - from))

@@ -2,10 +2,6 @@
 use borrow.Author.Needs.{needs}
 use Rattle.refal_writer.proofs.terms.is_only.Statement.{statement}
 use Rattle.refal_writer.proofs.terms.is_only.Tie as tie
-use Rattle.refal_writer.proofs.terms.is_only.Reads as reads
-use Rattle.refal_writer.proofs.terms.is_only.Lts as lts
-use Rattle.refal_writer.proofs.row.next.Reads as next-reads
-use Rattle.refal_writer.proofs.terms.is_node.Reads as is-node-reads
 
 next-requires : tie.Need-next-requires
 next-requires c κs = search needs

@@ -3,8 +3,6 @@ use Rattle.refal_writer.specs.Calls.{near-is}
 use borrow.Author.Needs.{needs}
 use Rattle.refal_writer.proofs.terms.near.Statement.{statement}
 use Rattle.refal_writer.proofs.terms.near.Tie as tie
-use Rattle.refal_writer.proofs.terms.near.Reads as reads
-use Rattle.refal_writer.proofs.terms.near.Lts as lts
 
 add-result : tie.Need-add-result
 add-result c = search needs

@@ -8,11 +8,6 @@ use Rattle.refal_writer.specs.Walk.{call-stands}
 use borrow.Author.Needs.{needs}
 use Rattle.refal_writer.proofs.terms.open_call.Statement.{statement}
 use Rattle.refal_writer.proofs.terms.open_call.Tie as tie
-use Rattle.refal_writer.proofs.terms.open_call.Reads as reads
-use Rattle.refal_writer.proofs.terms.open_call.Lts as lts
-use Rattle.refal_writer.proofs.put.put_opening.Reads as put-opening-reads
-use Rattle.refal_writer.proofs.row.wide.Reads as wide-reads
-use Rattle.refal_writer.proofs.terms.put_call.Reads as put-call-reads
 
 put-call-requires : tie.Need-put-call-requires
 put-call-requires c κs = search needs

@@ -5,10 +5,6 @@ use Rattle.refal_writer.specs.Terms.{leaf-stands, leaf-low, leaf-high}
 use borrow.Author.Needs.{needs}
 use Rattle.refal_writer.proofs.terms.open_leaf.Statement.{statement}
 use Rattle.refal_writer.proofs.terms.open_leaf.Tie as tie
-use Rattle.refal_writer.proofs.terms.open_leaf.Reads as reads
-use Rattle.refal_writer.proofs.terms.open_leaf.Lts as lts
-use Rattle.refal_rows.proofs.least.Reads as least-reads
-use Rattle.refal_writer.proofs.leaf.open.Reads as open-reads
 
 mul-w : tie.Need-mul-w
 mul-w c = search needs

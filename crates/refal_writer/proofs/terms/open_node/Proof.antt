@@ -9,11 +9,6 @@ use Prim.Native.Nat.{_+_, _*_}
 use borrow.Author.Needs.{needs}
 use Rattle.refal_writer.proofs.terms.open_node.Statement.{statement}
 use Rattle.refal_writer.proofs.terms.open_node.Tie as tie
-use Rattle.refal_writer.proofs.terms.open_node.Reads as reads
-use Rattle.refal_writer.proofs.terms.open_node.Lts as lts
-use Rattle.refal_writer.proofs.row.kind.Reads as kind-reads
-use Rattle.refal_writer.proofs.terms.open_call.Reads as open-call-reads
-use Rattle.refal_writer.proofs.wrote.put_mark.Reads as put-mark-reads
 
 kind-requires : tie.Need-kind-requires
 kind-requires c κs = search needs

@@ -8,13 +8,6 @@ use Rattle.refal_writer.specs.Calls.{called}
 use borrow.Author.Needs.{needs}
 use Rattle.refal_writer.proofs.terms.put_call.Statement.{statement}
 use Rattle.refal_writer.proofs.terms.put_call.Tie as tie
-use Rattle.refal_writer.proofs.terms.put_call.Reads as reads
-use Rattle.refal_writer.proofs.terms.put_call.Lts as lts
-use Rattle.refal_writer.proofs.row.wide.Reads as wide-reads
-use Rattle.refal_writer.proofs.short.put_names.Reads as put-names-reads
-use Rattle.refal_writer.proofs.terms.near.Reads as near-reads
-use Rattle.refal_writer.proofs.words.is_upper.Reads as is-upper-reads
-use Rattle.refal_writer.proofs.wrote.put_pair.Reads as put-pair-reads
 
 mul-w : tie.Need-mul-w
 mul-w c = search needs

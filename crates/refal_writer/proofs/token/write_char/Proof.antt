@@ -8,13 +8,6 @@ use Rattle.refal_spelling.specs.Spell.{body}
 use borrow.Author.Needs.{needs}
 use Rattle.refal_writer.proofs.token.write_char.Statement.{statement}
 use Rattle.refal_writer.proofs.token.write_char.Tie as tie
-use Rattle.refal_writer.proofs.token.write_char.Reads as reads
-use Rattle.refal_writer.proofs.token.write_char.Lts as lts
-use Rattle.refal_rows.proofs.least.Reads as least-reads
-use Rattle.refal_writer.proofs.bytes.put1.Reads as put1-reads
-use Rattle.refal_writer.proofs.bytes.put2.Reads as put2-reads
-use Rattle.refal_writer.proofs.bytes.put4.Reads as put4-reads
-use Rattle.refal_writer.proofs.token.put_code.Reads as put-code-reads
 
 cast-put4 : tie.Need-cast-put4
 cast-put4 c = let l = plain-low (c .before .before .args .x) (c .if1 .taken) in omega arith

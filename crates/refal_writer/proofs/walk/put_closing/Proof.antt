@@ -5,11 +5,6 @@ use Rattle.refal_writer.specs.RowTurns.{sentence-closing}
 use borrow.Author.Needs.{needs}
 use Rattle.refal_writer.proofs.walk.put_closing.Statement.{statement}
 use Rattle.refal_writer.proofs.walk.put_closing.Tie as tie
-use Rattle.refal_writer.proofs.walk.put_closing.Reads as reads
-use Rattle.refal_writer.proofs.walk.put_closing.Lts as lts
-use Rattle.refal_rows.proofs.least.Reads as least-reads
-use Rattle.refal_writer.proofs.opening.write_closing.Reads as write-closing-reads
-use Rattle.refal_writer.proofs.wrote.put_mark.Reads as put-mark-reads
 
 put-mark-requires : tie.Need-put-mark-requires
 put-mark-requires c κs = search needs

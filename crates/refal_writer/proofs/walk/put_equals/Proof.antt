@@ -8,9 +8,6 @@ use Rattle.refal_writer.specs.RowTurns.{equalsText}
 use borrow.Author.Needs.{needs}
 use Rattle.refal_writer.proofs.walk.put_equals.Statement.{statement}
 use Rattle.refal_writer.proofs.walk.put_equals.Tie as tie
-use Rattle.refal_writer.proofs.walk.put_equals.Reads as reads
-use Rattle.refal_writer.proofs.walk.put_equals.Lts as lts
-use Rattle.refal_writer.proofs.wrote.put_mark.Reads as put-mark-reads
 
 put-mark-requires : tie.Need-put-mark-requires
 put-mark-requires c κs = search needs

@@ -9,10 +9,6 @@ use Rattle.refal_tree.specs.Rules.{rowOk}
 use borrow.Author.Needs.{needs}
 use Rattle.refal_writer.proofs.walk.row_fits.Statement.{statement}
 use Rattle.refal_writer.proofs.walk.row_fits.Tie as tie
-use Rattle.refal_writer.proofs.walk.row_fits.Reads as reads
-use Rattle.refal_writer.proofs.walk.row_fits.Lts as lts
-use Rattle.refal_tree.proofs.row_ok.Reads as row-ok-reads
-use Rattle.refal_writer.proofs.row.next.Reads as next-reads
 
 next-requires : tie.Need-next-requires
 next-requires c κs = search needs

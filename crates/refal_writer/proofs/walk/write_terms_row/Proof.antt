@@ -12,13 +12,6 @@ use Rattle.refal_writer.specs.Walk.{widest}
 use borrow.Author.Needs.{needs}
 use Rattle.refal_writer.proofs.walk.write_terms_row.Statement.{statement}
 use Rattle.refal_writer.proofs.walk.write_terms_row.Tie as tie
-use Rattle.refal_writer.proofs.walk.write_terms_row.Reads as reads
-use Rattle.refal_writer.proofs.walk.write_terms_row.Lts as lts
-use Rattle.refal_tree.proofs.below.Reads as below-reads
-use Rattle.refal_writer.proofs.terms.write_terms.Reads as write-terms-reads
-use Rattle.refal_writer.proofs.walk.put_closing.Reads as put-closing-reads
-use Rattle.refal_writer.proofs.walk.put_equals.Reads as put-equals-reads
-use Rattle.refal_writer.proofs.wrote.unlawful.Reads as unlawful-reads
 
 add-first : tie.Need-add-first
 add-first c = search needs

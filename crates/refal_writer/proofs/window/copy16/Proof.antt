@@ -9,10 +9,6 @@ use Rattle.refal_writer.specs.Windows.{blend-turn, blend-done}
 use borrow.Author.Needs.{needs}
 use Rattle.refal_writer.proofs.window.copy16.Statement.{statement}
 use Rattle.refal_writer.proofs.window.copy16.Tie as tie
-use Rattle.refal_writer.proofs.window.copy16.Reads as reads
-use Rattle.refal_writer.proofs.window.copy16.Lts as lts
-use Rattle.refal_writer.proofs.window.pick.Reads as pick-reads
-use Rattle.refal_writer.proofs.window.within.Reads as within-reads
 
 abbrev Inv-loop : tie.InvT-loop
 Inv-loop edge src n out both₀ i₀ both i = (i ≤ 16) × (length both ≡ 16) × (both ≡ take i (take n src ++ drop n out) ++ drop i (replicate 16 0))

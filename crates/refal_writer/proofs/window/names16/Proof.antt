@@ -9,10 +9,6 @@ use Rattle.refal_writer.specs.Windows.{names-turn}
 use borrow.Author.Needs.{needs}
 use Rattle.refal_writer.proofs.window.names16.Statement.{statement}
 use Rattle.refal_writer.proofs.window.names16.Tie as tie
-use Rattle.refal_writer.proofs.window.names16.Reads as reads
-use Rattle.refal_writer.proofs.window.names16.Lts as lts
-use Rattle.refal_writer.proofs.window.within.Reads as within-reads
-use Rattle.refal_writer.proofs.words.is_name_byte.Reads as is-name-byte-reads
 
 abbrev Inv-loop : tie.InvT-loop
 Inv-loop edge word n good₀ i₀ good i = (i ≤ 16) × (good ≡ true → (j : ℕ) → j < i → j < n → nameByte (getD word j 0) ≡ true)

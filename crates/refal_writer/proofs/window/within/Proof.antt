@@ -4,8 +4,6 @@ use Rattle.refal_writer.specs.Windows.{within-is}
 use borrow.Author.Needs.{needs}
 use Rattle.refal_writer.proofs.window.within.Statement.{statement}
 use Rattle.refal_writer.proofs.window.within.Tie as tie
-use Rattle.refal_writer.proofs.window.within.Reads as reads
-use Rattle.refal_writer.proofs.window.within.Lts as lts
 
 sub-from : tie.Need-sub-from
 sub-from c = search needs

@@ -4,9 +4,6 @@ use Rattle.refal_writer.specs.Adds.{adds-pair, adds-short}
 use borrow.Author.Needs.{needs}
 use Rattle.refal_writer.proofs.wrote.put_mark.Statement.{statement}
 use Rattle.refal_writer.proofs.wrote.put_mark.Tie as tie
-use Rattle.refal_writer.proofs.wrote.put_mark.Reads as reads
-use Rattle.refal_writer.proofs.wrote.put_mark.Lts as lts
-use Rattle.refal_writer.proofs.wrote.put_pair.Reads as put-pair-reads
 
 add-end : tie.Need-add-end
 add-end c = search needs

@@ -5,8 +5,6 @@ use Rattle.refal_writer.specs.Adds.{pair-set}
 use borrow.Author.Needs.{needs}
 use Rattle.refal_writer.proofs.wrote.put_pair.Statement.{statement}
 use Rattle.refal_writer.proofs.wrote.put_pair.Tie as tie
-use Rattle.refal_writer.proofs.wrote.put_pair.Reads as reads
-use Rattle.refal_writer.proofs.wrote.put_pair.Lts as lts
 
 slice-write-out : tie.Need-slice-write-out
 slice-write-out c = search needs
