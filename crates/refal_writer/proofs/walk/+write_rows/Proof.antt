@@ -1,15 +1,17 @@
 -- `refal_writer::walk::write_rows` meets its contract, as a cycle of calls: at each row the walk so far is `Going`. What falls is the number of rows.
 use Prim.Native.Nat.{ℕ, _+_, _*_, _-_, _≤_, _<_}
-use mathlib.Core.Path.{sym, ap, subst, _∙_}
+use mathlib.Core.Bool.{true}
+use mathlib.Core.Path.{_≡_, sym, ap, subst, _∙_}
 use native.Mathlib.Omega.{arith}
 use lib.ListN.{length}
 use borrow.Author.Needs.{needs}
 use borrow.Author.Tests.{not-true, not-false}
 use Rattle.refal_tree.specs.States.{inside, after, below}
+use Rattle.refal_tree.specs.Rules.{rowOk}
 use Rattle.refal_tree.specs.Levels.{below-le}
 use Rattle.refal_tree.specs.Ranges.{rowAt, ok-end, stop-kids}
 use Rattle.refal_writer.specs.Going.{Going, node-whole, kids-found, going-start, going-end, going-not, going-turn}
-use Rattle.refal_writer.specs.RowTurns.{fits-low, fits-high, fits-row, fits-not}
+use Rattle.refal_writer.specs.RowTurns.{fitsAt, fits-low, fits-high, fits-row, fits-not}
 use Rattle.refal_writer.specs.Walk.{widest, standing, rows-fall, left-falls}
 use Prim.Native.Nat.{ℕ, _<_}
 use borrow.Fn.Kinds.{In}
@@ -51,6 +53,25 @@ write-rows-Inv-loop tree src from to start left edge begin out₀ i₀ st₀ at�
 abbrev write-rows-μ-loop : write-rows-lts.MeasureT-loop
 write-rows-μ-loop tree src from to start left edge begin out₀ i₀ st₀ at₀ good₀ out i st at good = to - i
 
+-- ---- a turn of the loop, once the row's end is known: the row fits, and its children end within the range
+abbrev Turn : ℕ → Type 0
+Turn t = write-rows-lts.After-next (write-rows-claims t) (write-rows-at t) write-rows.Post write-rows-Inv-loop write-rows-μ-loop
+
+turn-fits : (t : ℕ) (e : Turn t) → fitsAt (e .before .before .before .before .before .before .before .before .before .args .tree .now) (e .before .before .before .before .loop .i) (e .before .before .before .before .before .before .before .before .before .args .to) (e .before .before .before .before .loop .st) (e .before .before .before .before .before .before .before .before .before .args .left) ≡ true
+turn-fits t e = sym (e .before .before .row-fits .ensures) ∙ not-false _ (e .before .if1 .left)
+
+turn-low : (t : ℕ) (e : Turn t) → e .before .before .before .before .loop .i < e .next .result
+turn-low t e = let a = e .before .before .before .before .before .before .before .before .before .args in let g = e .before .before .before .before .loop in
+    subst (λ (y : ℕ). g .i < y) (sym (e .next .ensures)) (fits-low (a .tree .now) (g .i) (a .to) (g .st) (a .left) (turn-fits t e))
+
+turn-high : (t : ℕ) (e : Turn t) → e .next .result ≤ e .before .before .before .before .before .before .before .before .before .args .to
+turn-high t e = let a = e .before .before .before .before .before .before .before .before .before .args in let g = e .before .before .before .before .loop in
+    subst (λ (y : ℕ). y ≤ a .to) (sym (e .next .ensures)) (fits-high (a .tree .now) (g .i) (a .to) (g .st) (a .left) (turn-fits t e))
+
+turn-row : (t : ℕ) (e : Turn t) → rowOk (e .before .before .before .before .loop .st) (e .before .before .before .before .before .before .before .before .before .args .left) (rowAt (e .before .before .before .before .before .before .before .before .before .args .tree .now) (e .before .before .before .before .loop .i)) ≡ true
+turn-row t e = let a = e .before .before .before .before .before .before .before .before .before .args in let g = e .before .before .before .before .loop in
+    fits-row (a .tree .now) (g .i) (a .to) (g .st) (a .left) (turn-fits t e)
+
 write-rows-loop-holds : (t : ℕ) → write-rows-lts.Need-loop-holds (write-rows-claims t) (write-rows-at t) write-rows.Post write-rows-Inv-loop write-rows-μ-loop
 write-rows-loop-holds t c = let a = c .before .before .before .before .args in going-start (a .src .now) (a .tree .now) (a .from) (a .to) (a .start) (a .left) (a .begin) (a .out .now) (c .before .before .before .before .pre .1 .0)
 
@@ -75,21 +96,20 @@ write-rows-kind-requires : (t : ℕ) → write-rows-lts.Need-kind-requires (writ
 write-rows-kind-requires t c κs = search needs
 
 write-rows-write-terms-row-requires : (t : ℕ) → write-rows-lts.Need-write-terms-row-requires (write-rows-claims t) (write-rows-at t) write-rows.Post write-rows-Inv-loop write-rows-μ-loop
-write-rows-write-terms-row-requires t c κs = let a = c .before .before .before .before .before .before .before .before .before .before .before .before .args in let g = c .before .before .before .before .before .before .before .loop in
-    let m : g .i < a .to = c .before .before .before .before .before .before .loop-test .taken in
-    let T = sym (c .before .before .before .before .before .row-fits .ensures) ∙ not-false _ (c .before .before .before .before .if1 .left) in
-    let x = c .before .before .before .next in
-    let lo : g .i < x .result = subst (λ (y : ℕ). g .i < y) (sym (x .ensures)) (fits-low (a .tree .now) (g .i) (a .to) (g .st) (a .left) T) in
-    let hi : x .result ≤ a .to = subst (λ (y : ℕ). y ≤ a .to) (sym (x .ensures)) (fits-high (a .tree .now) (g .i) (a .to) (g .st) (a .left) T) in
+write-rows-write-terms-row-requires t c κs = let e = c .before .before .before in let a = e .before .before .before .before .before .before .before .before .before .args in let g = e .before .before .before .before .loop in
+    let p = e .before .before .before .before .before .before .before .before .before .pre .1 in
+    let x = e .next in
+    let lo : g .i < x .result = turn-low t e in
+    let hi : x .result ≤ a .to = turn-high t e in
     let s : g .at + a .from * widest ≤ a .begin + g .i * widest = g .inv .small in
-    let b : a .begin ≤ a .from * widest = c .before .before .before .before .before .before .before .before .before .before .before .before .pre .1 .4 in
-    let few : a .to ≤ 33554432 = c .before .before .before .before .before .before .before .before .before .before .before .before .pre .1 .2 in
-    let long : 7 * a .to ≤ length (a .tree .now) = c .before .before .before .before .before .before .before .before .before .before .before .before .pre .1 .1 in
+    let b : a .begin ≤ a .from * widest = p .4 in
+    let few : a .to ≤ 33554432 = p .2 in
+    let long : 7 * a .to ≤ length (a .tree .now) = p .1 in
     let n1 : 7 * x .result ≤ length (a .tree .now) = omega (arith, hi, long) in
     let n2 : x .result ≤ 33554432 = omega (arith, hi, few) in
     let n3 : g .at ≤ g .i * widest = omega (arith, s, b) in
     let n4 : a .left ≤ 4294967296 = omega arith in
-    (lo, n1, n2, n3, n4, sym (c .before .before .kind .ensures) ∙ c .before .if2 .taken, c .before .before .before .before .before .before .before .before .before .before .before .before .pre .1 .5)
+    (lo, n1, n2, n3, n4, sym (c .before .before .kind .ensures) ∙ c .before .if2 .taken, p .5)
 
 write-rows-unlawful-requires-2 : (t : ℕ) → write-rows-lts.Need-unlawful-requires-2 (write-rows-claims t) (write-rows-at t) write-rows.Post write-rows-Inv-loop write-rows-μ-loop
 write-rows-unlawful-requires-2 t c κs = search needs
@@ -98,56 +118,52 @@ write-rows-same-length-2 : (t : ℕ) → write-rows-lts.Need-same-length-2 (writ
 write-rows-same-length-2 t c = c .before .before .before .before .before .write-terms-row .kept .1 .1 .1 .1 .1 .1 .1 .1 .0 ∙ c .before .before .before .before .before .before .before .before .before .before .before .before .before .loop .inv .same
 
 write-rows-returns-2 : (t : ℕ) → write-rows-lts.Need-returns-2 (write-rows-claims t) (write-rows-at t) write-rows.Post write-rows-Inv-loop write-rows-μ-loop
-write-rows-returns-2 t c = let a = c .before .before .before .before .before .before .before .before .before .before .before .before .before .before .before .before .before .before .args in let g = c .before .before .before .before .before .before .before .before .before .before .before .before .before .loop in
-    let m : g .i < a .to = c .before .before .before .before .before .before .before .before .before .before .before .before .loop-test .taken in
-    let T = sym (c .before .before .before .before .before .before .before .before .before .before .before .row-fits .ensures) ∙ not-false _ (c .before .before .before .before .before .before .before .before .before .before .if1 .left) in
-    let x = c .before .before .before .before .before .before .before .before .before .next in
-    let lo : g .i < x .result = subst (λ (y : ℕ). g .i < y) (sym (x .ensures)) (fits-low (a .tree .now) (g .i) (a .to) (g .st) (a .left) T) in
-    let hi : x .result ≤ a .to = subst (λ (y : ℕ). y ≤ a .to) (sym (x .ensures)) (fits-high (a .tree .now) (g .i) (a .to) (g .st) (a .left) T) in
+write-rows-returns-2 t c = let e = c .before .before .before .before .before .before .before .before .before in let a = e .before .before .before .before .before .before .before .before .before .args in let g = e .before .before .before .before .loop in
+    let p = e .before .before .before .before .before .before .before .before .before .pre .1 in
+    let x = e .next in
+    let lo : g .i < x .result = turn-low t e in
+    let hi : x .result ≤ a .to = turn-high t e in
     let k = c .before .before .before .before .before .before .before .before .kind in
     going-not (a .src .now) (a .tree .now) (a .from) (a .to) (a .start) (a .left) (a .begin) (g .i) (g .st) (g .at) (g .good) (a .out .now) (g .out) (g .inv) _ _ _ _ (c .unlawful2 .ensures)
-    (stop-kids (a .tree .now) (g .i) (a .to) (g .st) (a .left) 6 (x .result) (sym (c .before .before .before .before .before .before .before .if2 .taken) ∙ k .ensures) (x .ensures) (c .before .before .before .before .before .before .before .before .before .before .before .before .before .before .before .before .before .before .pre .1 .1) lo hi
+    (stop-kids (a .tree .now) (g .i) (a .to) (g .st) (a .left) 6 (x .result) (sym (c .before .before .before .before .before .before .before .if2 .taken) ∙ k .ensures) (x .ensures) (p .1) lo hi
     (sym (c .before .before .before .before .before .write-terms-row .ensures .lawful-is) ∙ not-true _ (c .before .if3 .taken)))
 
 write-rows-after-requires : (t : ℕ) → write-rows-lts.Need-after-requires (write-rows-claims t) (write-rows-at t) write-rows.Post write-rows-Inv-loop write-rows-μ-loop
 write-rows-after-requires t c κs = search needs
 
 write-rows-loop-less : (t : ℕ) → write-rows-lts.Need-loop-less (write-rows-claims t) (write-rows-at t) write-rows.Post write-rows-Inv-loop write-rows-μ-loop
-write-rows-loop-less t c = let a = c .before .before .before .before .before .before .before .before .before .before .before .before .before .before .before .before .before .before .before .args in let g = c .before .before .before .before .before .before .before .before .before .before .before .before .before .before .loop in
-    let m : g .i < a .to = c .before .before .before .before .before .before .before .before .before .before .before .before .before .loop-test .taken in
-    let T = sym (c .before .before .before .before .before .before .before .before .before .before .before .before .row-fits .ensures) ∙ not-false _ (c .before .before .before .before .before .before .before .before .before .before .before .if1 .left) in
-    let x = c .before .before .before .before .before .before .before .before .before .before .next in
-    let lo : g .i < x .result = subst (λ (y : ℕ). g .i < y) (sym (x .ensures)) (fits-low (a .tree .now) (g .i) (a .to) (g .st) (a .left) T) in
-    let hi : x .result ≤ a .to = subst (λ (y : ℕ). y ≤ a .to) (sym (x .ensures)) (fits-high (a .tree .now) (g .i) (a .to) (g .st) (a .left) T) in
+write-rows-loop-less t c = let e = c .before .before .before .before .before .before .before .before .before .before in let a = e .before .before .before .before .before .before .before .before .before .args in let g = e .before .before .before .before .loop in
+    let x = e .next in
+    let lo : g .i < x .result = turn-low t e in
+    let hi : x .result ≤ a .to = turn-high t e in
     left-falls (g .i) (x .result) (a .to) lo hi
 
 write-rows-loop-again : (t : ℕ) → write-rows-lts.Need-loop-again (write-rows-claims t) (write-rows-at t) write-rows.Post write-rows-Inv-loop write-rows-μ-loop
-write-rows-loop-again t c = let a = c .before .before .before .before .before .before .before .before .before .before .before .before .before .before .before .before .before .before .before .args in let g = c .before .before .before .before .before .before .before .before .before .before .before .before .before .before .loop in
-    let m : g .i < a .to = c .before .before .before .before .before .before .before .before .before .before .before .before .before .loop-test .taken in
-    let T = sym (c .before .before .before .before .before .before .before .before .before .before .before .before .row-fits .ensures) ∙ not-false _ (c .before .before .before .before .before .before .before .before .before .before .before .if1 .left) in
-    let x = c .before .before .before .before .before .before .before .before .before .before .next in
-    let lo : g .i < x .result = subst (λ (y : ℕ). g .i < y) (sym (x .ensures)) (fits-low (a .tree .now) (g .i) (a .to) (g .st) (a .left) T) in
-    let hi : x .result ≤ a .to = subst (λ (y : ℕ). y ≤ a .to) (sym (x .ensures)) (fits-high (a .tree .now) (g .i) (a .to) (g .st) (a .left) T) in
+write-rows-loop-again t c = let e = c .before .before .before .before .before .before .before .before .before .before in let a = e .before .before .before .before .before .before .before .before .before .args in let g = e .before .before .before .before .loop in
+    let p = e .before .before .before .before .before .before .before .before .before .pre .1 in
+    let x = e .next in
+    let lo : g .i < x .result = turn-low t e in
+    let hi : x .result ≤ a .to = turn-high t e in
     let k = c .before .before .before .before .before .before .before .before .before .kind in
-    let t = not-false _ (c .before .before .if3 .left) in
-    going-turn (a .src .now) (a .tree .now) (a .from) (a .to) (a .start) (a .left) (a .begin) (g .i) (g .st) (g .at) (g .good) (a .out .now) (g .out) (g .inv) 6 (x .result) (sym (c .before .before .before .before .before .before .before .before .if2 .taken) ∙ k .ensures) (x .ensures) (c .before .before .before .before .before .before .before .before .before .before .before .before .before .before .before .before .before .before .before .pre .1 .1) lo hi
-    (fits-row (a .tree .now) (g .i) (a .to) (g .st) (a .left) T) (sym (c .before .before .before .before .before .before .write-terms-row .ensures .lawful-is) ∙ t) _ _ _ _ (c .after .ensures ∙ ap (after (g .st)) (c .before .before .before .before .before .before .before .before .if2 .taken)) (c .before .before .before .before .before .before .write-terms-row .ensures .node t)
+    let yes = not-false _ (c .before .before .if3 .left) in
+    going-turn (a .src .now) (a .tree .now) (a .from) (a .to) (a .start) (a .left) (a .begin) (g .i) (g .st) (g .at) (g .good) (a .out .now) (g .out) (g .inv) 6 (x .result) (sym (c .before .before .before .before .before .before .before .before .if2 .taken) ∙ k .ensures) (x .ensures) (p .1) lo hi
+    (turn-row t e) (sym (c .before .before .before .before .before .before .write-terms-row .ensures .lawful-is) ∙ yes) _ _ _ _ (c .after .ensures ∙ ap (after (g .st)) (c .before .before .before .before .before .before .before .before .if2 .taken)) (c .before .before .before .before .before .before .write-terms-row .ensures .node yes)
 
 write-rows-add-first : (t : ℕ) → write-rows-lts.Need-add-first (write-rows-claims t) (write-rows-at t) write-rows.Post write-rows-Inv-loop write-rows-μ-loop
 write-rows-add-first t c = search needs
 
 write-rows-put-opening-requires : (t : ℕ) → write-rows-lts.Need-put-opening-requires (write-rows-claims t) (write-rows-at t) write-rows.Post write-rows-Inv-loop write-rows-μ-loop
-write-rows-put-opening-requires t c κs = let a = c .before .before .before .before .before .before .before .before .before .before .before .before .args in let g = c .before .before .before .before .before .before .before .loop in
-    let m : g .i < a .to = c .before .before .before .before .before .before .loop-test .taken in
-    let T = sym (c .before .before .before .before .before .row-fits .ensures) ∙ not-false _ (c .before .before .before .before .if1 .left) in
-    let x = c .before .before .before .next in
-    let lo : g .i < x .result = subst (λ (y : ℕ). g .i < y) (sym (x .ensures)) (fits-low (a .tree .now) (g .i) (a .to) (g .st) (a .left) T) in
-    let hi : x .result ≤ a .to = subst (λ (y : ℕ). y ≤ a .to) (sym (x .ensures)) (fits-high (a .tree .now) (g .i) (a .to) (g .st) (a .left) T) in
+write-rows-put-opening-requires t c κs = let e = c .before .before .before in let a = e .before .before .before .before .before .before .before .before .before .args in let g = e .before .before .before .before .loop in
+    let p = e .before .before .before .before .before .before .before .before .before .pre .1 in
+    let m : g .i < a .to = e .before .before .before .loop-test .taken in
+    let x = e .next in
+    let lo : g .i < x .result = turn-low t e in
+    let hi : x .result ≤ a .to = turn-high t e in
     let s : g .at + a .from * widest ≤ a .begin + g .i * widest = g .inv .small in
-    let b : a .begin ≤ a .from * widest = c .before .before .before .before .before .before .before .before .before .before .before .before .pre .1 .4 in
-    let few : a .to ≤ 33554432 = c .before .before .before .before .before .before .before .before .before .before .before .before .pre .1 .2 in
+    let b : a .begin ≤ a .from * widest = p .4 in
+    let few : a .to ≤ 33554432 = p .2 in
     let n : g .at ≤ 1152921504606846976 = omega (arith, s, b, few, m) in
-    (omega (arith, m, c .before .before .before .before .before .before .before .before .before .before .before .before .pre .1 .1), standing (g .st) (a .left) (rowAt (a .tree .now) (g .i)) (fits-row (a .tree .now) (g .i) (a .to) (g .st) (a .left) T), n)
+    (omega (arith, m, p .1), standing (g .st) (a .left) (rowAt (a .tree .now) (g .i)) (turn-row t e), n)
 
 write-rows-inside-requires : (t : ℕ) → write-rows-lts.Need-inside-requires (write-rows-claims t) (write-rows-at t) write-rows.Post write-rows-Inv-loop write-rows-μ-loop
 write-rows-inside-requires t c κs = search needs
@@ -156,26 +172,25 @@ write-rows-below-requires : (t : ℕ) → write-rows-lts.Need-below-requires (wr
 write-rows-below-requires t c κs = let a = c .before .before .before .before .before .before .before .before .before .before .before .before .before .before .before .before .args in let n : a .left ≤ 4294967296 = omega (arith, c .before .before .before .before .before .before .before .before .before .before .before .before .before .before .before .before .pre .1 .3) in n
 
 write-rows-write-rows-requires : (t : ℕ) → write-rows-lts.Need-write-rows-requires (write-rows-claims t) (write-rows-at t) write-rows.Post write-rows-Inv-loop write-rows-μ-loop
-write-rows-write-rows-requires t c κs = let a = c .before .before .before .before .before .before .before .before .before .before .before .before .before .before .before .before .before .before .args in let g = c .before .before .before .before .before .before .before .before .before .before .before .before .before .loop in
-    let m : g .i < a .to = c .before .before .before .before .before .before .before .before .before .before .before .before .loop-test .taken in
-    let T = sym (c .before .before .before .before .before .before .before .before .before .before .before .row-fits .ensures) ∙ not-false _ (c .before .before .before .before .before .before .before .before .before .before .if1 .left) in
-    let x = c .before .before .before .before .before .before .before .before .before .next in
-    let lo : g .i < x .result = subst (λ (y : ℕ). g .i < y) (sym (x .ensures)) (fits-low (a .tree .now) (g .i) (a .to) (g .st) (a .left) T) in
-    let hi : x .result ≤ a .to = subst (λ (y : ℕ). y ≤ a .to) (sym (x .ensures)) (fits-high (a .tree .now) (g .i) (a .to) (g .st) (a .left) T) in
+write-rows-write-rows-requires t c κs = let e = c .before .before .before .before .before .before .before .before .before in let a = e .before .before .before .before .before .before .before .before .before .args in let g = e .before .before .before .before .loop in
+    let p = e .before .before .before .before .before .before .before .before .before .pre .1 in
+    let x = e .next in
+    let lo : g .i < x .result = turn-low t e in
+    let hi : x .result ≤ a .to = turn-high t e in
     let s : g .at + a .from * widest ≤ a .begin + g .i * widest = g .inv .small in
-    let b : a .begin ≤ a .from * widest = c .before .before .before .before .before .before .before .before .before .before .before .before .before .before .before .before .before .before .pre .1 .4 in
+    let b : a .begin ≤ a .from * widest = p .4 in
     let o : c .before .before .before .before .before .put-opening .result .at ≤ g .at + 8589934710 = c .before .before .before .before .before .put-opening .ensures .1 in
-    let e = c .before .before .before .before .before .before .before .before .before .before .before .before .before .before .before .before .before .before .pre .0 in
+    let size = e .before .before .before .before .before .before .before .before .before .pre .0 in
     let f : x .result - (g .i + 1) < a .to - a .from = rows-fall (a .from) (g .i) (x .result) (a .to) (g .inv .lo) lo hi in
-    let few : a .to ≤ 33554432 = c .before .before .before .before .before .before .before .before .before .before .before .before .before .before .before .before .before .before .pre .1 .2 in
-    let long : 7 * a .to ≤ length (a .tree .now) = c .before .before .before .before .before .before .before .before .before .before .before .before .before .before .before .before .before .before .pre .1 .1 in
-    let deep : a .left + (a .to - a .from) ≤ 4294967296 = c .before .before .before .before .before .before .before .before .before .before .before .before .before .before .before .before .before .before .pre .1 .3 in
+    let few : a .to ≤ 33554432 = p .2 in
+    let long : 7 * a .to ≤ length (a .tree .now) = p .1 in
+    let deep : a .left + (a .to - a .from) ≤ 4294967296 = p .3 in
     let l1 : c .before .below .result ≤ a .left + 1 = subst (λ (y : ℕ). y ≤ a .left + 1) (sym (c .before .below .ensures)) (below-le (g .st) (c .before .before .before .before .before .before .before .before .kind .result) (a .left)) in
     let n1 : 7 * x .result ≤ length (a .tree .now) = omega (arith, hi, long) in
     let n2 : x .result ≤ 33554432 = omega (arith, hi, few) in
     let n3 : c .before .below .result + (x .result - (g .i + 1)) ≤ 4294967296 = omega (arith, l1, f, deep) in
     let n4 : c .before .before .before .before .before .put-opening .result .at ≤ (g .i + 1) * widest = omega (arith, s, b, o) in
-    (omega arith, (omega (arith, lo), n1, n2, n3, n4, c .before .before .before .before .before .before .before .before .before .before .before .before .before .before .before .before .before .before .pre .1 .5))
+    (omega arith, (omega (arith, lo), n1, n2, n3, n4, p .5))
 
 write-rows-unlawful-requires-3 : (t : ℕ) → write-rows-lts.Need-unlawful-requires-3 (write-rows-claims t) (write-rows-at t) write-rows.Post write-rows-Inv-loop write-rows-μ-loop
 write-rows-unlawful-requires-3 t c κs = search needs
@@ -184,28 +199,26 @@ write-rows-same-length-3 : (t : ℕ) → write-rows-lts.Need-same-length-3 (writ
 write-rows-same-length-3 t c = c .before .before .before .before .before .write-rows .kept .1 .1 .1 .1 .1 .1 .1 .1 .0 ∙ c .before .before .before .before .before .before .before .before .before .before .before .put-opening .kept .1 .1 .1 .1 .1 .0 ∙ c .before .before .before .before .before .before .before .before .before .before .before .before .before .before .before .before .before .before .before .loop .inv .same
 
 write-rows-returns-3 : (t : ℕ) → write-rows-lts.Need-returns-3 (write-rows-claims t) (write-rows-at t) write-rows.Post write-rows-Inv-loop write-rows-μ-loop
-write-rows-returns-3 t c = let a = c .before .before .before .before .before .before .before .before .before .before .before .before .before .before .before .before .before .before .before .before .before .before .before .before .args in let g = c .before .before .before .before .before .before .before .before .before .before .before .before .before .before .before .before .before .before .before .loop in
-    let m : g .i < a .to = c .before .before .before .before .before .before .before .before .before .before .before .before .before .before .before .before .before .before .loop-test .taken in
-    let T = sym (c .before .before .before .before .before .before .before .before .before .before .before .before .before .before .before .before .before .row-fits .ensures) ∙ not-false _ (c .before .before .before .before .before .before .before .before .before .before .before .before .before .before .before .before .if1 .left) in
-    let x = c .before .before .before .before .before .before .before .before .before .before .before .before .before .before .before .next in
-    let lo : g .i < x .result = subst (λ (y : ℕ). g .i < y) (sym (x .ensures)) (fits-low (a .tree .now) (g .i) (a .to) (g .st) (a .left) T) in
-    let hi : x .result ≤ a .to = subst (λ (y : ℕ). y ≤ a .to) (sym (x .ensures)) (fits-high (a .tree .now) (g .i) (a .to) (g .st) (a .left) T) in
+write-rows-returns-3 t c = let e = c .before .before .before .before .before .before .before .before .before .before .before .before .before .before .before in let a = e .before .before .before .before .before .before .before .before .before .args in let g = e .before .before .before .before .loop in
+    let p = e .before .before .before .before .before .before .before .before .before .pre .1 in
+    let x = e .next in
+    let lo : g .i < x .result = turn-low t e in
+    let hi : x .result ≤ a .to = turn-high t e in
     let k = c .before .before .before .before .before .before .before .before .before .before .before .before .before .before .kind in
     going-not (a .src .now) (a .tree .now) (a .from) (a .to) (a .start) (a .left) (a .begin) (g .i) (g .st) (g .at) (g .good) (a .out .now) (g .out) (g .inv) _ _ _ _ (c .unlawful3 .ensures)
-    (stop-kids (a .tree .now) (g .i) (a .to) (g .st) (a .left) (k .result) (x .result) (k .ensures) (x .ensures) (c .before .before .before .before .before .before .before .before .before .before .before .before .before .before .before .before .before .before .before .before .before .before .before .before .pre .1 .1) lo hi
+    (stop-kids (a .tree .now) (g .i) (a .to) (g .st) (a .left) (k .result) (x .result) (k .ensures) (x .ensures) (p .1) lo hi
     (kids-found (a .src .now) (a .tree .now) (g .i) (x .result) (g .st) (k .result) (a .left) _ _ _ _ _ _ _ _ (c .before .before .before .before .before .write-rows .ensures) (c .before .before .before .before .before .before .before .before .inside .ensures) (c .before .before .before .before .before .before .before .below .ensures) ∙ not-true _ (c .before .if4 .taken)))
 
 write-rows-put-closing-requires : (t : ℕ) → write-rows-lts.Need-put-closing-requires (write-rows-claims t) (write-rows-at t) write-rows.Post write-rows-Inv-loop write-rows-μ-loop
-write-rows-put-closing-requires t c κs = let a = c .before .before .before .before .before .before .before .before .before .before .before .before .before .before .before .before .before .before .before .before .before .before .before .before .args in let g = c .before .before .before .before .before .before .before .before .before .before .before .before .before .before .before .before .before .before .before .loop in
-    let m : g .i < a .to = c .before .before .before .before .before .before .before .before .before .before .before .before .before .before .before .before .before .before .loop-test .taken in
-    let T = sym (c .before .before .before .before .before .before .before .before .before .before .before .before .before .before .before .before .before .row-fits .ensures) ∙ not-false _ (c .before .before .before .before .before .before .before .before .before .before .before .before .before .before .before .before .if1 .left) in
-    let x = c .before .before .before .before .before .before .before .before .before .before .before .before .before .before .before .next in
-    let lo : g .i < x .result = subst (λ (y : ℕ). g .i < y) (sym (x .ensures)) (fits-low (a .tree .now) (g .i) (a .to) (g .st) (a .left) T) in
-    let hi : x .result ≤ a .to = subst (λ (y : ℕ). y ≤ a .to) (sym (x .ensures)) (fits-high (a .tree .now) (g .i) (a .to) (g .st) (a .left) T) in
+write-rows-put-closing-requires t c κs = let e = c .before .before .before .before .before .before .before .before .before .before .before .before .before .before .before in let a = e .before .before .before .before .before .before .before .before .before .args in let g = e .before .before .before .before .loop in
+    let p = e .before .before .before .before .before .before .before .before .before .pre .1 in
+    let x = e .next in
+    let lo : g .i < x .result = turn-low t e in
+    let hi : x .result ≤ a .to = turn-high t e in
     let s : g .at + a .from * widest ≤ a .begin + g .i * widest = g .inv .small in
-    let b : a .begin ≤ a .from * widest = c .before .before .before .before .before .before .before .before .before .before .before .before .before .before .before .before .before .before .before .before .before .before .before .before .pre .1 .4 in
+    let b : a .begin ≤ a .from * widest = p .4 in
     let o : c .before .before .before .before .before .before .before .before .before .before .before .put-opening .result .at ≤ g .at + 8589934710 = c .before .before .before .before .before .before .before .before .before .before .before .put-opening .ensures .1 in
-    let few : a .to ≤ 33554432 = c .before .before .before .before .before .before .before .before .before .before .before .before .before .before .before .before .before .before .before .before .before .before .before .before .pre .1 .2 in
+    let few : a .to ≤ 33554432 = p .2 in
     let r : c .before .before .before .before .before .write-rows .result .at + (g .i + 1) * widest ≤ c .before .before .before .before .before .before .before .before .before .before .before .put-opening .result .at + x .result * widest = c .before .before .before .before .before .write-rows .ensures .small (not-false _ (c .before .if4 .left)) in
     let z : c .before .before .before .before .before .write-rows .result .at ≤ 1152921504606846976 = omega (arith, s, b, o, few, r, hi) in
     z
@@ -214,30 +227,27 @@ write-rows-after-requires-2 : (t : ℕ) → write-rows-lts.Need-after-requires-2
 write-rows-after-requires-2 t c κs = search needs
 
 write-rows-loop-less-2 : (t : ℕ) → write-rows-lts.Need-loop-less-2 (write-rows-claims t) (write-rows-at t) write-rows.Post write-rows-Inv-loop write-rows-μ-loop
-write-rows-loop-less-2 t c = let a = c .before .before .before .before .before .before .before .before .before .before .before .before .before .before .before .before .before .before .before .before .before .before .before .before .before .before .before .before .before .before .args in let g = c .before .before .before .before .before .before .before .before .before .before .before .before .before .before .before .before .before .before .before .before .before .before .before .before .before .loop in
-    let m : g .i < a .to = c .before .before .before .before .before .before .before .before .before .before .before .before .before .before .before .before .before .before .before .before .before .before .before .before .loop-test .taken in
-    let T = sym (c .before .before .before .before .before .before .before .before .before .before .before .before .before .before .before .before .before .before .before .before .before .before .before .row-fits .ensures) ∙ not-false _ (c .before .before .before .before .before .before .before .before .before .before .before .before .before .before .before .before .before .before .before .before .before .before .if1 .left) in
-    let x = c .before .before .before .before .before .before .before .before .before .before .before .before .before .before .before .before .before .before .before .before .before .next in
-    let lo : g .i < x .result = subst (λ (y : ℕ). g .i < y) (sym (x .ensures)) (fits-low (a .tree .now) (g .i) (a .to) (g .st) (a .left) T) in
-    let hi : x .result ≤ a .to = subst (λ (y : ℕ). y ≤ a .to) (sym (x .ensures)) (fits-high (a .tree .now) (g .i) (a .to) (g .st) (a .left) T) in
+write-rows-loop-less-2 t c = let e = c .before .before .before .before .before .before .before .before .before .before .before .before .before .before .before .before .before .before .before .before .before in let a = e .before .before .before .before .before .before .before .before .before .args in let g = e .before .before .before .before .loop in
+    let x = e .next in
+    let lo : g .i < x .result = turn-low t e in
+    let hi : x .result ≤ a .to = turn-high t e in
     left-falls (g .i) (x .result) (a .to) lo hi
 
 write-rows-loop-again-2 : (t : ℕ) → write-rows-lts.Need-loop-again-2 (write-rows-claims t) (write-rows-at t) write-rows.Post write-rows-Inv-loop write-rows-μ-loop
-write-rows-loop-again-2 t c = let a = c .before .before .before .before .before .before .before .before .before .before .before .before .before .before .before .before .before .before .before .before .before .before .before .before .before .before .before .before .before .before .args in let g = c .before .before .before .before .before .before .before .before .before .before .before .before .before .before .before .before .before .before .before .before .before .before .before .before .before .loop in
-    let m : g .i < a .to = c .before .before .before .before .before .before .before .before .before .before .before .before .before .before .before .before .before .before .before .before .before .before .before .before .loop-test .taken in
-    let T = sym (c .before .before .before .before .before .before .before .before .before .before .before .before .before .before .before .before .before .before .before .before .before .before .before .row-fits .ensures) ∙ not-false _ (c .before .before .before .before .before .before .before .before .before .before .before .before .before .before .before .before .before .before .before .before .before .before .if1 .left) in
-    let x = c .before .before .before .before .before .before .before .before .before .before .before .before .before .before .before .before .before .before .before .before .before .next in
-    let lo : g .i < x .result = subst (λ (y : ℕ). g .i < y) (sym (x .ensures)) (fits-low (a .tree .now) (g .i) (a .to) (g .st) (a .left) T) in
-    let hi : x .result ≤ a .to = subst (λ (y : ℕ). y ≤ a .to) (sym (x .ensures)) (fits-high (a .tree .now) (g .i) (a .to) (g .st) (a .left) T) in
+write-rows-loop-again-2 t c = let e = c .before .before .before .before .before .before .before .before .before .before .before .before .before .before .before .before .before .before .before .before .before in let a = e .before .before .before .before .before .before .before .before .before .args in let g = e .before .before .before .before .loop in
+    let p = e .before .before .before .before .before .before .before .before .before .pre .1 in
+    let x = e .next in
+    let lo : g .i < x .result = turn-low t e in
+    let hi : x .result ≤ a .to = turn-high t e in
     let k = c .before .before .before .before .before .before .before .before .before .before .before .before .before .before .before .before .before .before .before .before .kind in
-    let long : 7 * x .result ≤ length (a .tree .now) = omega (arith, hi, c .before .before .before .before .before .before .before .before .before .before .before .before .before .before .before .before .before .before .before .before .before .before .before .before .before .before .before .before .before .before .pre .1 .1) in
-    let t = not-false _ (c .before .before .before .before .before .before .before .if4 .left) in
-    going-turn (a .src .now) (a .tree .now) (a .from) (a .to) (a .start) (a .left) (a .begin) (g .i) (g .st) (g .at) (g .good) (a .out .now) (g .out) (g .inv) (k .result) (x .result) (k .ensures) (x .ensures) (c .before .before .before .before .before .before .before .before .before .before .before .before .before .before .before .before .before .before .before .before .before .before .before .before .before .before .before .before .before .before .pre .1 .1) lo hi
-    (fits-row (a .tree .now) (g .i) (a .to) (g .st) (a .left) T)
-    (kids-found (a .src .now) (a .tree .now) (g .i) (x .result) (g .st) (k .result) (a .left) _ _ _ _ _ _ _ _ (c .before .before .before .before .before .before .before .before .before .before .before .write-rows .ensures) (c .before .before .before .before .before .before .before .before .before .before .before .before .before .before .inside .ensures) (c .before .before .before .before .before .before .before .before .before .before .before .before .before .below .ensures) ∙ t) _ _ _ _ (c .after2 .ensures)
+    let long : 7 * x .result ≤ length (a .tree .now) = omega (arith, hi, p .1) in
+    let yes = not-false _ (c .before .before .before .before .before .before .before .if4 .left) in
+    going-turn (a .src .now) (a .tree .now) (a .from) (a .to) (a .start) (a .left) (a .begin) (g .i) (g .st) (g .at) (g .good) (a .out .now) (g .out) (g .inv) (k .result) (x .result) (k .ensures) (x .ensures) (p .1) lo hi
+    (turn-row t e)
+    (kids-found (a .src .now) (a .tree .now) (g .i) (x .result) (g .st) (k .result) (a .left) _ _ _ _ _ _ _ _ (c .before .before .before .before .before .before .before .before .before .before .before .write-rows .ensures) (c .before .before .before .before .before .before .before .before .before .before .before .before .before .before .inside .ensures) (c .before .before .before .before .before .before .before .before .before .before .before .before .before .below .ensures) ∙ yes) _ _ _ _ (c .after2 .ensures)
     (node-whole (a .src .now) (a .tree .now) (g .i) (x .result) (g .st) (k .result) (a .left) lo long (g .at) _ _ _ _ _ _ _ _ _ _ _ _
     (c .before .before .before .before .before .before .before .before .before .before .before .before .before .before .before .before .before .put-opening .ensures .0) (c .before .before .before .before .before .before .before .before .before .before .before .before .before .before .before .before .before .put-opening .kept .1 .1 .1 .1 .1 .0) (c .before .before .before .before .before .before .before .before .before .before .before .before .before .before .before .before .before .put-opening .ensures .1) (c .before .before .before .before .before .before .before .before .before .before .before .before .before .before .before .before .before .put-opening .ensures .2)
-    (c .before .before .before .before .before .before .before .before .before .before .before .before .before .before .inside .ensures) (c .before .before .before .before .before .before .before .before .before .before .before .before .before .below .ensures) (c .before .before .before .before .before .before .before .before .before .before .before .write-rows .ensures) (c .before .before .before .before .before .before .before .before .before .before .before .write-rows .kept .1 .1 .1 .1 .1 .1 .1 .1 .0) t
+    (c .before .before .before .before .before .before .before .before .before .before .before .before .before .before .inside .ensures) (c .before .before .before .before .before .before .before .before .before .before .before .before .before .below .ensures) (c .before .before .before .before .before .before .before .before .before .before .before .write-rows .ensures) (c .before .before .before .before .before .before .before .before .before .before .before .write-rows .kept .1 .1 .1 .1 .1 .1 .1 .1 .0) yes
     (c .before .before .before .before .before .put-closing .ensures .0) (c .before .before .before .before .before .put-closing .kept .1 .1 .1 .1 .0) (c .before .before .before .before .before .put-closing .ensures .1))
 
 write-rows-ends-requires : (t : ℕ) → write-rows-lts.Need-ends-requires (write-rows-claims t) (write-rows-at t) write-rows.Post write-rows-Inv-loop write-rows-μ-loop
