@@ -17,6 +17,9 @@ pub fn cases() -> Vec<Case> {
             put(&mut cases, &mut rng, src);
         }
     }
+    for src in comments() {
+        put(&mut cases, &mut rng, src);
+    }
     cases
 }
 
@@ -318,6 +321,19 @@ fn long_texts() -> Vec<String> {
     texts.push(format!("'{}''", "a".repeat(255)));
     texts.push(format!("'{}'", "ab".repeat(200)));
     texts
+}
+
+/// Block comments of every length up to 70, of bytes that are parts of a comment's end and of others, closed and not.
+fn comments() -> Vec<Vec<u8>> {
+    let mut sources = Vec::new();
+    for length in 0..=70 {
+        for fill in ["*", "/", "a", "* ", "/*"] {
+            let body = &fill.repeat(length)[..length];
+            sources.push(format!("/*{body}*/A").into_bytes());
+        }
+        sources.push(format!("/*{}*", "/".repeat(length)).into_bytes());
+    }
+    sources
 }
 
 /// Truncated, overlong, surrogate, too large, and bytes that start nothing.
