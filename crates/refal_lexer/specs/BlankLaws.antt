@@ -1,6 +1,7 @@
 -- Laws of white space and comments: the ways out of their scans.
 use Prim.Native.Nat.{ℕ, suc, _+_, _<_, _≤_}
-use borrow.Author.Tests.{eq-eqb, ne-eqb}
+use borrow.Author.Tests.{eq-eqb, ne-eqb, not-true}
+use Rattle.refal_rows.specs.Tests.{and-left, and-right}
 use native.Mathlib.Decide.{decLe}
 use native.Mathlib.Nat.{add-zero}
 use native.Mathlib.Numerals.{add-one}
@@ -51,6 +52,31 @@ module _ (s : List ℕ) (star : Bool) (i : ℕ) where
   pub close-step : i < length s → star && eqb (getD s i 0) 47 ≡ false → closeFrom (eqb (getD s i 0) 42) (i + 1) (drop (i + 1) s) ≡ closeFrom star i (drop i s)
   unfolding closeFrom
   close-step h e = rw (drop-cons s i 0 h, e, add-one i)
+
+-- a byte at which no comment's end begins can be left out
+close-body : (s : List ℕ) (i : ℕ) → i + 1 < length s → eqb (getD s i 0) 42 && eqb (getD s (i + 1) 0) 47 ≡ false
+    → closeFrom false (i + 1) (drop (i + 1) s) ≡ closeFrom false i (drop i s)
+close-body s i h e = go (eqb (getD s i 0) 42) refl
+  where
+    go : (t : Bool) → eqb (getD s i 0) 42 ≡ t → closeFrom false (i + 1) (drop (i + 1) s) ≡ closeFrom false i (drop i s)
+    go false z = sym (ap (λ (t : Bool). closeFrom t (i + 1) (drop (i + 1) s)) z) ∙ close-step s false i (omega arith) refl
+    go true z =
+        sym (close-step s false (i + 1) h refl)
+        ∙ close-step s true (i + 1) h (sym (ap (λ (t : Bool). t && eqb (getD s (i + 1) 0) 47) z) ∙ e)
+        ∙ sym (ap (λ (t : Bool). closeFrom t (i + 1) (drop (i + 1) s)) z)
+        ∙ close-step s false i (omega arith) refl
+
+-- j bytes were left out where `body` says so, and the next is one more
+pub body-turn : (s : List ℕ) (i j : ℕ) (body : Bool) → i + j + 1 < length s
+    → (body ≡ true → closeFrom false (i + j) (drop (i + j) s) ≡ closeFrom false i (drop i s))
+    → body && not (eqb (getD s (i + j) 0) 42 && eqb (getD s (i + j + 1) 0) 47) ≡ true
+    → closeFrom false (i + (j + 1)) (drop (i + (j + 1)) s) ≡ closeFrom false i (drop i s)
+body-turn s i j body h I e =
+    let closes : Bool = eqb (getD s (i + j) 0) 42 && eqb (getD s (i + j + 1) 0) 47 in
+    let x : i + (j + 1) ≡ i + j + 1 = omega arith in
+    ap (λ (k : ℕ). closeFrom false k (drop k s)) x
+    ∙ close-body s (i + j) h (not-true closes (and-right body (not closes) e))
+    ∙ I (and-left body (not closes) e)
 
 -- ---- a slash
 module _ (s : List ℕ) (at x : ℕ) (e : x ≡ getD s (at + 1) 0) where

@@ -1,6 +1,6 @@
 // White space and comments.
 ghost use mathlib.Core.Path.{_≡_};
-ghost use mathlib.Core.Bool.{false};
+ghost use mathlib.Core.Bool.{true, false};
 ghost use Prim.Native.Nat.{_+_, _≤_, _<_};
 ghost use lib.ListN.{length, drop};
 ghost use Rattle.refal_text.specs.Pick.{pick};
@@ -144,12 +144,45 @@ pub fn star_at(src: &[u8], at: usize, line: bool) -> Scan
     }
 }
 
+// Whether no comment's end begins at any of the 32 bytes from i on: there the rest of the comment is the same as here.
+fn is_body(src: &[u8], i: usize) -> bool
+    requires { ⌜ i + 33 ≤ length (now src) ⌝ }
+    ensures { λ r. ⌜ (r ≡ true → closeFrom false (i + 32) (drop (i + 32) (now (src .entry))) ≡ closeFrom false i (drop i (now (src .entry)))) ⌝ }
+{
+    let mut body = true;
+    let mut j = 0;
+    while j < 32 {
+        let p = i + j;
+        let next = p + 1;
+        let closes = (src[p] == 42) & (src[next] == 47);
+        body = body & !closes;
+        j += 1;
+    }
+    body
+}
+
+// Past the bytes of a comment from `at` on, 32 at a time: the rest of it is the same there.
+fn body_end(src: &[u8], at: usize) -> usize
+    requires { ⌜ at ≤ length (now src) ⌝ }
+    ensures { λ r. ⌜ (closeFrom false r (drop r (now (src .entry))) ≡ closeFrom false at (drop at (now (src .entry)))) × (at ≤ r) × (r ≤ length (now (src .entry))) ⌝ }
+{
+    let mut i = at;
+    while 33 <= src.len() - i {
+        if !is_body(src, i) {
+            return i;
+        }
+        i += 32;
+    }
+    i
+}
+
 // The end of the block comment that starts at `at`.
 fn close_from(src: &[u8], at: usize) -> Scan
     requires { ⌜ at + 2 ≤ length (now src) ⌝ }
     ensures { λ r. ⌜ (r ≡ closeFrom false (at + 2) (drop (at + 2) (now (src .entry)))) × Within at (length (now (src .entry))) r ⌝ }
 {
-    let mut i = at + 2;
+    let first = at + 2;
+    let mut i = body_end(src, first);
     let mut star = false;
     while i < src.len() {
         let b = src[i];

@@ -1,7 +1,7 @@
--- `refal_lexer::blank::close_from` meets its contract: a body's byte closes or goes on.
+-- `refal_lexer::blank::close_from` meets its contract: 32 bytes at a time first, then a body's byte closes or goes on.
 use Prim.Native.Nat.{_+_, _-_, _≤_}
 use native.Mathlib.Omega.{arith}
-use mathlib.Core.Path.{_≡_, refl, _∙_}
+use mathlib.Core.Path.{_≡_, _∙_}
 use lib.ListN.{length, drop}
 use mathlib.Core.Bool.{false}
 use Rattle.refal_lexer.specs.Blanks.{closeFrom}
@@ -11,40 +11,35 @@ use Rattle.refal_lexer.proofs.blank.close_from.Statement.{statement}
 use Rattle.refal_lexer.proofs.blank.close_from.Tie as tie
 
 abbrev Inv-loop : tie.InvT-loop
-Inv-loop src at i₀ star₀ i star = (at + 2 ≤ i) × (i ≤ length src) × (closeFrom star i (drop i src) ≡ closeFrom false (at + 2) (drop (at + 2) src))
+Inv-loop src at first i₀ star₀ i star = (at + 2 ≤ i) × (i ≤ length src) × (closeFrom star i (drop i src) ≡ closeFrom false (at + 2) (drop (at + 2) src))
 
 abbrev μ-loop : tie.MeasureT-loop
-μ-loop src at i₀ star₀ i star = length src - i
+μ-loop src at first i₀ star₀ i star = length src - i
 
--- src/blank.rt:104:17
-add-i : tie.Need-add-i Inv-loop μ-loop
-add-i c = search needs
+add-first : tie.Need-add-first Inv-loop μ-loop
+add-first c = search needs
 
--- src/blank.rt:106:5
+body-end-requires : tie.Need-body-end-requires Inv-loop μ-loop
+body-end-requires c κs = search needs
+
 loop-holds : tie.Need-loop-holds Inv-loop μ-loop
-loop-holds c = (omega arith, omega arith, refl)
+loop-holds c = let E = c .body-end .ensures in (E .1, E .2, E .0)
 
--- src/blank.rt:107:17
 shared-slice-read-b : tie.Need-shared-slice-read-b Inv-loop μ-loop
 shared-slice-read-b c = search needs
 
--- src/blank.rt:108:19
 add-end : tie.Need-add-end Inv-loop μ-loop
 add-end c = search needs
 
--- src/blank.rt:111:13
 returns : tie.Need-returns Inv-loop μ-loop
 returns c = (close-stop _ _ _ (c .before .before .loop-test .taken) (c .if1 .taken) ∙ c .before .before .before .loop .inv .2, omega arith)
 
--- src/blank.rt:106:5
 loop-less : tie.Need-loop-less Inv-loop μ-loop
 loop-less c = search needs
 
--- src/blank.rt:106:5
 loop-again : tie.Need-loop-again Inv-loop μ-loop
 loop-again c = (omega arith, omega arith, close-step _ _ _ (c .before .before .loop-test .taken) (c .if1 .left) ∙ c .before .before .before .loop .inv .2)
 
--- src/blank.rt:100:1
 returns-2 : tie.Need-returns-2 Inv-loop μ-loop
 returns-2 c = (close-end _ _ _ (c .loop-test .left) ∙ c .before .loop .inv .2, omega arith)
 
@@ -54,7 +49,8 @@ close-from-spec =
     (tie.spec
     Inv-loop
     μ-loop
-    add-i
+    add-first
+    body-end-requires
     loop-holds
     shared-slice-read-b
     add-end
