@@ -9,7 +9,8 @@ use lib.ListN.{length, take, drop, getD}
 use lib.Seq.{getD-drop, drop-cons}
 use borrow.Author.Tests.{eqb-true, leb-true}
 use Rattle.refal_rows.specs.Tests.{and-left, and-right, range-lo, range-hi}
-use Rattle.refal_ast.specs.Kinds.{nodeIdentifier, nodeVariable}
+use Rattle.refal_ast.specs.Check.{pickBool}
+use Rattle.refal_ast.specs.Kinds.{tokNumber, nodeIdentifier, nodeNumber, nodeVariable}
 use Rattle.refal_tree.specs.Forest.{row}
 use Rattle.refal_tree.specs.Rules.{letter}
 use Rattle.refal_tree.specs.States.{atTerms}
@@ -18,11 +19,13 @@ use Rattle.refal_tree.specs.Leaves.{leafOk, leafAt}
 use Rattle.refal_tree.specs.FlattenRows.{opening}
 use Rattle.refal_lexer.specs.Classes.{upper, digit, nameByte}
 use Rattle.refal_writer.specs.Adds.{Adds, adds-as, adds-end, adds-ahead, adds-pair}
-use Rattle.refal_writer.specs.Going.{Going, going-leaf}
+use Rattle.refal_writer.specs.Going.{Going, going-leaf, going-start}
 use Rattle.refal_writer.specs.SpelledRows.{spelledRow}
+use Rattle.refal_spelling.specs.Spells.{spells}
 use Rattle.refal_writer.specs.Spellings.{rowSpelled}
-use Rattle.refal_writer.specs.Token.{textOf, name-text, variable-text}
-use Rattle.refal_writer.specs.Windows.{AllNames, Word, word-spelled}
+use Rattle.refal_writer.specs.SpellingLaws.{row-number, text-number}
+use Rattle.refal_writer.specs.Token.{textOf, name-text, number-text, variable-text}
+use Rattle.refal_writer.specs.Windows.{AllNames, Word, word-spelled, ahead, ahead-few}
 
 -- row i is a leaf, is spelled as reading gives it, and its m bytes stand from the place `at` on, where there was room for them
 pub record Took (src w : List ℕ) (i at m : ℕ) (o o′ : List ℕ) : Type 0 where
@@ -42,6 +45,12 @@ pub took-turn : (src w : List ℕ) (from to left b i at m : ℕ) (o₀ o o′ : 
 took-turn src w from to left b i at m o₀ o o′ G T same long more few =
     going-leaf src w from to atTerms left b i atTerms at true o₀ o G refl (T .leaf) long more (at + m) true o′ (T .text) same (omega arith) (sym (T .spelled))
 
+-- a walk that begins with it
+pub took-first : (src w : List ℕ) (to left i at m : ℕ) (o o′ : List ℕ) → Took src w i at m o o′ → length o′ ≡ length o → 7 * to ≤ length w → i < to → m ≤ 18
+    → Going src w i to atTerms left at (i + 1) atTerms (at + m) true o o′
+took-first src w to left i at m o o′ T same long more few =
+    took-turn src w i to left at i at m o o o′ (going-start src w i to atTerms left at o (omega arith)) T same long more few
+
 -- the same bytes, written otherwise
 pub going-same : (src w : List ℕ) (from to left b i at : ℕ) (o₀ o o′ : List ℕ) → o′ ≡ o → Going src w from to atTerms left b i atTerms at true o₀ o
     → Going src w from to atTerms left b i atTerms at true o₀ o′
@@ -57,6 +66,24 @@ pub starts-is : (n at room : ℕ) → (leb 1 n && leb n 15) && leb at room ≡ t
 starts-is n at room h =
     let r : leb 1 n && leb n 15 ≡ true = and-left (leb 1 n && leb n 15) (leb at room) h in
     record { some = range-lo 1 n 15 r; few = range-hi 1 n 15 r; inside = leb-true at room (and-right (leb 1 n && leb n 15) (leb at room) h) }
+
+-- ---- the tests before a text is put alone: one to fifteen bytes, which end within the source, and room
+pub record Short (n end bytes free : ℕ) : Type 0 where
+  pub some : 1 ≤ n
+  pub few : n ≤ 15
+  pub inside : end ≤ bytes
+  pub room : 16 ≤ free
+
+pub short-is : (n end bytes free : ℕ) → (leb 1 n && leb n 15) && (leb end bytes && leb 16 free) ≡ true → Short n end bytes free
+short-is n end bytes free h =
+    let r : leb 1 n && leb n 15 ≡ true = and-left (leb 1 n && leb n 15) (leb end bytes && leb 16 free) h in
+    let q : leb end bytes && leb 16 free ≡ true = and-right (leb 1 n && leb n 15) (leb end bytes && leb 16 free) h in
+    record {
+      some = range-lo 1 n 15 r;
+      few = range-hi 1 n 15 r;
+      inside = leb-true end bytes (and-left (leb end bytes) (leb 16 free) q);
+      room = leb-true 16 free (and-right (leb end bytes) (leb 16 free) q);
+    }
 
 -- ---- rows that are alike: of the kind k and with a text of n bytes, which stands in a source of so many bytes with more behind it
 abbrev pub alikeAt : List ℕ → ℕ → ℕ → ℕ → ℕ → Bool
@@ -114,6 +141,20 @@ module _ (src : List ℕ) (k d x s l n : ℕ) (start : s ≡ x) (size : l ≡ n)
       ∙ variable-text 4 d (take l (drop x src)) refl
       ∙ sym (ap (λ (y : ℕ). textOf src (opening atTerms (row y d x l a b))) e)
 
+  number-opens : (a b : ℕ) → k ≡ nodeNumber → take n (drop s src) ++ 32 ∷ [] ≡ textOf src (opening atTerms (row k d x l a b))
+  number-opens a b e =
+      ap (λ (y : List ℕ). y ++ 32 ∷ []) text-same
+      ∙ number-text 5 0 (take l (drop x src)) refl
+      ∙ sym (ap (λ (y : ℕ). textOf src (opening atTerms (row y d x l a b))) e)
+
+  number-good : k ≡ nodeNumber → s + n ≤ length src → spells tokNumber (take (s + n - s) (drop s src)) ≡ true → rowSpelled src k d x l ≡ true
+  number-good e within h =
+      ap (λ (y : ℕ). rowSpelled src k d y l) (sym start)
+      ∙ ap (rowSpelled src k d s) size
+      ∙ sym (row-number src k s n d e)
+      ∙ sym (text-number src nodeNumber s n within refl)
+      ∙ h
+
   words-good : (m : ℕ) → k ≡ m → s + n ≤ length src → Word (drop s src) m n → rowSpelled src k d x l ≡ true
   words-good m e within W =
       ap (λ (y : ℕ). rowSpelled src y d x l) e
@@ -135,6 +176,18 @@ letter-byte d h = go (eqb d 115) (eqb d 116) refl refl h
     go true b e f g = let z : d ≡ 115 = eqb-true d 115 e in omega arith
     go false true e f g = let z : d ≡ 116 = eqb-true d 116 f in omega arith
     go false false e f g = let z : d ≡ 101 = eqb-true d 101 g in omega arith
+
+-- ---- a name has no detail, a variable's is its letter; of other kinds none is taken
+abbrev pub ownDetail : ℕ → ℕ → Bool
+ownDetail k d = pickBool (eqb k nodeVariable) (letter d) (eqb k nodeIdentifier && eqb d 0)
+
+own-cases : (P : Type 0) (k d : ℕ) → (k ≡ nodeVariable → letter d ≡ true → P) → (k ≡ nodeIdentifier → eqb d 0 ≡ true → P) → ownDetail k d ≡ true → P
+own-cases P k d variable name = go (eqb k nodeVariable) refl
+  where
+    go : (t : Bool) → eqb k nodeVariable ≡ t → pickBool t (letter d) (eqb k nodeIdentifier && eqb d 0) ≡ true → P
+    go true e h = variable (eqb-true k nodeVariable e) h
+    go false e h =
+        name (eqb-true k nodeIdentifier (and-left (eqb k nodeIdentifier) (eqb d 0) h)) (and-right (eqb k nodeIdentifier) (eqb d 0) h)
 
 -- ---- a name of one letter
 one-name : (b : ℕ) → upper b ≡ true → nameByte b ≡ true
@@ -205,4 +258,60 @@ module _ (src w : List ℕ) (i s n at : ℕ) (start : s ≡ getD w (7 * i + 2) 0
             (ap (λ (y : ℕ). y ∷ 46 ∷ bs) (byte ∙ letter-byte d own)
             ∙ variable-opens src k d x s l n start (A .size) (getD w (7 * i + 4) 0) (getD w (7 * i + 5) 0) (A .kind))
             (subst (λ (r : ℕ). Adds (c ∷ 46 ∷ bs) at r o o′) e (adds-ahead bs o o₁ o′ c 46 at (at + 2 + n + 1) p same (omega arith) q));
+      }
+
+-- ---- a row that is put alone
+module _ (src w : List ℕ) (i s n at : ℕ) (start : s ≡ getD w (7 * i + 2) 0) (o o′ : List ℕ) where
+  abbrev own : ℕ
+  own = getD w (7 * i + 1) 0
+
+  -- a name or a variable: the first bytes of c and a point, the text and a space, put at once
+  module _ (k f c : ℕ) (t : List ℕ) (A : Alike w i k n (length src)) (D : ownDetail k own ≡ true) (ef : f ≡ ahead k) (ec : c ≡ own % 256) (et : t ≡ drop s src) where
+    word-opens : (take f (c ∷ 46 ∷ []) ++ take n t) ++ 32 ∷ [] ≡ textOf src (opening atTerms (rowAt w i))
+    word-opens =
+        ap (λ (g : ℕ). (take g (c ∷ 46 ∷ []) ++ take n t) ++ 32 ∷ []) ef
+        ∙ ap (λ (y : List ℕ). (take (ahead k) (c ∷ 46 ∷ []) ++ take n y) ++ 32 ∷ []) et
+        ∙ own-cases ((take (ahead k) (c ∷ 46 ∷ []) ++ take n (drop s src)) ++ 32 ∷ [] ≡ textOf src (opening atTerms (rowAt w i))) k own
+        (λ e z.
+        ap (λ (y : ℕ). (take (ahead y) (c ∷ 46 ∷ []) ++ take n (drop s src)) ++ 32 ∷ []) e
+        ∙ ap (λ (y : ℕ). y ∷ 46 ∷ (take n (drop s src) ++ 32 ∷ [])) (ec ∙ letter-byte own z)
+        ∙ variable-opens src (getD w (7 * i) 0) own (getD w (7 * i + 2) 0) s (getD w (7 * i + 3) 0) n start (A .size) (getD w (7 * i + 4) 0) (getD w (7 * i + 5) 0) (A .kind ∙ e))
+        (λ e z.
+        ap (λ (y : ℕ). (take (ahead y) (c ∷ 46 ∷ []) ++ take n (drop s src)) ++ 32 ∷ []) e
+        ∙ name-opens src (getD w (7 * i) 0) own (getD w (7 * i + 2) 0) s (getD w (7 * i + 3) 0) n start (A .size) (getD w (7 * i + 4) 0) (getD w (7 * i + 5) 0) (A .kind ∙ e)) D
+
+    word-leaf : leafOk (getD w (7 * i) 0) own (getD w (7 * i + 2) 0) (getD w (7 * i + 3) 0) ≡ true
+    word-leaf =
+        own-cases (leafOk (getD w (7 * i) 0) own (getD w (7 * i + 2) 0) (getD w (7 * i + 3) 0) ≡ true) k own
+        (λ e z. variable-leaf (getD w (7 * i) 0) own (getD w (7 * i + 2) 0) (getD w (7 * i + 3) 0) (A .kind ∙ e) z)
+        (λ e z. name-leaf (getD w (7 * i) 0) own (getD w (7 * i + 2) 0) (getD w (7 * i + 3) 0) (A .kind ∙ e) z) D
+
+    pub took-word : (r : ℕ) → Word (drop s src) k n → at ≤ length o → 19 ≤ length o - at → r ≡ f + n + 1
+        → Adds ((take f (c ∷ 46 ∷ []) ++ take n t) ++ 32 ∷ []) at (at + r) o o′ → Took src w i at (ahead k + (n + 1)) o o′
+    took-word r W inside room er p =
+        let e : at + r ≡ at + (ahead k + (n + 1)) = omega (arith, ef) in
+        let near = A .near in
+        let few = W .few in
+        let lead = ahead-few k in
+        record {
+          leaf = ap (λ (b : Bool). b && eqb (getD w (7 * i + 6) 0) (i + 1)) word-leaf ∙ A .next;
+          spelled = words-good src (getD w (7 * i) 0) own (getD w (7 * i + 2) 0) s (getD w (7 * i + 3) 0) n start (A .size) k (A .kind) (omega arith) W;
+          room = omega arith;
+          text = adds-as ((take f (c ∷ 46 ∷ []) ++ take n t) ++ 32 ∷ []) (textOf src (opening atTerms (rowAt w i))) word-opens (adds-end e p);
+        }
+
+  -- a number: its text and a space
+  pub took-number : n ≡ getD w (7 * i + 3) 0 → getD w (7 * i) 0 ≡ nodeNumber → leafAt w i ≡ true → s + n ≤ length src
+      → spells tokNumber (take (s + n - s) (drop s src)) ≡ true → at + n + 1 ≤ length o
+      → Adds (take n (drop s src) ++ 32 ∷ []) at (at + n + 1) o o′ → Took src w i at (getD w (7 * i + 3) 0 + 1) o o′
+  took-number size kind leaf within good room p =
+      let e : at + n + 1 ≡ at + (getD w (7 * i + 3) 0 + 1) = omega (arith, size) in
+      record {
+        leaf = leaf;
+        spelled = number-good src (getD w (7 * i) 0) own (getD w (7 * i + 2) 0) s (getD w (7 * i + 3) 0) n start (sym size) kind within good;
+        room = omega (arith, size);
+        text =
+            adds-as (take n (drop s src) ++ 32 ∷ []) (textOf src (opening atTerms (rowAt w i)))
+            (number-opens src (getD w (7 * i) 0) own (getD w (7 * i + 2) 0) s (getD w (7 * i + 3) 0) n start (sym size) (getD w (7 * i + 4) 0) (getD w (7 * i + 5) 0) kind)
+            (adds-end e p);
       }

@@ -215,18 +215,6 @@ module _ (w : List ℕ) (i : ℕ) (room : 7 * i + 6 < length w) (h : leafAt w i 
   pub leaf-stands : Standing (kindAt w i) (getD w (7 * i + 1) 0)
   leaf-stands = standing atTerms 0 (rowAt w i) (leaf-row w i (i + 1) (omega arith) (omega arith) h 0)
 
-  pub leaf-low : 9 ≤ kindAt w i
-  leaf-low = go (kindAt w i) leaf-kind
-    where
-      go : (n : ℕ) → LeafKind n → 9 ≤ n
-      go _ leaf9 = omega arith
-      go _ leaf10 = omega arith
-      go _ leaf11 = omega arith
-      go _ leaf12 = omega arith
-
-  pub leaf-high : kindAt w i ≤ 12
-  leaf-high = leb-true (kindAt w i) 12 (low-leaf (kindAt w i) leaf-kind)
-
 -- ---- the mark after the terms of a bracket or a call
 pub node-closing : (src : List ℕ) (k : ℕ) → NodeKind k → textOf src (closing atTerms k) ≡ closingMark k ∷ 32 ∷ []
 unfolding spelling text

@@ -1,9 +1,9 @@
 -- Sixteen bytes at a time: a table of sixteen times yes and sixteen times no, and of the bytes of names; a copy by it, and words whose bytes
 -- were tested by it.
-use Prim.Native.Nat.{ℕ, suc, _+_, _-_, _%_, _<_, _≤_}
+use Prim.Native.Nat.{ℕ, suc, _+_, _-_, _<_, _≤_}
 use native.Mathlib.Omega.{arith}
 use native.Mathlib.Decide.{decLe}
-use borrow.Author.Tests.{not-true, lt-ltb, le-ltb, le-leb, eq-eqb, eqb-true, eqb-false, leb-true}
+use borrow.Author.Tests.{not-true, lt-ltb, le-ltb, le-leb, eq-eqb, eqb-true, eqb-false}
 use mathlib.Core.Bool.{Bool, true, false, not, _&&_, _||_, true≢false}
 use mathlib.Core.List.{List, [], _∷_, _++_, append-assoc}
 use mathlib.Core.Path.{_≡_, refl, ap, sym, subst, _∙_}
@@ -19,13 +19,13 @@ use Rattle.refal_ast.specs.Flatten.{mark, nameOf}
 use Rattle.refal_tree.specs.Rules.{usesText}
 use Rattle.refal_tree.specs.Forest.{row}
 use Rattle.refal_tree.specs.FlattenRows.{opening}
-use Rattle.refal_spelling.specs.Spell.{quoted, dotted, textAt}
+use Rattle.refal_spelling.specs.Spell.{quoted, textAt}
 use Rattle.refal_lexer.specs.Classes.{nameByte, upper}
 use Rattle.refal_spelling.specs.Spells.{spells, spellsIndex}
 use Rattle.refal_writer.specs.Puts.{Puts, two-set, set-behind, lent-rest, back-rest}
 use Rattle.refal_writer.specs.Spellings.{textSpelled, rowSpelled}
 use Rattle.refal_writer.specs.SpellingLaws.{text-index, text-name, row-text, row-plain}
-use Rattle.refal_writer.specs.Token.{Mark, textOf, text-of-append, name-text, number-text, variable-text, char-text, mark-text}
+use Rattle.refal_writer.specs.Token.{Mark, textOf, text-of-append, name-text, char-text, mark-text}
 use Rattle.refal_writer.specs.WordLaws.{index-same, name-same}
 
 -- ---- the table
@@ -289,18 +289,6 @@ ahead-few kind = go (eqb kind 12)
     go true = omega arith
     go false = omega arith
 
--- the leaves that are written with a word: Identifier, Variable
-data WordKind : ℕ → Type 0 where
-  word9 : WordKind 9
-  word12 : WordKind 12
-
-word-kind : (k : ℕ) → 9 ≤ k → k ≤ 12 → (k ≡ 10 → ⊥) → (k ≡ 11 → ⊥) → WordKind k
-word-kind k l h n m = go (decLe k 9)
-  where
-    go : Dec (k ≤ 9) → WordKind k
-    go (yes a) = let e : 9 ≡ k = omega arith in subst WordKind e word9
-    go (no a) = let e : 12 ≡ k = omega arith in subst WordKind e word12
-
 -- the text of a term before its children
 module _ (src : List ℕ) (st d s l : ℕ) where
   pub call-text-is : (k : ℕ) → k ≡ 14 → 60 ∷ 32 ∷ (take l (drop s src) ++ 32 ∷ []) ≡ textOf src (opening st (row k d s l 0 0))
@@ -311,26 +299,6 @@ module _ (src : List ℕ) (st d s l : ℕ) where
       ∙ ap (λ (x : List ℕ). textOf src (mark tokLAngle ∷ []) ++ x) (name-text 3 0 w refl)
       ∙ sym (text-of-append src (mark tokLAngle ∷ []) (nameOf s l ∷ []))
       ∙ sym (ap (λ (x : ℕ). textOf src (opening st (row x d s l 0 0))) e)
-
-  word-text-of : (k : ℕ) → WordKind k → (k ≡ 12 → d < 256)
-      → (take (ahead k) (d % 256 ∷ 46 ∷ []) ++ take l (drop s src)) ++ 32 ∷ [] ≡ textOf src (opening st (row k d s l 0 0))
-  word-text-of _ word9 h = name-text 3 0 (take l (drop s src)) refl
-  word-text-of _ word12 h =
-      let b : d < 256 = h refl in
-      let e : d % 256 ≡ d = omega arith in
-      ap (λ (x : ℕ). dotted x (take l (drop s src)) ++ 32 ∷ []) e ∙ variable-text 4 d (take l (drop s src)) refl
-
-  pub word-text-is : (k f x : ℕ) (t : List ℕ) → f ≡ ahead k → x ≡ d % 256 → t ≡ drop s src
-      → 9 ≤ k → k ≤ 12 → (k ≡ 10 → ⊥) → (k ≡ 11 → ⊥) → (k ≡ 12 → d < 256)
-      → (take f (x ∷ 46 ∷ []) ++ take l t) ++ 32 ∷ [] ≡ textOf src (opening st (row k d s l 0 0))
-  word-text-is k f x t ef ex et lo hi n m h =
-      ap (λ (z : ℕ). (take z (x ∷ 46 ∷ []) ++ take l t) ++ 32 ∷ []) ef
-      ∙ ap (λ (z : ℕ). (take (ahead k) (z ∷ 46 ∷ []) ++ take l t) ++ 32 ∷ []) ex
-      ∙ ap (λ (z : List ℕ). (take (ahead k) (d % 256 ∷ 46 ∷ []) ++ take l z) ++ 32 ∷ []) et
-      ∙ word-text-of k (word-kind k lo hi n m) h
-
-  pub number-text-is : (k : ℕ) → k ≡ 10 → take l (drop s src) ++ 32 ∷ [] ≡ textOf src (opening st (row k d s l 0 0))
-  number-text-is k e = number-text 5 0 (take l (drop s src)) refl ∙ sym (ap (λ (x : ℕ). textOf src (opening st (row x d s l 0 0))) e)
 
   pub char-text-is : (k : ℕ) → k ≡ 11 → quoted d ++ 32 ∷ [] ≡ textOf src (opening st (row k d s l 0 0))
   char-text-is k e = char-text 6 d (textAt src 0 0) refl ∙ sym (ap (λ (x : ℕ). textOf src (opening st (row x d s l 0 0))) e)
@@ -343,20 +311,3 @@ module _ (src : List ℕ) (st d s l : ℕ) where
   -- a bracket has no text to test
   pub bracket-spelled : (k : ℕ) → k ≡ 13 → true ≡ rowSpelled src k d s l
   bracket-spelled k e = row-plain src k s l d (λ n. omega arith) (ap usesText e)
-
--- ---- the tests before the short way
-module _ (n s l o : ℕ) (h : ((leb 1 n && leb n 16) && leb (s + 16) l) && leb 19 o ≡ true) where
-  short-near : (leb 1 n && leb n 16) && leb (s + 16) l ≡ true
-  short-near = and-left ((leb 1 n && leb n 16) && leb (s + 16) l) (leb 19 o) h
-
-  pub short-some : 1 ≤ n
-  short-some = range-lo 1 n 16 (and-left (leb 1 n && leb n 16) (leb (s + 16) l) short-near)
-
-  pub short-few : n ≤ 16
-  short-few = range-hi 1 n 16 (and-left (leb 1 n && leb n 16) (leb (s + 16) l) short-near)
-
-  pub short-in : s + 16 ≤ l
-  short-in = leb-true (s + 16) l (and-right (leb 1 n && leb n 16) (leb (s + 16) l) short-near)
-
-  pub short-room : 19 ≤ o
-  short-room = leb-true 19 o (and-right ((leb 1 n && leb n 16) && leb (s + 16) l) (leb 19 o) h)

@@ -2,6 +2,7 @@
 mod bytes;
 mod chars;
 mod leaf;
+mod one;
 mod opening;
 mod put;
 mod row;

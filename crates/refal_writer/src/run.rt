@@ -1,7 +1,10 @@
-// Runs of leaves that are alike: plain characters; names, or variables, whose texts have one length.
+// Leaves put in few steps: runs of plain characters, of names or variables whose texts have one length; and one by one.
 use crate::chars::put_chars;
 use crate::leaf::lead;
 use crate::leaf::low;
+use crate::one::put_number;
+use crate::one::put_short_word;
+use crate::row::is_alike;
 use crate::row::kind;
 use crate::row::wide;
 use crate::short::few_ok;
@@ -15,27 +18,15 @@ ghost use mathlib.Core.Path.{_≡_};
 ghost use mathlib.Core.Bool.{true, false};
 ghost use mathlib.Core.List.{List};
 ghost use Prim.Native.Nat.{ℕ, _+_, _*_, _-_, _≤_, _<_};
-ghost use lib.ListN.{length};
+ghost use lib.ListN.{length, getD};
 ghost use Rattle.refal_writer.specs.Going.{Going};
-ghost use Rattle.refal_writer.specs.Runs.{Took, alikeAt};
+ghost use Rattle.refal_writer.specs.Runs.{Took};
 ghost use Rattle.refal_writer.specs.Windows.{Edge, ahead};
 
 // The row after a run, and the place after its text.
 pub struct Ran {
     pub row: usize,
     pub at: usize,
-}
-
-// Whether row i is a leaf of the kind k whose text has n bytes and stands in a source of so many bytes, with more behind it.
-fn is_alike(tree: &[u32], i: usize, k: u32, n: usize, bytes: usize) -> bool
-    requires { ⌜ 7 * i + 6 < length (now tree) ⌝ }
-    ensures { λ r. ⌜ r ≡ alikeAt (now (tree .entry)) i k n bytes ⌝ }
-{
-    let w = 7 * i;
-    let next = i + 1;
-    let same = (tree[w] == k) & (wide(tree[w + 3]) == n);
-    let s = wide(tree[w + 2]);
-    same & ((wide(tree[w + 6]) == next) & (s + 16 <= bytes))
 }
 
 // Row i, put from the place `at` on where it is a name of n bytes and there is room; or nothing.
@@ -183,7 +174,7 @@ fn three_alike(tree: &[u32], i: usize, to: usize) -> bool
     (tree[w + 7] == k) & ((tree[w + 10] == l) & (tree[w + 17] == l))
 }
 
-// The names or variables of one length from row i on, where there is room for them.
+// The names or variables of one length from row i on, or one name or variable alone, where there is room for them.
 fn words(
     tree: &[u32],
     src: &[u8],
@@ -193,12 +184,9 @@ fn words(
     at: usize,
     out: &mut [u8],
 ) -> Ran
-    requires { ⌜ (i ≤ to) × (7 * to ≤ length (now tree)) × (to ≤ 33554432) × (at ≤ 1152921504606846976) × Edge (now edge) ⌝ }
+    requires { ⌜ (i < to) × (7 * to ≤ length (now tree)) × (to ≤ 33554432) × (at ≤ 1152921504606846976) × Edge (now edge) ⌝ }
     ensures { λ r. ⌜ (i ≤ r .row) × (r .row ≤ to) × ((left : ℕ) → Going (now (src .entry)) (now (tree .entry)) i to 9 left at (r .row) 9 (r .at) true (now (out .entry)) (now (out .exit))) ⌝ }
 {
-    if !three_alike(tree, i, to) {
-        return Ran { row: i, at };
-    }
     let w = 7 * i;
     let k = tree[w];
     let n = wide(tree[w + 3]);
@@ -206,10 +194,39 @@ fn words(
     if !fits {
         return Ran { row: i, at };
     }
-    alike(tree, src, i, to, k, n, edge, at, out)
+    if three_alike(tree, i, to) {
+        return alike(tree, src, i, to, k, n, edge, at, out);
+    }
+    if !put_short_word(tree, src, i, k, n, edge, at, out) {
+        return Ran { row: i, at };
+    }
+    let size = lead(k) + (n + 1);
+    Ran {
+        row: i + 1,
+        at: at + size,
+    }
 }
 
-// A run from row i on, where there is room for it: plain characters, or names or variables of one length.
+// The number in row i, where there is room for it.
+fn number(tree: &[u32], src: &[u8], i: usize, to: usize, at: usize, out: &mut [u8]) -> Ran
+    requires { ⌜ (i < to) × (7 * to ≤ length (now tree)) × (to ≤ 33554432) × (at ≤ 1152921504606846976) × (getD (now tree) (7 * i) 0 ≡ 10) ⌝ }
+    ensures { λ r. ⌜ (i ≤ r .row) × (r .row ≤ to) × ((left : ℕ) → Going (now (src .entry)) (now (tree .entry)) i to 9 left at (r .row) 9 (r .at) true (now (out .entry)) (now (out .exit))) ⌝ }
+{
+    if out.len() < at {
+        return Ran { row: i, at };
+    }
+    if !put_number(tree, src, i, at, out) {
+        return Ran { row: i, at };
+    }
+    let w = 7 * i;
+    let step = wide(tree[w + 3]) + 1;
+    Ran {
+        row: i + 1,
+        at: at + step,
+    }
+}
+
+// A run from row i on, where there is room for it: plain characters, a number, or names or variables.
 pub fn run(
     tree: &[u32],
     src: &[u8],
@@ -222,12 +239,16 @@ pub fn run(
     requires { ⌜ (i < to) × (7 * to ≤ length (now tree)) × (to ≤ 33554432) × (at ≤ 1152921504606846976) × Edge (now edge) ⌝ }
     ensures { λ r. ⌜ (i ≤ r .row) × (r .row ≤ to) × ((left : ℕ) → Going (now (src .entry)) (now (tree .entry)) i to 9 left at (r .row) 9 (r .at) true (now (out .entry)) (now (out .exit))) ⌝ }
 {
-    if kind(tree, i) == 11 {
+    let k = kind(tree, i);
+    if k == 11 {
         let e = chars(tree, i, to, at, out);
         return Ran {
             row: e,
             at: at + 4 * (e - i),
         };
+    }
+    if k == 10 {
+        return number(tree, src, i, to, at, out);
     }
     words(tree, src, i, to, edge, at, out)
 }

@@ -116,6 +116,18 @@ pub fn put_many(src: &[u8], s: usize, n: usize, at: usize, out: &mut [u8])
     out[e] = 32;
 }
 
+// The n bytes from s on, at most sixteen, and a space, from the place `at` on.
+pub fn put_short(src: &[u8], s: usize, n: usize, at: usize, out: &mut [u8])
+    requires { ⌜ (1 ≤ n) × (n ≤ 16) × (s + n ≤ length (now src)) × (at + n + 1 ≤ length (now out)) ⌝ }
+    ensures { λ _. ⌜ Adds (take n (drop s (now (src .entry))) ++ 32 ∷ []) at (at + n + 1) (now (out .entry)) (now (out .exit)) ⌝ }
+{
+    if n <= 3 {
+        put_few(src, s, n, at, out);
+        return;
+    }
+    put_many(src, s, n, at, out);
+}
+
 // The n bytes from s on and a space, from the place `at` on, if they are bytes of names.
 pub fn put_names(edge: &[u8], src: &[u8], s: usize, n: usize, at: usize, out: &mut [u8]) -> bool
     requires { ⌜ (1 ≤ n) × (n ≤ 15) × (s + 16 ≤ length (now src)) × (at + n + 1 ≤ length (now out)) × Edge (now edge) ⌝ }

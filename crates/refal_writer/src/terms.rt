@@ -44,8 +44,8 @@ fn is_node(tree: &[u32], i: usize, to: usize, left: usize) -> bool
 }
 
 // What stands before the children of the leaf in row i, from the place `at` on: the leaf whole.
-fn open_leaf(tree: &[u32], src: &[u8], i: usize, edge: &[u8], at: usize, out: &mut [u8]) -> Opened
-    requires { ⌜ (7 * i + 6 < length (now tree)) × (leafAt (now tree) i ≡ true) × (at ≤ 1152921504606846976) × Edge (now edge) ⌝ }
+fn open_leaf(tree: &[u32], src: &[u8], i: usize, at: usize, out: &mut [u8]) -> Opened
+    requires { ⌜ (7 * i + 6 < length (now tree)) × (leafAt (now tree) i ≡ true) × (at ≤ 1152921504606846976) ⌝ }
     ensures { λ r. ⌜ Adds (textOf (now (src .entry)) (opening 9 (rowAt (now (tree .entry)) i))) at (r .at) (now (out .entry)) (now (out .exit)) × (r .at ≤ at + 8589934710) × (r .good ≡ spelledRow (now (src .entry)) (now (tree .entry)) i) ⌝ }
 {
     let w = 7 * i;
@@ -56,7 +56,6 @@ fn open_leaf(tree: &[u32], src: &[u8], i: usize, edge: &[u8], at: usize, out: &m
         tree[w + 1],
         tree[w + 2],
         tree[w + 3],
-        edge,
         &mut out[from..],
     );
     Opened {
@@ -259,7 +258,7 @@ pub fn write_terms(
                 if !is_leaf(tree, i) {
                     return unlawful();
                 }
-                let a = open_leaf(tree, src, i, edge, at, out);
+                let a = open_leaf(tree, src, i, at, out);
                 at = a.at;
                 good = good & a.good;
                 i += 1;

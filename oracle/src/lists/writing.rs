@@ -42,7 +42,43 @@ pub fn cases() -> Vec<Case> {
             put(&mut cases, &mut rng, words, src.clone().into_bytes());
         }
     }
+    for src in alone() {
+        let (rows, bytes) = trees::of_source(src.as_bytes().to_vec());
+        put_around(&mut cases, trees::flat(&rows), bytes);
+    }
+    for (words, mut src) in spellings() {
+        src.extend([b' '; 20]);
+        put(&mut cases, &mut rng, words, src);
+    }
+    let src = format!("F{{1 Ab 22=s.c -1.5;}}{}", " ".repeat(20));
+    for words in each_word_changed(&src) {
+        put(&mut cases, &mut rng, words, src.clone().into_bytes());
+    }
     cases
+}
+
+/// Numbers of every length up to 17 bytes, and names and variables between them, with bytes of the source behind them and without.
+fn alone() -> Vec<String> {
+    let mut all = Vec::new();
+    for length in 1..=17 {
+        let mut numbers = vec![format!("{:0>length$}", "4294967295")];
+        if length <= 10 {
+            numbers = vec!["4294967295"[..length].to_string()];
+        }
+        if length >= 3 {
+            numbers.push("1.2345678901234567"[..length].to_string());
+        }
+        if length >= 4 {
+            numbers.push(format!("-{}E7", &"12345678901234567"[..length - 3]));
+        }
+        let name = &"Ab-cD_9xyzKLmn0"[..length.min(15)];
+        for number in numbers {
+            let text = format!("F{{{number} {name}=s.{name} {number};}}");
+            all.push(format!("{text}{}", " ".repeat(20)));
+            all.push(text);
+        }
+    }
+    all
 }
 
 /// Names and variables of one length after each other, with bytes of the source behind them and without; brackets and calls that hold nothing but one

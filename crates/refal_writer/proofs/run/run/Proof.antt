@@ -24,14 +24,23 @@ same-length c = search needs
 returns : tie.Need-returns
 returns c = let e = c .before .before .chars .ensures in (e .0, e .1, λ left. e .2 (c .before .before .before .before .before .before .before .before .before .before .args .src .now) left)
 
-words-requires : tie.Need-words-requires
-words-requires c κs = search needs
+number-requires : tie.Need-number-requires
+number-requires c κs = search needs
 
 same-length-2 : tie.Need-same-length-2
 same-length-2 c = search needs
 
 returns-2 : tie.Need-returns-2
-returns-2 c = let r = c .before .before .words .ensures in (r .0, r .1, r .2)
+returns-2 c = search needs
+
+words-requires : tie.Need-words-requires
+words-requires c κs = search needs
+
+same-length-3 : tie.Need-same-length-3
+same-length-3 c = search needs
+
+returns-3 : tie.Need-returns-3
+returns-3 c = search needs
 
 pub run-spec : {M : Type 1} → statement M
 run-spec =
@@ -44,6 +53,9 @@ run-spec =
     add-t15
     same-length
     returns
-    words-requires
+    number-requires
     same-length-2
-    returns-2)
+    returns-2
+    words-requires
+    same-length-3
+    returns-3)

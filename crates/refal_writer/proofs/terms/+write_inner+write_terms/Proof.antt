@@ -184,7 +184,7 @@ write-terms-open-leaf-requires t c κs =
     let long = c .before .before .before .before .before .before .before .before .before .before .before .before .before .before .before .before .before .pre .1 .1 in
     let z : c .before .before .before .before .before .before .before .run .result .at ≤ 1152921504606846976 = omega (arith, n, b, few, m) in
     let r : 7 * g .i + 6 < length (a .tree .now) = omega (arith, long, m) in
-    (r, sym (c .before .before .is-leaf .ensures) ∙ not-false _ (c .before .if3 .left), z, c .before .before .before .before .before .before .before .before .before .before .before .before .before .before .before .before .before .pre .1 .4)
+    (r, sym (c .before .before .is-leaf .ensures) ∙ not-false _ (c .before .if3 .left), z)
 
 write-terms-add-i : (t : ℕ) → write-terms-lts.Need-add-i (write-terms-claims t) (write-terms-at t) write-terms.Post write-terms-Inv-loop write-terms-μ-loop
 write-terms-add-i t c =
@@ -208,7 +208,7 @@ write-terms-loop-again-2 t c =
     let m : g .i < a .to = c .before .before .before .before .before .before .before .before .before .before .before .before .before .before .before .loop-test .taken in
     let N = going-none (a .src .now) (a .tree .now) (a .from) (a .to) 9 (a .left) (a .begin) (g .i) (g .at) (g .good) (a .out .now) (g .out) (g .inv) (c .before .before .before .before .before .before .before .before .before .before .before .run .result .row) (c .before .before .before .before .before .before .before .before .before .before .before .run .result .at) _ (c .before .before .before .before .before .before .before .before .before .before .before .run .ensures .2 (a .left)) (omega (arith, c .before .before .before .before .before .before .before .if2 .left)) in
     let L = sym (c .before .before .before .before .before .before .is-leaf .ensures) ∙ not-false _ (c .before .before .before .before .before .if3 .left) in
-    going-leaf (a .src .now) (a .tree .now) (a .from) (a .to) 9 (a .left) (a .begin) (g .i) 9 _ (g .good) (a .out .now) _ N refl L (c .before .before .before .before .before .before .before .before .before .before .before .before .before .before .before .before .before .before .before .before .before .pre .1 .1) m _ _ _ (c .before .before .before .open-leaf .ensures .0) (c .before .before .before .open-leaf .kept .1 .1 .1 .1 .1 .0) (c .before .before .before .open-leaf .ensures .1) (c .before .before .before .open-leaf .ensures .2)
+    going-leaf (a .src .now) (a .tree .now) (a .from) (a .to) 9 (a .left) (a .begin) (g .i) 9 _ (g .good) (a .out .now) _ N refl L (c .before .before .before .before .before .before .before .before .before .before .before .before .before .before .before .before .before .before .before .before .before .pre .1 .1) m _ _ _ (c .before .before .before .open-leaf .ensures .0) (c .before .before .before .open-leaf .kept .1 .1 .1 .1 .0) (c .before .before .before .open-leaf .ensures .1) (c .before .before .before .open-leaf .ensures .2)
 
 write-terms-is-node-requires : (t : ℕ) → write-terms-lts.Need-is-node-requires (write-terms-claims t) (write-terms-at t) write-terms.Post write-terms-Inv-loop write-terms-μ-loop
 write-terms-is-node-requires t c κs = search needs

@@ -1,7 +1,7 @@
 -- `refal_writer::terms::open_leaf` meets its contract.
 use native.Mathlib.Omega.{arith}
 use Rattle.refal_writer.specs.Adds.{adds-rest}
-use Rattle.refal_writer.specs.Terms.{leaf-stands, leaf-low, leaf-high}
+use Rattle.refal_writer.specs.Terms.{leaf-stands}
 use borrow.Author.Needs.{needs}
 use Rattle.refal_writer.proofs.terms.open_leaf.Statement.{statement}
 use Rattle.refal_writer.proofs.terms.open_leaf.Tie as tie
@@ -55,15 +55,11 @@ part-open-end : tie.Need-part-open-end
 part-open-end c = search needs
 
 open-requires : tie.Need-open-requires
-open-requires c κs =
-    let w = c .before .before .before .before .before .before .before .before .before .before .args .tree .now in
-    let i = c .before .before .before .before .before .before .before .before .before .before .args .i in
-    let r = c .before .before .before .before .before .before .before .before .before .before .pre .0 in
-    let h = c .before .before .before .before .before .before .before .before .before .before .pre .1 in
-    (leaf-stands w i r h, leaf-low w i r h, leaf-high w i r h, c .before .before .before .before .before .before .before .before .before .before .pre .3)
+open-requires c κs = let a = c .before .before .before .before .before .before .before .before .before .args in
+    leaf-stands (a .tree .now) (a .i) (c .before .before .before .before .before .before .before .before .before .pre .0) (c .before .before .before .before .before .before .before .before .before .pre .1)
 
-add-t10 : tie.Need-add-t10
-add-t10 c = search needs
+add-t9 : tie.Need-add-t9
+add-t9 c = search needs
 
 same-length : tie.Need-same-length
 same-length c = search needs
@@ -92,6 +88,6 @@ open-leaf-spec =
     part-open-start
     part-open-end
     open-requires
-    add-t10
+    add-t9
     same-length
     returns)

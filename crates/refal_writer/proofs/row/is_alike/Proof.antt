@@ -1,10 +1,10 @@
--- `refal_writer::run::is_alike` meets its contract.
+-- `refal_writer::row::is_alike` meets its contract.
 use native.Mathlib.Omega.{arith}
 use Prim.Native.Nat.{_+_, _*_}
 use mathlib.Core.Path.{refl}
 use borrow.Author.Needs.{needs}
-use Rattle.refal_writer.proofs.run.is_alike.Statement.{statement}
-use Rattle.refal_writer.proofs.run.is_alike.Tie as tie
+use Rattle.refal_writer.proofs.row.is_alike.Statement.{statement}
+use Rattle.refal_writer.proofs.row.is_alike.Tie as tie
 
 mul-w : tie.Need-mul-w
 mul-w c = search needs

@@ -1,8 +1,8 @@
--- `refal_writer::leaf::is_word` meets its contract.
+-- `refal_writer::one::is_word` meets its contract.
 use Rattle.refal_writer.specs.Windows.{word-of}
 use borrow.Author.Needs.{needs}
-use Rattle.refal_writer.proofs.leaf.is_word.Statement.{statement}
-use Rattle.refal_writer.proofs.leaf.is_word.Tie as tie
+use Rattle.refal_writer.proofs.one.is_word.Statement.{statement}
+use Rattle.refal_writer.proofs.one.is_word.Tie as tie
 
 names16-requires : tie.Need-names16-requires
 names16-requires c κs = search needs

@@ -1,11 +1,11 @@
--- `refal_writer::leaf::put_text` meets its contract: what of the two bytes does not stand ahead of the text, the text overwrites.
+-- `refal_writer::one::put_text` meets its contract: what of the two bytes does not stand ahead of the text, the text overwrites.
 use native.Mathlib.Omega.{arith}
 use mathlib.Core.Path.{_≡_, refl, _∙_}
 use lib.ListN.{length, set, length-set}
 use Rattle.refal_writer.specs.Windows.{ahead-puts, lent-room}
 use borrow.Author.Needs.{needs}
-use Rattle.refal_writer.proofs.leaf.put_text.Statement.{statement}
-use Rattle.refal_writer.proofs.leaf.put_text.Tie as tie
+use Rattle.refal_writer.proofs.one.put_text.Statement.{statement}
+use Rattle.refal_writer.proofs.one.put_text.Tie as tie
 
 slice-write-out : tie.Need-slice-write-out
 slice-write-out c = search needs
