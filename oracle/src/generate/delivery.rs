@@ -34,7 +34,7 @@ pub fn delivery(seed: u64, size: usize) -> String {
 }
 
 /// Hostile files that reading takes whole, by name.
-pub const HOSTILE: [&str; 16] = [
+pub const HOSTILE: [&str; 20] = [
     "stars",
     "spaced-stars",
     "block-comments",
@@ -51,6 +51,10 @@ pub const HOSTILE: [&str; 16] = [
     "marks",
     "numbers",
     "nests",
+    "empty-sentences",
+    "declared-names",
+    "words",
+    "bracketed-names",
 ];
 
 /// A hostile file of about `size` bytes; never more.
@@ -72,6 +76,10 @@ pub fn hostile(name: &str, size: usize) -> String {
         "marks" => repeat("F {", "()", " = ; }", size),
         "numbers" => repeat("F {", " 4294967295 -12.5E07", " = ; }", size),
         "nests" => repeat("F {", &nest(), " = ; }", size),
+        "empty-sentences" => repeat("F {", "=;", "}", size),
+        "declared-names" => repeat("$EXTRN A", ",A", ";", size),
+        "words" => repeat("F {", " e.1 A", " = ; }", size),
+        "bracketed-names" => repeat("F { =", "(A)", "; }", size),
         _ => panic!("no hostile file `{name}`"),
     }
 }
