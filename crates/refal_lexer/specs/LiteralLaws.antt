@@ -1,6 +1,6 @@
 -- Laws of literals: the ways out of their loops.
 use Prim.Native.Nat.{ℕ, zero, suc, _+_, _-_, _<_, _≤_}
-use borrow.Author.Tests.{eq-eqb, ne-eqb, lt-ltb, eqb-false, ltb-true}
+use borrow.Author.Tests.{eq-eqb, ne-eqb, lt-ltb, eqb-true, eqb-false, ltb-true}
 use native.Mathlib.Nat.{add-zero}
 use native.Mathlib.Numerals.{add-one}
 use native.Mathlib.Omega.{arith}
@@ -42,15 +42,23 @@ module _ (q : ℕ) (s : List ℕ) (i : ℕ) (h : i < length s) where
   pub char-close : getD s i 0 ≡ q → (x : ℕ) → x ≡ getD s (i + 1) 0 → (x ≡ q → ⊥) → (ill ≡ litChar q (drop i s)) × (i + 0 ≤ length s)
   char-close e x f g = (sym (char-is ∙ simp (eq-eqb _ _ e, ne-eqb _ _ (λ y. g (f ∙ y)))), omega arith)
 
-  pub char-byte : (getD s i 0 ≡ q → ⊥) → (c : Char) → c ≡ decode (drop i s) → c .len ≡ 0 → (char 0 1 ≡ litChar q (drop i s)) × (i + 1 ≤ length s)
+  char-byte : (getD s i 0 ≡ q → ⊥) → (c : Char) → c ≡ decode (drop i s) → c .len ≡ 0 → (char 0 1 ≡ litChar q (drop i s)) × (i + 1 ≤ length s)
   char-byte e c f g =
       let y : decode (drop i s) .len ≡ 0 = ap (λ (x : Char). x .len) (sym f) ∙ g in
       (sym (char-is ∙ simp (ne-eqb _ _ e, eq-eqb _ _ y)), omega arith)
 
-  pub char-whole : (getD s i 0 ≡ q → ⊥) → (c : Char) → c ≡ decode (drop i s) → (c .len ≡ 0 → ⊥) → (c ≡ litChar q (drop i s)) × (i + c .len ≤ length s)
+  char-whole : (getD s i 0 ≡ q → ⊥) → (c : Char) → c ≡ decode (drop i s) → (c .len ≡ 0 → ⊥) → (c ≡ litChar q (drop i s)) × (i + c .len ≤ length s)
   char-whole e c f g =
       let y : decode (drop i s) .len ≡ c .len = ap (λ (x : Char). x .len) (sym f) in
       (f ∙ sym (char-is ∙ simp (ne-eqb _ _ e, y, ne-eqb _ _ g)), subst (λ (x : Char). i + x .len ≤ length s) (sym f) (decode-in s i h))
+
+  -- the character, or a byte that is none
+  pub char-some : (getD s i 0 ≡ q → ⊥) → (c r : Char) → c ≡ decode (drop i s) → r ≡ some c → (r ≡ litChar q (drop i s)) × (i + r .len ≤ length s)
+  char-some e c r f g = subst (λ (x : Char). (x ≡ litChar q (drop i s)) × (i + x .len ≤ length s)) (sym g) (go (eqb (c .len) 0) refl)
+    where
+      go : (t : Bool) → eqb (c .len) 0 ≡ t → (pick t (char 0 1) c ≡ litChar q (drop i s)) × (i + pick t (char 0 1) c .len ≤ length s)
+      go true z = char-byte e c f (eqb-true (c .len) 0 z)
+      go false z = char-whole e c f (eqb-false (c .len) 0 z)
 
   -- a byte below 128 is the character
   pub char-low : (getD s i 0 ≡ q → ⊥) → getD s i 0 < 128 → (w : ℕ) → w ≡ getD s i 0 → (char w 1 ≡ litChar q (drop i s)) × (i + 1 ≤ length s)

@@ -3,12 +3,22 @@ ghost use mathlib.Core.Path.{_≡_};
 ghost use Prim.Native.Nat.{_+_, _-_, _≤_, _<_};
 ghost use lib.ListN.{length, drop};
 ghost use Rattle.refal_text.specs.declared.Char.{Char};
-ghost use Rattle.refal_lexer.specs.Literals.{litChar, litFrom, closeScan, charTokens};
+ghost use Rattle.refal_lexer.specs.Literals.{some as orByte, litChar, litFrom, closeScan, charTokens};
 ghost use Rattle.refal_lexer.specs.LiteralLaws.{plain, PlainRun, Fills};
 ghost use Rattle.refal_lexer.specs.Puts.{putTokens};
 ghost use Rattle.refal_lexer.specs.Within.{Within};
 use crate::Scan;
 use refal_text::Char;
+
+// A byte that is no character counts as one.
+fn some(c: Char) -> Char
+    ensures { λ r. ⌜ r ≡ orByte c ⌝ }
+{
+    if c.len == 0 {
+        return Char { code: 0, len: 1 };
+    }
+    c
+}
 
 // The character at i of a literal in quotes q: the quote doubled is one character, the close has length 0, and a byte that
 // is no character counts as one.
@@ -33,11 +43,12 @@ fn lit_char(src: &[u8], i: usize, q: u8) -> Char
             len: 1,
         };
     }
-    let c = refal_text::char_at(src, i);
-    if c.len == 0 {
-        return Char { code: 0, len: 1 };
+    if refal_text::lead(b) == 2 {
+        // The commonest by far: no call, whose answer would go through memory.
+        let x = refal_text::byte(src, i + 1);
+        return some(refal_text::two_at(b, x));
     }
-    c
+    some(refal_text::char_at(src, i))
 }
 
 // The literal's close, after n characters.

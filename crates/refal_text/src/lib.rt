@@ -75,7 +75,8 @@ pub fn is_four(a: u8, b: u8, c: u8, d: u8) -> bool
     ((a <= 244) & s) & (((128 <= c) & (c <= 191)) & ((128 <= d) & (d <= 191)))
 }
 
-fn two_at(a: u8, b: u8) -> Char
+// The character of two bytes, a and b.
+pub fn two_at(a: u8, b: u8) -> Char
     requires { ⌜ 192 ≤ a ⌝ }
     ensures { λ r. ⌜ r ≡ two a b ⌝ }
 {
