@@ -3,11 +3,11 @@ use Prim.Native.Nat.{ℕ, zero, suc, _+_, _-_, _<_, _≤_}
 use native.Mathlib.Nat.{add-zero, zero-add}
 use native.Mathlib.Numerals.{add-one}
 use native.Mathlib.Omega.{arith}
-use borrow.Author.Tests.{eqb-true}
+use borrow.Author.Tests.{eqb-true, ne-eqb}
 use Rattle.refal_text.specs.Pick.{pick}
 use Rattle.refal_lexer.specs.BlankLaws.{nonzero-in}
 use mathlib.Core.List.{List, [], _∷_}
-use mathlib.Core.Bool.{Bool, true, false}
+use mathlib.Core.Bool.{Bool, true, false, and-true}
 use mathlib.Core.Path.{_≡_, refl, ap, _∙_, sym, subst}
 use lib.Dec.{eqb}
 use lib.ListN.{length, drop, getD, drop-of-length-le, length-drop, length-append}
@@ -82,6 +82,12 @@ lex-space s at b o h e = go (eqb b 32) refl
         let m : lineAfter (getD s at 0) at false ≡ false = ap (λ (x : ℕ). lineAfter x at false) i in
         (rw g (ap (λ (x : Bool). lex 0 (at + 1) x (drop (at + 1) s)) (sym m) ∙ lex-ascii s at false l k), omega arith, omega arith)
     go false f g = (rw (g, add-zero at) refl, omega arith, omega arith)
+
+-- a space at `at`, which is not 0
+pub lex-space-on : (s : List ℕ) (at : ℕ) (line : Bool) → at < length s → 0 < at → getD s at 0 ≡ 32 → lex 0 (at + 1) line (drop (at + 1) s) ≡ lex 0 at line (drop at s)
+lex-space-on s at line h z e =
+    let m : lineAfter (getD s at 0) at line ≡ line = rw (e, ne-eqb at 0 (λ y. omega arith)) (and-true line) in
+    ap (λ (x : Bool). lex 0 (at + 1) x (drop (at + 1) s)) (sym m) ∙ lex-ascii s at line h (ap blank e)
 
 pub lex-end : (s : List ℕ) (at : ℕ) (line : Bool) → length s ≤ at → lex 0 at line (drop at s) ≡ eofAt at
 unfolding lex

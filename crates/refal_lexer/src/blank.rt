@@ -50,7 +50,7 @@ fn three_white(a: u8, b: u8, c: u8) -> bool
     false
 }
 
-// Past the white space of one byte each at `at`. What is still to come is the same there as here.
+// Past the white space of one byte each at `at`. What is still to come is the same there as here. Spaces often stand in runs, so they have a loop of their own.
 fn skip_ascii(src: &[u8], at: usize, line: bool) -> Place
     requires { ⌜ at ≤ length (now src) ⌝ }
     ensures { λ r. ⌜ (lex 0 (r .at) (r .line) (drop (r .at) (now (src .entry))) ≡ lex 0 at line (drop at (now (src .entry)))) × (at ≤ r .at) × (r .at ≤ length (now (src .entry))) ⌝ }
@@ -64,7 +64,8 @@ fn skip_ascii(src: &[u8], at: usize, line: bool) -> Place
             return Place { at: i, line: l };
         }
         l = line_after(b, i, l);
-        i += 1;
+        let next = i + 1;
+        i = crate::runs::spaces_end(src, next);
     }
     Place { at: i, line: l }
 }

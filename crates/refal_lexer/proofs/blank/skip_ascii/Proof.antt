@@ -1,4 +1,4 @@
--- `refal_lexer::blank::skip_ascii` meets its contract: a white byte is a blank scan.
+-- `refal_lexer::blank::skip_ascii` meets its contract: a white byte is a blank scan, and so is each space behind it.
 use Prim.Native.Nat.{_+_, _-_, _≤_}
 use native.Mathlib.Omega.{arith}
 use mathlib.Core.Path.{_≡_, refl, sym, ap, _∙_}
@@ -17,44 +17,38 @@ Inv-loop src at line i₀ l₀ i l = (lex 0 i l (drop i src) ≡ lex 0 at line (
 abbrev μ-loop : tie.MeasureT-loop
 μ-loop src at line i₀ l₀ i l = length src - i
 
--- src/blank.rt:54:5
 loop-holds : tie.Need-loop-holds Inv-loop μ-loop
 loop-holds c = (refl, omega arith, omega arith)
 
--- src/blank.rt:55:17
 shared-slice-read-b : tie.Need-shared-slice-read-b Inv-loop μ-loop
 shared-slice-read-b c = search needs
 
--- src/blank.rt:56:13
 is-blank-requires : tie.Need-is-blank-requires Inv-loop μ-loop
 is-blank-requires c κs = search needs
 
--- src/blank.rt:58:13
 returns : tie.Need-returns Inv-loop μ-loop
 returns c = c .before .before .before .before .loop .inv
 
--- src/blank.rt:60:9
 line-after-requires : tie.Need-line-after-requires Inv-loop μ-loop
 line-after-requires c κs = search needs
 
--- src/blank.rt:61:9
-add-i : tie.Need-add-i Inv-loop μ-loop
-add-i c = search needs
+add-next : tie.Need-add-next Inv-loop μ-loop
+add-next c = search needs
 
--- src/blank.rt:54:5
+spaces-end-requires : tie.Need-spaces-end-requires Inv-loop μ-loop
+spaces-end-requires c κs = search needs
+
 loop-less : tie.Need-loop-less Inv-loop μ-loop
 loop-less c = search needs
 
--- src/blank.rt:54:5
 loop-again : tie.Need-loop-again Inv-loop μ-loop
-loop-again c = (
-  ap (λ (x : Bool). lex 0 (c .before .before .before .before .before .loop .i + 1) x (drop (c .before .before .before .before .before .loop .i + 1) (c .before .before .before .before .before .before .before .args .src .now))) (c .line-after .ensures) ∙ lex-ascii _ _ _ (c .before .before .before .before .loop-test .taken) (sym (c .before .before .is-blank .ensures) ∙ not-false _ (c .before .if1 .left))
-      ∙ c .before .before .before .before .before .loop .inv .0,
+loop-again c = let i = c .before .before .before .before .before .before .loop .i in let s = c .before .before .before .before .before .before .before .before .args .src .now in let e = c .spaces-end .ensures in (
+  e .0 _ ∙ ap (λ (x : Bool). lex 0 (i + 1) x (drop (i + 1) s)) (c .before .line-after .ensures)
+      ∙ lex-ascii s i (c .before .before .before .before .before .before .loop .l) (c .before .before .before .before .before .loop-test .taken) (sym (c .before .before .before .is-blank .ensures) ∙ not-false _ (c .before .before .if1 .left)) ∙ c .before .before .before .before .before .before .loop .inv .0,
   omega arith,
-  omega arith,
+  e .2,
 )
 
--- src/blank.rt:48:1
 returns-2 : tie.Need-returns-2 Inv-loop μ-loop
 returns-2 c = c .before .loop .inv
 
@@ -69,7 +63,8 @@ skip-ascii-spec =
     is-blank-requires
     returns
     line-after-requires
-    add-i
+    add-next
+    spaces-end-requires
     loop-less
     loop-again
     returns-2)
