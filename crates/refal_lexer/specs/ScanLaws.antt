@@ -1,13 +1,13 @@
 -- Laws of scans: the class that the code found picks the scan.
 use Prim.Native.Nat.{ℕ, suc, _+_, _<_, _≤_}
-use borrow.Author.Tests.{le-leb, lt-leb, lt-ltb, eq-eqb, ne-eqb}
+use borrow.Author.Tests.{le-leb, lt-leb, lt-ltb, eqb-true, eq-eqb, ne-eqb}
 use native.Mathlib.Decide.{decLe}
 use native.Mathlib.Numerals.{add-one}
 use native.Mathlib.Omega.{arith}
 use mathlib.Core.List.{List, _∷_}
-use mathlib.Core.Bool.{Bool, true, false, _&&_, true≢false}
+use mathlib.Core.Bool.{Bool, true, false, _&&_, _||_, or-false, true≢false}
 use mathlib.Core.Path.{_≡_, refl, ap, _∙_, sym}
-use lib.Dec.{leb}
+use lib.Dec.{leb, eqb}
 use lib.ListN.{length, drop, getD}
 use lib.Seq.{drop-cons}
 use Rattle.refal_text.specs.Pick.{pick}
@@ -18,7 +18,7 @@ use Rattle.refal_text.specs.declared.Char.{Char}
 use Rattle.refal_lexer.specs.Classes.{digit, blank, classOf}
 use Rattle.refal_lexer.specs.declared.Scan.{Scan}
 use Rattle.refal_lexer.specs.declared.Scan.the-variants.{Blank, Token, Bad}
-use Rattle.refal_lexer.specs.Blanks.{slashScan, lineAfter, wideScan, whiteLen}
+use Rattle.refal_lexer.specs.Blanks.{starScan, slashScan, lineAfter, wideScan, whiteLen}
 use Rattle.refal_lexer.specs.BlankLaws.{nonzero-in, next-is}
 use Rattle.refal_lexer.specs.ClassLaws.{blank-class}
 use Rattle.refal_lexer.specs.Words.{otherScan}
@@ -77,9 +77,19 @@ module _ (k at : ℕ) (line : Bool) (b : ℕ) (s : List ℕ) where
       → r ≡ scanClass k at line b s
   class-rare r t n₂ n₃ n₁ n₄ n₅ e = e ∙ sym (rw (t, ne-eqb _ _ n₂, ne-eqb _ _ n₃, ne-eqb _ _ n₁, ne-eqb _ _ n₄, ne-eqb _ _ n₅) refl)
 
--- a slash
-pub scan-slash : (s : List ℕ) (at : ℕ) (line : Bool) → at < length s → getD s at 0 ≡ 47 → slashScan at (drop (at + 1) s) ≡ scan at line (drop at s)
-scan-slash s at line h e = scan-class s at line 5 5 h (sym (ap classOf e)) refl
+-- a slash, and a star at a line's start
+pub scan-comment : (s : List ℕ) (at : ℕ) (line : Bool) → at < length s → eqb (getD s at 0) 47 || (eqb (getD s at 0) 42 && line) ≡ true
+    → pick (eqb (getD s at 0) 42) (starScan at line (drop (at + 1) s)) (slashScan at (drop (at + 1) s)) ≡ scan at line (drop at s)
+scan-comment s at line h = go (eqb (getD s at 0) 42) refl
+  where
+    go : (t : Bool) → eqb (getD s at 0) 42 ≡ t → eqb (getD s at 0) 47 || (t && line) ≡ true
+        → pick t (starScan at line (drop (at + 1) s)) (slashScan at (drop (at + 1) s)) ≡ scan at line (drop at s)
+    go true z c =
+        let e : getD s at 0 ≡ 42 = eqb-true _ _ z in
+        scan-class s at line 4 4 h (sym (ap classOf e)) refl
+    go false z c =
+        let e : getD s at 0 ≡ 47 = eqb-true _ _ (sym (or-false (eqb (getD s at 0) 47)) ∙ c) in
+        scan-class s at line 5 5 h (sym (ap classOf e)) refl
 
 -- ---- white space is skipped
 module _ (s : List ℕ) (at : ℕ) (line : Bool) (h : at < length s) where

@@ -2,6 +2,7 @@
 ghost use mathlib.Core.Path.{_≡_};
 ghost use mathlib.Core.Bool.{true, false};
 ghost use Prim.Native.Nat.{_+_, _≤_, _<_};
+ghost use lib.Dec.{eqb};
 ghost use lib.ListN.{length, drop};
 ghost use Rattle.refal_text.specs.Pick.{pick};
 ghost use Rattle.refal_text.specs.Utf8.{decode, two, three};
@@ -248,7 +249,18 @@ fn skip_between(src: &[u8], at: usize, line: bool) -> Place
     skip_white(src, at, line)
 }
 
-// Past white space and the block comments between it. An unclosed comment is left to the scan that refuses it.
+// What b at `at`, a star or a slash, begins.
+fn comment_at(src: &[u8], at: usize, line: bool, b: u8) -> Scan
+    requires { ⌜ at < length (now src) ⌝ }
+    ensures { λ r. ⌜ (r ≡ pick (eqb b 42) (starScan at line (drop (at + 1) (now (src .entry)))) (slashScan at (drop (at + 1) (now (src .entry))))) × Within at (length (now (src .entry))) r ⌝ }
+{
+    if b == 42 {
+        return star_at(src, at, line);
+    }
+    slash_at(src, at)
+}
+
+// Past white space and the comments between it. An unclosed comment, and a star that begins none, are left to the scan that refuses them.
 pub fn skip_blank(src: &[u8], at: usize, line: bool) -> Place
     requires { ⌜ at ≤ length (now src) ⌝ }
     ensures { λ r. ⌜ (lex 0 (r .at) (r .line) (drop (r .at) (now (src .entry))) ≡ lex 0 at line (drop at (now (src .entry)))) × (at ≤ r .at) × (r .at ≤ length (now (src .entry))) ⌝ }
@@ -257,10 +269,12 @@ pub fn skip_blank(src: &[u8], at: usize, line: bool) -> Place
     let mut i = p.at;
     let mut l = p.line;
     while i < src.len() {
-        if src[i] != 47 {
+        let b = src[i];
+        let comment = (b == 47) | ((b == 42) & l);
+        if !comment {
             return Place { at: i, line: l };
         }
-        let s = slash_at(src, i);
+        let s = comment_at(src, i, l, b);
         let Scan::Blank { end, line: m } = s else {
             return Place { at: i, line: l };
         };
