@@ -15,12 +15,14 @@ use refal_tree::states::after;
 use refal_tree::states::ends;
 use refal_tree::states::inside;
 ghost use mathlib.Core.Path.{_≡_};
+ghost use mathlib.Core.Bool.{true};
 ghost use Prim.Native.Nat.{_+_, _*_, _-_, _≤_, _<_};
 ghost use lib.Dec.{eqb};
 ghost use lib.ListN.{length, getD};
 ghost use Rattle.refal_tree.specs.FlattenRows.{closing};
 ghost use Rattle.refal_writer.specs.Adds.{Adds};
 ghost use Rattle.refal_writer.specs.Going.{Writes, WritesNode};
+ghost use Rattle.refal_writer.specs.Pairs.{Pair, termsAt};
 ghost use Rattle.refal_writer.specs.RowTurns.{fitsAt, equalsText};
 ghost use Rattle.refal_writer.specs.Token.{textOf};
 ghost use Rattle.refal_writer.specs.Windows.{Edge};
@@ -91,6 +93,60 @@ fn write_terms_row(
     }
 }
 
+// Whether row i is a row of terms whose other fields are 0.
+fn is_terms(tree: &[u32], i: usize) -> bool
+    requires { ⌜ 7 * i + 6 < length (now tree) ⌝ }
+    ensures { λ r. ⌜ r ≡ termsAt (now (tree .entry)) i ⌝ }
+{
+    let w = 7 * i;
+    let text = (tree[w + 2] == 0) & (tree[w + 3] == 0);
+    let span = (tree[w + 4] == 0) & (tree[w + 5] == 0);
+    (tree[w] == 6) & ((tree[w + 1] == 0) & (text & span))
+}
+
+// Whether the rows i to `to`, below a row of the kind k, are those of a sentence that has neither conditions nor a block: two
+// rows of terms. Their terms are not looked at.
+fn is_pair(tree: &[u32], k: u32, i: usize, to: usize) -> bool
+    requires { ⌜ (i ≤ to) × (7 * to ≤ length (now tree)) ⌝ }
+    ensures { λ r. ⌜ (r ≡ true → Pair (now (tree .entry)) k i to) ⌝ }
+{
+    let some = (k == 4) & (i < to);
+    if !some {
+        return false;
+    }
+    let mid = next(tree, i);
+    let range = (i < mid) & (mid < to);
+    if !range {
+        return false;
+    }
+    (next(tree, mid) == to) & (is_terms(tree, i) & is_terms(tree, mid))
+}
+
+// The terms of the row of terms i, up to the row `end`, as `write_terms`: where there are none, without a call.
+fn write_some(
+    tree: &[u32],
+    src: &[u8],
+    i: usize,
+    end: usize,
+    left: usize,
+    edge: &[u8],
+    begin: usize,
+    out: &mut [u8],
+) -> Wrote
+    requires { ⌜ (i < end) × (7 * end ≤ length (now tree)) × (end ≤ 33554432) × (begin ≤ (i + 1) * 17179869184) × Edge (now edge) ⌝ }
+    ensures { λ r. ⌜ Writes (now (src .entry)) (now (tree .entry)) (i + 1) end 9 left begin (r .at) (r .good) (r .lawful) (now (out .entry)) (now (out .exit)) ⌝ }
+{
+    let first = i + 1;
+    if first == end {
+        return Wrote {
+            at: begin,
+            lawful: true,
+            good: true,
+        };
+    }
+    write_terms(tree, src, first, end, left, edge, begin, out)
+}
+
 // The rows from .. to, the first of which stands in the state `start`, put from the place `begin` on: each row, and below
 // it the same walk over its children. A row that breaks the rules ends the walk; a text that is no spelling does not, since
 // a later row may break them.
@@ -129,25 +185,33 @@ pub fn write_rows(
             i = end;
         } else {
             let first = i + 1;
-            let a = put_opening(tree, src, i, st, at, out);
-            let b = write_rows(
-                tree,
-                src,
-                first,
-                end,
-                inside(k),
-                below(st, k, left),
-                edge,
-                a.at,
-                out,
-            );
-            if !b.lawful {
-                return unlawful();
+            let levels = below(st, k, left);
+            if is_pair(tree, k, first, end) {
+                let mid = next(tree, first);
+                let pattern = write_some(tree, src, first, mid, levels, edge, at, out);
+                if !pattern.lawful {
+                    return unlawful();
+                }
+                let equals = put_mark(61, pattern.at, out);
+                let result = write_some(tree, src, mid, end, levels, edge, equals, out);
+                if !result.lawful {
+                    return unlawful();
+                }
+                at = put_mark(59, result.at, out);
+                good = good & (pattern.good & result.good);
+                st = after(st, k);
+                i = end;
+            } else {
+                let a = put_opening(tree, src, i, st, at, out);
+                let b = write_rows(tree, src, first, end, inside(k), levels, edge, a.at, out);
+                if !b.lawful {
+                    return unlawful();
+                }
+                at = put_closing(src, st, k, b.at, out);
+                good = good & (a.good & b.good);
+                st = after(st, k);
+                i = end;
             }
-            at = put_closing(src, st, k, b.at, out);
-            good = good & (a.good & b.good);
-            st = after(st, k);
-            i = end;
         }
     }
     if !ends(st) {

@@ -6,12 +6,13 @@ ghost use Prim.Native.Nat.{_+_, _≤_};
 ghost use lib.ListN.{length, take, drop};
 ghost use Rattle.refal_writer.specs.Adds.{Adds};
 
-// Where the text ends, whether every row is spelled as reading gives it, and whether the rows keep the rules. Where they do
-// not, the rest says nothing.
+// Where the text ends, whether the rows keep the rules, and whether every row is spelled as reading gives it. Where they do
+// not keep them, the rest says nothing. `good` stands at an odd address: at an even one the compiler loads it with its
+// neighbours, and waits until the byte just stored has reached memory.
 pub struct Wrote {
     pub at: usize,
-    pub good: bool,
     pub lawful: bool,
+    pub good: bool,
 }
 
 // Where what stands before a row's children ends, and whether the row is spelled as reading gives it.

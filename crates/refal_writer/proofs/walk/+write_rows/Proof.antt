@@ -11,6 +11,7 @@ use Rattle.refal_tree.specs.Rules.{rowOk}
 use Rattle.refal_tree.specs.Levels.{below-le}
 use Rattle.refal_tree.specs.Ranges.{rowAt, ok-end, stop-kids}
 use Rattle.refal_writer.specs.Going.{Going, node-whole, kids-found, going-start, going-end, going-not, going-turn}
+use Rattle.refal_writer.specs.Pairs.{Pair, pair-stop, pair-stop-2, pair-kids, pair-node}
 use Rattle.refal_writer.specs.RowTurns.{fitsAt, fits-low, fits-high, fits-row, fits-not}
 use Rattle.refal_writer.specs.Walk.{widest, standing, rows-fall, left-falls}
 use Prim.Native.Nat.{ℕ, _<_}
@@ -25,10 +26,13 @@ use Rattle.refal_tree.proofs.states.ends.Reads as ends-reads
 use Rattle.refal_tree.proofs.states.inside.Reads as inside-reads
 use Rattle.refal_writer.proofs.row.kind.Reads as kind-reads
 use Rattle.refal_writer.proofs.row.next.Reads as next-reads
+use Rattle.refal_writer.proofs.walk.is_pair.Reads as is-pair-reads
 use Rattle.refal_writer.proofs.walk.put_closing.Reads as put-closing-reads
 use Rattle.refal_writer.proofs.put.put_opening.Reads as put-opening-reads
 use Rattle.refal_writer.proofs.walk.row_fits.Reads as row-fits-reads
+use Rattle.refal_writer.proofs.walk.write_some.Reads as write-some-reads
 use Rattle.refal_writer.proofs.walk.write_terms_row.Reads as write-terms-row-reads
+use Rattle.refal_writer.proofs.wrote.put_mark.Reads as put-mark-reads
 use Rattle.refal_writer.proofs.wrote.unlawful.Reads as unlawful-reads
 use Rattle.refal_writer.proofs.walk.+write_rows.{statement}
 use Rattle.refal_writer.proofs.walk.+write_rows.Tie.{close}
@@ -45,7 +49,7 @@ write-rows-below t =
     and 4 write-rows-kinds.ps (falls 4 write-rows-kinds.ps _<_ μ-write-rows t) write-rows.Pre
 
 abbrev write-rows-claims : ℕ → write-rows-lts.Claims
-write-rows-claims t = (row-fits-reads.Asked, row-fits-reads.Learnt, unlawful-reads.Asked, unlawful-reads.Learnt, next-reads.Asked, next-reads.Learnt, kind-reads.Asked, kind-reads.Learnt, write-terms-row-reads.Asked, write-terms-row-reads.Learnt, after-reads.Asked, after-reads.Learnt, put-opening-reads.Asked, put-opening-reads.Learnt, inside-reads.Asked, inside-reads.Learnt, below-reads.Asked, below-reads.Learnt, write-rows-below t, write-rows.Post, put-closing-reads.Asked, put-closing-reads.Learnt, ends-reads.Asked, ends-reads.Learnt)
+write-rows-claims t = (row-fits-reads.Asked, row-fits-reads.Learnt, unlawful-reads.Asked, unlawful-reads.Learnt, next-reads.Asked, next-reads.Learnt, kind-reads.Asked, kind-reads.Learnt, write-terms-row-reads.Asked, write-terms-row-reads.Learnt, after-reads.Asked, after-reads.Learnt, below-reads.Asked, below-reads.Learnt, is-pair-reads.Asked, is-pair-reads.Learnt, write-some-reads.Asked, write-some-reads.Learnt, put-mark-reads.Asked, put-mark-reads.Learnt, put-opening-reads.Asked, put-opening-reads.Learnt, inside-reads.Asked, inside-reads.Learnt, write-rows-below t, write-rows.Post, put-closing-reads.Asked, put-closing-reads.Learnt, ends-reads.Asked, ends-reads.Learnt)
 
 abbrev write-rows-Inv-loop : write-rows-lts.InvT-loop
 write-rows-Inv-loop tree src from to start left edge begin out₀ i₀ st₀ at₀ good₀ out i st at good = Going src tree from to start left begin i st at good out₀ out
@@ -152,8 +156,173 @@ write-rows-loop-again t c = let e = c .before .before .before .before .before .b
 write-rows-add-first : (t : ℕ) → write-rows-lts.Need-add-first (write-rows-claims t) (write-rows-at t) write-rows.Post write-rows-Inv-loop write-rows-μ-loop
 write-rows-add-first t c = search needs
 
+write-rows-below-requires : (t : ℕ) → write-rows-lts.Need-below-requires (write-rows-claims t) (write-rows-at t) write-rows.Post write-rows-Inv-loop write-rows-μ-loop
+write-rows-below-requires t c κs = let a = c .before .before .before .before .before .before .before .before .before .before .before .args in let n : a .left ≤ 4294967296 = omega (arith, c .before .before .before .before .before .before .before .before .before .before .before .pre .1 .3) in n
+
+write-rows-is-pair-requires : (t : ℕ) → write-rows-lts.Need-is-pair-requires (write-rows-claims t) (write-rows-at t) write-rows.Post write-rows-Inv-loop write-rows-μ-loop
+write-rows-is-pair-requires t c κs = let e = c .before .before .before in let a = e .before .before .before .before .before .before .before .before .before .args in let g = e .before .before .before .before .loop in
+    let p = e .before .before .before .before .before .before .before .before .before .pre .1 in
+    let x = e .next in
+    let lo : g .i < x .result = turn-low t e in
+    let hi : x .result ≤ a .to = turn-high t e in
+    let long : 7 * a .to ≤ length (a .tree .now) = p .1 in
+    let n : 7 * x .result ≤ length (a .tree .now) = omega (arith, hi, long) in
+    (omega (arith, lo), n)
+
+write-rows-next-requires-2 : (t : ℕ) → write-rows-lts.Need-next-requires-2 (write-rows-claims t) (write-rows-at t) write-rows.Post write-rows-Inv-loop write-rows-μ-loop
+write-rows-next-requires-2 t c κs = let e = c .before .before .before .before .before in let a = e .before .before .before .before .before .before .before .before .before .args in let g = e .before .before .before .before .loop in
+    let p = e .before .before .before .before .before .before .before .before .before .pre .1 in
+    let x = e .next in
+    let lo : g .i < x .result = turn-low t e in
+    let hi : x .result ≤ a .to = turn-high t e in
+    let long : 7 * a .to ≤ length (a .tree .now) = p .1 in
+    let P = c .before .is-pair .ensures (c .if4 .taken) in
+    let l = P .low in
+    let h = P .high in
+    omega (arith, l, h, hi, long)
+
+-- ---- a sentence of two rows of terms, once the second is known
+abbrev Half : ℕ → Type 0
+Half t = write-rows-lts.After-next2 (write-rows-claims t) (write-rows-at t) write-rows.Post write-rows-Inv-loop write-rows-μ-loop
+
+half-pair : (t : ℕ) (c : Half t) → Pair (c .before .before .before .before .before .before .before .before .before .before .before .before .before .before .before .args .tree .now) (c .before .before .before .before .before .kind .result) (c .before .before .before .before .before .before .before .before .before .before .loop .i + 1) (c .before .before .before .before .before .before .next .result)
+half-pair t c = c .before .before .is-pair .ensures (c .before .if4 .taken)
+
+half-low : (t : ℕ) (c : Half t) → c .before .before .before .before .before .before .before .before .before .before .loop .i + 1 < c .next2 .result
+half-low t c = subst (λ (y : ℕ). c .before .before .before .before .before .before .before .before .before .before .loop .i + 1 < y) (sym (c .next2 .ensures)) (half-pair t c .low)
+
+half-high : (t : ℕ) (c : Half t) → c .next2 .result < c .before .before .before .before .before .before .next .result
+half-high t c = subst (λ (y : ℕ). y < c .before .before .before .before .before .before .next .result) (sym (c .next2 .ensures)) (half-pair t c .high)
+
+write-rows-write-some-requires : (t : ℕ) → write-rows-lts.Need-write-some-requires (write-rows-claims t) (write-rows-at t) write-rows.Post write-rows-Inv-loop write-rows-μ-loop
+write-rows-write-some-requires t c κs = let e = c .before .before .before .before .before .before .before in let a = e .before .before .before .before .before .before .before .before .before .args in let g = e .before .before .before .before .loop in
+    let p = e .before .before .before .before .before .before .before .before .before .pre .1 in
+    let x = e .next in
+    let lo : g .i < x .result = turn-low t e in
+    let hi : x .result ≤ a .to = turn-high t e in
+    let long : 7 * a .to ≤ length (a .tree .now) = p .1 in
+    let few : a .to ≤ 33554432 = p .2 in
+    let s : g .at + a .from * widest ≤ a .begin + g .i * widest = g .inv .small in
+    let b : a .begin ≤ a .from * widest = p .4 in
+    let l = half-low t (c .before) in
+    let h = half-high t (c .before) in
+    let n1 : 7 * c .before .next2 .result ≤ length (a .tree .now) = omega (arith, h, hi, long) in
+    let n2 : c .before .next2 .result ≤ 33554432 = omega (arith, h, hi, few) in
+    let n3 : g .at ≤ (g .i + 1 + 1) * widest = omega (arith, s, b) in
+    (l, n1, n2, n3, p .5)
+
+write-rows-unlawful-requires-3 : (t : ℕ) → write-rows-lts.Need-unlawful-requires-3 (write-rows-claims t) (write-rows-at t) write-rows.Post write-rows-Inv-loop write-rows-μ-loop
+write-rows-unlawful-requires-3 t c κs = search needs
+
+write-rows-same-length-3 : (t : ℕ) → write-rows-lts.Need-same-length-3 (write-rows-claims t) (write-rows-at t) write-rows.Post write-rows-Inv-loop write-rows-μ-loop
+write-rows-same-length-3 t c = c .before .before .before .before .before .write-some .kept .1 .1 .1 .1 .1 .1 .1 .0 ∙ c .before .before .before .before .before .before .before .before .before .before .before .before .before .before .before .before .before .loop .inv .same
+
+write-rows-returns-3 : (t : ℕ) → write-rows-lts.Need-returns-3 (write-rows-claims t) (write-rows-at t) write-rows.Post write-rows-Inv-loop write-rows-μ-loop
+write-rows-returns-3 t c = let e = c .before .before .before .before .before .before .before .before .before .before .before .before .before in let a = e .before .before .before .before .before .before .before .before .before .args in let g = e .before .before .before .before .loop in
+    let p = e .before .before .before .before .before .before .before .before .before .pre .1 in
+    let x = e .next in
+    let lo : g .i < x .result = turn-low t e in
+    let hi : x .result ≤ a .to = turn-high t e in
+    let long : 7 * x .result ≤ length (a .tree .now) = omega (arith, hi, p .1) in
+    going-not (a .src .now) (a .tree .now) (a .from) (a .to) (a .start) (a .left) (a .begin) (g .i) (g .st) (g .at) (g .good) (a .out .now) (g .out) (g .inv) _ _ _ _ (c .unlawful3 .ensures)
+    (stop-kids (a .tree .now) (g .i) (a .to) (g .st) (a .left) (c .before .before .before .before .before .before .before .before .before .before .before .before .kind .result) (x .result) (c .before .before .before .before .before .before .before .before .before .before .before .before .kind .ensures) (x .ensures) (p .1) lo hi
+    (pair-stop (a .src .now) (a .tree .now) (g .i) (c .before .before .before .before .before .before .before .next2 .result) (x .result) (g .st) (c .before .before .before .before .before .before .before .before .before .before .before .before .kind .result) (a .left) (c .before .before .before .before .before .before .before .before .before .before .below .result) (half-pair t (c .before .before .before .before .before .before .before)) (c .before .before .before .before .before .before .before .next2 .ensures) (c .before .before .before .before .before .before .before .before .before .before .before .before .kind .ensures) (c .before .before .before .before .before .before .before .before .before .before .below .ensures) long (sym (c .before .before .before .before .before .write-some .ensures .lawful-is) ∙ not-true _ (c .before .if5 .taken))))
+
+write-rows-put-mark-requires : (t : ℕ) → write-rows-lts.Need-put-mark-requires (write-rows-claims t) (write-rows-at t) write-rows.Post write-rows-Inv-loop write-rows-μ-loop
+write-rows-put-mark-requires t c κs = let e = c .before .before .before .before .before .before .before .before .before .before .before .before .before in let a = e .before .before .before .before .before .before .before .before .before .args in let g = e .before .before .before .before .loop in
+    let p = e .before .before .before .before .before .before .before .before .before .pre .1 in
+    let x = e .next in
+    let lo : g .i < x .result = turn-low t e in
+    let hi : x .result ≤ a .to = turn-high t e in
+    let long : 7 * a .to ≤ length (a .tree .now) = p .1 in
+    let few : a .to ≤ 33554432 = p .2 in
+    let s : g .at + a .from * widest ≤ a .begin + g .i * widest = g .inv .small in
+    let b : a .begin ≤ a .from * widest = p .4 in
+    let l = half-low t (c .before .before .before .before .before .before .before) in
+    let h = half-high t (c .before .before .before .before .before .before .before) in
+    let r : c .before .before .before .before .before .write-some .result .at + (g .i + 1 + 1) * widest ≤ g .at + c .before .before .before .before .before .before .before .next2 .result * widest = c .before .before .before .before .before .write-some .ensures .small (not-false _ (c .before .if5 .left)) in
+    let z : c .before .before .before .before .before .write-some .result .at ≤ 1152921504606846976 = omega (arith, s, b, few, r, h, hi) in
+    z
+
+write-rows-write-some-requires-2 : (t : ℕ) → write-rows-lts.Need-write-some-requires-2 (write-rows-claims t) (write-rows-at t) write-rows.Post write-rows-Inv-loop write-rows-μ-loop
+write-rows-write-some-requires-2 t c κs = let e = c .before .before .before .before .before .before .before .before .before .before .before .before .before .before .before .before .before in let a = e .before .before .before .before .before .before .before .before .before .args in let g = e .before .before .before .before .loop in
+    let p = e .before .before .before .before .before .before .before .before .before .pre .1 in
+    let x = e .next in
+    let lo : g .i < x .result = turn-low t e in
+    let hi : x .result ≤ a .to = turn-high t e in
+    let long : 7 * a .to ≤ length (a .tree .now) = p .1 in
+    let few : a .to ≤ 33554432 = p .2 in
+    let s : g .at + a .from * widest ≤ a .begin + g .i * widest = g .inv .small in
+    let b : a .begin ≤ a .from * widest = p .4 in
+    let l = half-low t (c .before .before .before .before .before .before .before .before .before .before .before) in
+    let h = half-high t (c .before .before .before .before .before .before .before .before .before .before .before) in
+    let r : c .before .before .before .before .before .before .before .before .before .write-some .result .at + (g .i + 1 + 1) * widest ≤ g .at + c .before .before .before .before .before .before .before .before .before .before .before .next2 .result * widest = c .before .before .before .before .before .before .before .before .before .write-some .ensures .small (not-false _ (c .before .before .before .before .before .if5 .left)) in
+    let q = c .before .before .before .put-mark .ensures .count in
+    let n1 : 7 * x .result ≤ length (a .tree .now) = omega (arith, hi, long) in
+    let n2 : x .result ≤ 33554432 = omega (arith, hi, few) in
+    let n3 : c .before .before .before .put-mark .result ≤ (c .before .before .before .before .before .before .before .before .before .before .before .next2 .result + 1) * widest = omega (arith, s, b, r, q) in
+    (h, n1, n2, n3, p .5)
+
+write-rows-unlawful-requires-4 : (t : ℕ) → write-rows-lts.Need-unlawful-requires-4 (write-rows-claims t) (write-rows-at t) write-rows.Post write-rows-Inv-loop write-rows-μ-loop
+write-rows-unlawful-requires-4 t c κs = search needs
+
+write-rows-same-length-4 : (t : ℕ) → write-rows-lts.Need-same-length-4 (write-rows-claims t) (write-rows-at t) write-rows.Post write-rows-Inv-loop write-rows-μ-loop
+write-rows-same-length-4 t c = c .before .before .before .before .before .write-some2 .kept .1 .1 .1 .1 .1 .1 .1 .0 ∙ c .before .before .before .before .before .before .before .before .before .put-mark .kept .1 .1 .0 ∙ c .before .before .before .before .before .before .before .before .before .before .before .before .before .before .before .write-some .kept .1 .1 .1 .1 .1 .1 .1 .0 ∙ c .before .before .before .before .before .before .before .before .before .before .before .before .before .before .before .before .before .before .before .before .before .before .before .before .before .before .before .loop .inv .same
+
+write-rows-returns-4 : (t : ℕ) → write-rows-lts.Need-returns-4 (write-rows-claims t) (write-rows-at t) write-rows.Post write-rows-Inv-loop write-rows-μ-loop
+write-rows-returns-4 t c = let e = c .before .before .before .before .before .before .before .before .before .before .before .before .before .before .before .before .before .before .before .before .before .before .before in let a = e .before .before .before .before .before .before .before .before .before .args in let g = e .before .before .before .before .loop in
+    let p = e .before .before .before .before .before .before .before .before .before .pre .1 in
+    let x = e .next in
+    let lo : g .i < x .result = turn-low t e in
+    let hi : x .result ≤ a .to = turn-high t e in
+    let long : 7 * x .result ≤ length (a .tree .now) = omega (arith, hi, p .1) in
+    going-not (a .src .now) (a .tree .now) (a .from) (a .to) (a .start) (a .left) (a .begin) (g .i) (g .st) (g .at) (g .good) (a .out .now) (g .out) (g .inv) _ _ _ _ (c .unlawful4 .ensures)
+    (stop-kids (a .tree .now) (g .i) (a .to) (g .st) (a .left) (c .before .before .before .before .before .before .before .before .before .before .before .before .before .before .before .before .before .before .before .before .before .before .kind .result) (x .result) (c .before .before .before .before .before .before .before .before .before .before .before .before .before .before .before .before .before .before .before .before .before .before .kind .ensures) (x .ensures) (p .1) lo hi
+    (pair-stop-2 (a .src .now) (a .tree .now) (g .i) (c .before .before .before .before .before .before .before .before .before .before .before .before .before .before .before .before .before .next2 .result) (x .result) (g .st) (c .before .before .before .before .before .before .before .before .before .before .before .before .before .before .before .before .before .before .before .before .before .before .kind .result) (a .left) (c .before .before .before .before .before .before .before .before .before .before .before .before .before .before .before .before .before .before .before .before .below .result) (half-pair t (c .before .before .before .before .before .before .before .before .before .before .before .before .before .before .before .before .before)) (c .before .before .before .before .before .before .before .before .before .before .before .before .before .before .before .before .before .next2 .ensures) (c .before .before .before .before .before .before .before .before .before .before .before .before .before .before .before .before .before .before .before .before .before .before .kind .ensures) (c .before .before .before .before .before .before .before .before .before .before .before .before .before .before .before .before .before .before .before .before .below .ensures) long (sym (c .before .before .before .before .before .before .before .before .before .before .before .before .before .before .before .write-some .ensures .lawful-is) ∙ not-false _ (c .before .before .before .before .before .before .before .before .before .before .before .if5 .left)) (sym (c .before .before .before .before .before .write-some2 .ensures .lawful-is) ∙ not-true _ (c .before .if6 .taken))))
+
+write-rows-put-mark-requires-2 : (t : ℕ) → write-rows-lts.Need-put-mark-requires-2 (write-rows-claims t) (write-rows-at t) write-rows.Post write-rows-Inv-loop write-rows-μ-loop
+write-rows-put-mark-requires-2 t c κs = let e = c .before .before .before .before .before .before .before .before .before .before .before .before .before .before .before .before .before .before .before .before .before .before .before in let a = e .before .before .before .before .before .before .before .before .before .args in let g = e .before .before .before .before .loop in
+    let p = e .before .before .before .before .before .before .before .before .before .pre .1 in
+    let x = e .next in
+    let lo : g .i < x .result = turn-low t e in
+    let hi : x .result ≤ a .to = turn-high t e in
+    let long : 7 * a .to ≤ length (a .tree .now) = p .1 in
+    let few : a .to ≤ 33554432 = p .2 in
+    let s : g .at + a .from * widest ≤ a .begin + g .i * widest = g .inv .small in
+    let b : a .begin ≤ a .from * widest = p .4 in
+    let l = half-low t (c .before .before .before .before .before .before .before .before .before .before .before .before .before .before .before .before .before) in
+    let h = half-high t (c .before .before .before .before .before .before .before .before .before .before .before .before .before .before .before .before .before) in
+    let r : c .before .before .before .before .before .before .before .before .before .before .before .before .before .before .before .write-some .result .at + (g .i + 1 + 1) * widest ≤ g .at + c .before .before .before .before .before .before .before .before .before .before .before .before .before .before .before .before .before .next2 .result * widest = c .before .before .before .before .before .before .before .before .before .before .before .before .before .before .before .write-some .ensures .small (not-false _ (c .before .before .before .before .before .before .before .before .before .before .before .if5 .left)) in
+    let q = c .before .before .before .before .before .before .before .before .before .put-mark .ensures .count in
+    let v : c .before .before .before .before .before .write-some2 .result .at + (c .before .before .before .before .before .before .before .before .before .before .before .before .before .before .before .before .before .next2 .result + 1) * widest ≤ c .before .before .before .before .before .before .before .before .before .put-mark .result + x .result * widest = c .before .before .before .before .before .write-some2 .ensures .small (not-false _ (c .before .if6 .left)) in
+    let z : c .before .before .before .before .before .write-some2 .result .at ≤ 1152921504606846976 = omega (arith, s, b, few, r, q, v, h, hi) in
+    z
+
+write-rows-after-requires-2 : (t : ℕ) → write-rows-lts.Need-after-requires-2 (write-rows-claims t) (write-rows-at t) write-rows.Post write-rows-Inv-loop write-rows-μ-loop
+write-rows-after-requires-2 t c κs = search needs
+
+write-rows-loop-less-2 : (t : ℕ) → write-rows-lts.Need-loop-less-2 (write-rows-claims t) (write-rows-at t) write-rows.Post write-rows-Inv-loop write-rows-μ-loop
+write-rows-loop-less-2 t c = let e = c .before .before .before .before .before .before .before .before .before .before .before .before .before .before .before .before .before .before .before .before .before .before .before .before .before .before .before .before .before in let a = e .before .before .before .before .before .before .before .before .before .args in let g = e .before .before .before .before .loop in
+    let p = e .before .before .before .before .before .before .before .before .before .pre .1 in
+    let x = e .next in
+    let lo : g .i < x .result = turn-low t e in
+    let hi : x .result ≤ a .to = turn-high t e in
+    left-falls (g .i) (x .result) (a .to) lo hi
+
+write-rows-loop-again-2 : (t : ℕ) → write-rows-lts.Need-loop-again-2 (write-rows-claims t) (write-rows-at t) write-rows.Post write-rows-Inv-loop write-rows-μ-loop
+write-rows-loop-again-2 t c = let e = c .before .before .before .before .before .before .before .before .before .before .before .before .before .before .before .before .before .before .before .before .before .before .before .before .before .before .before .before .before in let a = e .before .before .before .before .before .before .before .before .before .args in let g = e .before .before .before .before .loop in
+    let p = e .before .before .before .before .before .before .before .before .before .pre .1 in
+    let x = e .next in
+    let lo : g .i < x .result = turn-low t e in
+    let hi : x .result ≤ a .to = turn-high t e in
+    let long : 7 * x .result ≤ length (a .tree .now) = omega (arith, hi, p .1) in
+    going-turn (a .src .now) (a .tree .now) (a .from) (a .to) (a .start) (a .left) (a .begin) (g .i) (g .st) (g .at) (g .good) (a .out .now) (g .out) (g .inv) (c .before .before .before .before .before .before .before .before .before .before .before .before .before .before .before .before .before .before .before .before .before .before .before .before .before .before .before .before .kind .result) (x .result) (c .before .before .before .before .before .before .before .before .before .before .before .before .before .before .before .before .before .before .before .before .before .before .before .before .before .before .before .before .kind .ensures) (x .ensures) (p .1) lo hi
+    (turn-row t e)
+    (pair-kids (a .src .now) (a .tree .now) (g .i) (c .before .before .before .before .before .before .before .before .before .before .before .before .before .before .before .before .before .before .before .before .before .before .before .next2 .result) (x .result) (g .st) (c .before .before .before .before .before .before .before .before .before .before .before .before .before .before .before .before .before .before .before .before .before .before .before .before .before .before .before .before .kind .result) (a .left) (c .before .before .before .before .before .before .before .before .before .before .before .before .before .before .before .before .before .before .before .before .before .before .before .before .before .before .below .result) (half-pair t (c .before .before .before .before .before .before .before .before .before .before .before .before .before .before .before .before .before .before .before .before .before .before .before)) (c .before .before .before .before .before .before .before .before .before .before .before .before .before .before .before .before .before .before .before .before .before .before .before .next2 .ensures) (c .before .before .before .before .before .before .before .before .before .before .before .before .before .before .before .before .before .before .before .before .before .before .before .before .before .before .before .before .kind .ensures) (c .before .before .before .before .before .before .before .before .before .before .before .before .before .before .before .before .before .before .before .before .before .before .before .before .before .before .below .ensures) long _ _ _ _ _ _ _ _ _ _ _ _ _ _ (c .before .before .before .before .before .before .before .before .before .before .before .before .before .before .before .before .before .before .before .before .before .write-some .ensures) (not-false _ (c .before .before .before .before .before .before .before .before .before .before .before .before .before .before .before .before .before .if5 .left)) (c .before .before .before .before .before .before .before .before .before .before .before .before .before .before .before .before .before .before .before .before .before .write-some .kept .1 .1 .1 .1 .1 .1 .1 .0) (c .before .before .before .before .before .before .before .before .before .before .before .before .before .before .before .put-mark .ensures) (c .before .before .before .before .before .before .before .before .before .before .before .before .before .before .before .put-mark .kept .1 .1 .0) (c .before .before .before .before .before .before .before .before .before .before .before .write-some2 .ensures) (not-false _ (c .before .before .before .before .before .before .before .if6 .left)) (c .before .before .before .before .before .before .before .before .before .before .before .write-some2 .kept .1 .1 .1 .1 .1 .1 .1 .0) (c .before .before .before .before .before .put-mark2 .ensures) (c .before .before .before .before .before .put-mark2 .kept .1 .1 .0)) _ _ _ _ (c .after2 .ensures)
+    (pair-node (a .src .now) (a .tree .now) (g .i) (c .before .before .before .before .before .before .before .before .before .before .before .before .before .before .before .before .before .before .before .before .before .before .before .next2 .result) (x .result) (g .st) (c .before .before .before .before .before .before .before .before .before .before .before .before .before .before .before .before .before .before .before .before .before .before .before .before .before .before .before .before .kind .result) (a .left) (c .before .before .before .before .before .before .before .before .before .before .before .before .before .before .before .before .before .before .before .before .before .before .before .before .before .before .below .result) (half-pair t (c .before .before .before .before .before .before .before .before .before .before .before .before .before .before .before .before .before .before .before .before .before .before .before)) (c .before .before .before .before .before .before .before .before .before .before .before .before .before .before .before .before .before .before .before .before .before .before .before .next2 .ensures) (c .before .before .before .before .before .before .before .before .before .before .before .before .before .before .before .before .before .before .before .before .before .before .before .before .before .before .before .before .kind .ensures) (c .before .before .before .before .before .before .before .before .before .before .before .before .before .before .before .before .before .before .before .before .before .before .before .before .before .before .below .ensures) long _ _ _ _ _ _ _ _ _ _ _ _ _ _ (c .before .before .before .before .before .before .before .before .before .before .before .before .before .before .before .before .before .before .before .before .before .write-some .ensures) (not-false _ (c .before .before .before .before .before .before .before .before .before .before .before .before .before .before .before .before .before .if5 .left)) (c .before .before .before .before .before .before .before .before .before .before .before .before .before .before .before .before .before .before .before .before .before .write-some .kept .1 .1 .1 .1 .1 .1 .1 .0) (c .before .before .before .before .before .before .before .before .before .before .before .before .before .before .before .put-mark .ensures) (c .before .before .before .before .before .before .before .before .before .before .before .before .before .before .before .put-mark .kept .1 .1 .0) (c .before .before .before .before .before .before .before .before .before .before .before .write-some2 .ensures) (not-false _ (c .before .before .before .before .before .before .before .if6 .left)) (c .before .before .before .before .before .before .before .before .before .before .before .write-some2 .kept .1 .1 .1 .1 .1 .1 .1 .0) (c .before .before .before .before .before .put-mark2 .ensures) (c .before .before .before .before .before .put-mark2 .kept .1 .1 .0))
+
 write-rows-put-opening-requires : (t : ℕ) → write-rows-lts.Need-put-opening-requires (write-rows-claims t) (write-rows-at t) write-rows.Post write-rows-Inv-loop write-rows-μ-loop
-write-rows-put-opening-requires t c κs = let e = c .before .before .before in let a = e .before .before .before .before .before .before .before .before .before .args in let g = e .before .before .before .before .loop in
+write-rows-put-opening-requires t c κs = let e = c .before .before .before .before .before .before in let a = e .before .before .before .before .before .before .before .before .before .args in let g = e .before .before .before .before .loop in
     let p = e .before .before .before .before .before .before .before .before .before .pre .1 in
     let m : g .i < a .to = e .before .before .before .loop-test .taken in
     let x = e .next in
@@ -168,109 +337,105 @@ write-rows-put-opening-requires t c κs = let e = c .before .before .before in l
 write-rows-inside-requires : (t : ℕ) → write-rows-lts.Need-inside-requires (write-rows-claims t) (write-rows-at t) write-rows.Post write-rows-Inv-loop write-rows-μ-loop
 write-rows-inside-requires t c κs = search needs
 
-write-rows-below-requires : (t : ℕ) → write-rows-lts.Need-below-requires (write-rows-claims t) (write-rows-at t) write-rows.Post write-rows-Inv-loop write-rows-μ-loop
-write-rows-below-requires t c κs = let a = c .before .before .before .before .before .before .before .before .before .before .before .before .before .before .before .before .args in let n : a .left ≤ 4294967296 = omega (arith, c .before .before .before .before .before .before .before .before .before .before .before .before .before .before .before .before .pre .1 .3) in n
-
 write-rows-write-rows-requires : (t : ℕ) → write-rows-lts.Need-write-rows-requires (write-rows-claims t) (write-rows-at t) write-rows.Post write-rows-Inv-loop write-rows-μ-loop
-write-rows-write-rows-requires t c κs = let e = c .before .before .before .before .before .before .before .before .before in let a = e .before .before .before .before .before .before .before .before .before .args in let g = e .before .before .before .before .loop in
+write-rows-write-rows-requires t c κs = let e = c .before .before .before .before .before .before .before .before .before .before .before in let a = e .before .before .before .before .before .before .before .before .before .args in let g = e .before .before .before .before .loop in
     let p = e .before .before .before .before .before .before .before .before .before .pre .1 in
     let x = e .next in
     let lo : g .i < x .result = turn-low t e in
     let hi : x .result ≤ a .to = turn-high t e in
     let s : g .at + a .from * widest ≤ a .begin + g .i * widest = g .inv .small in
     let b : a .begin ≤ a .from * widest = p .4 in
-    let o : c .before .before .before .before .before .put-opening .result .at ≤ g .at + 8589934710 = c .before .before .before .before .before .put-opening .ensures .1 in
+    let o : c .before .before .before .before .put-opening .result .at ≤ g .at + 8589934710 = c .before .before .before .before .put-opening .ensures .1 in
     let size = e .before .before .before .before .before .before .before .before .before .pre .0 in
     let f : x .result - (g .i + 1) < a .to - a .from = rows-fall (a .from) (g .i) (x .result) (a .to) (g .inv .lo) lo hi in
     let few : a .to ≤ 33554432 = p .2 in
     let long : 7 * a .to ≤ length (a .tree .now) = p .1 in
     let deep : a .left + (a .to - a .from) ≤ 4294967296 = p .3 in
-    let l1 : c .before .below .result ≤ a .left + 1 = subst (λ (y : ℕ). y ≤ a .left + 1) (sym (c .before .below .ensures)) (below-le (g .st) (c .before .before .before .before .before .before .before .before .kind .result) (a .left)) in
+    let l1 : c .before .before .before .before .before .before .before .before .below .result ≤ a .left + 1 = subst (λ (y : ℕ). y ≤ a .left + 1) (sym (c .before .before .before .before .before .before .before .before .below .ensures)) (below-le (g .st) (c .before .before .before .before .before .before .before .before .before .before .kind .result) (a .left)) in
     let n1 : 7 * x .result ≤ length (a .tree .now) = omega (arith, hi, long) in
     let n2 : x .result ≤ 33554432 = omega (arith, hi, few) in
-    let n3 : c .before .below .result + (x .result - (g .i + 1)) ≤ 4294967296 = omega (arith, l1, f, deep) in
-    let n4 : c .before .before .before .before .before .put-opening .result .at ≤ (g .i + 1) * widest = omega (arith, s, b, o) in
+    let n3 : c .before .before .before .before .before .before .before .before .below .result + (x .result - (g .i + 1)) ≤ 4294967296 = omega (arith, l1, f, deep) in
+    let n4 : c .before .before .before .before .put-opening .result .at ≤ (g .i + 1) * widest = omega (arith, s, b, o) in
     (omega arith, (omega (arith, lo), n1, n2, n3, n4, p .5))
 
-write-rows-unlawful-requires-3 : (t : ℕ) → write-rows-lts.Need-unlawful-requires-3 (write-rows-claims t) (write-rows-at t) write-rows.Post write-rows-Inv-loop write-rows-μ-loop
-write-rows-unlawful-requires-3 t c κs = search needs
+write-rows-unlawful-requires-5 : (t : ℕ) → write-rows-lts.Need-unlawful-requires-5 (write-rows-claims t) (write-rows-at t) write-rows.Post write-rows-Inv-loop write-rows-μ-loop
+write-rows-unlawful-requires-5 t c κs = search needs
 
-write-rows-same-length-3 : (t : ℕ) → write-rows-lts.Need-same-length-3 (write-rows-claims t) (write-rows-at t) write-rows.Post write-rows-Inv-loop write-rows-μ-loop
-write-rows-same-length-3 t c = c .before .before .before .before .before .write-rows .kept .1 .1 .1 .1 .1 .1 .1 .1 .0 ∙ c .before .before .before .before .before .before .before .before .before .before .before .put-opening .kept .1 .1 .1 .1 .1 .0 ∙ c .before .before .before .before .before .before .before .before .before .before .before .before .before .before .before .before .before .before .before .loop .inv .same
+write-rows-same-length-5 : (t : ℕ) → write-rows-lts.Need-same-length-5 (write-rows-claims t) (write-rows-at t) write-rows.Post write-rows-Inv-loop write-rows-μ-loop
+write-rows-same-length-5 t c = c .before .before .before .before .before .write-rows .kept .1 .1 .1 .1 .1 .1 .1 .1 .0 ∙ c .before .before .before .before .before .before .before .before .before .before .put-opening .kept .1 .1 .1 .1 .1 .0 ∙ c .before .before .before .before .before .before .before .before .before .before .before .before .before .before .before .before .before .before .before .before .before .loop .inv .same
 
-write-rows-returns-3 : (t : ℕ) → write-rows-lts.Need-returns-3 (write-rows-claims t) (write-rows-at t) write-rows.Post write-rows-Inv-loop write-rows-μ-loop
-write-rows-returns-3 t c = let e = c .before .before .before .before .before .before .before .before .before .before .before .before .before .before .before in let a = e .before .before .before .before .before .before .before .before .before .args in let g = e .before .before .before .before .loop in
+write-rows-returns-5 : (t : ℕ) → write-rows-lts.Need-returns-5 (write-rows-claims t) (write-rows-at t) write-rows.Post write-rows-Inv-loop write-rows-μ-loop
+write-rows-returns-5 t c = let e = c .before .before .before .before .before .before .before .before .before .before .before .before .before .before .before .before .before in let a = e .before .before .before .before .before .before .before .before .before .args in let g = e .before .before .before .before .loop in
     let p = e .before .before .before .before .before .before .before .before .before .pre .1 in
     let x = e .next in
     let lo : g .i < x .result = turn-low t e in
     let hi : x .result ≤ a .to = turn-high t e in
-    let k = c .before .before .before .before .before .before .before .before .before .before .before .before .before .before .kind in
-    going-not (a .src .now) (a .tree .now) (a .from) (a .to) (a .start) (a .left) (a .begin) (g .i) (g .st) (g .at) (g .good) (a .out .now) (g .out) (g .inv) _ _ _ _ (c .unlawful3 .ensures)
-    (stop-kids (a .tree .now) (g .i) (a .to) (g .st) (a .left) (k .result) (x .result) (k .ensures) (x .ensures) (p .1) lo hi
-    (kids-found (a .src .now) (a .tree .now) (g .i) (x .result) (g .st) (k .result) (a .left) _ _ _ _ _ _ _ _ (c .before .before .before .before .before .write-rows .ensures) (c .before .before .before .before .before .before .before .before .inside .ensures) (c .before .before .before .before .before .before .before .below .ensures) ∙ not-true _ (c .before .if4 .taken)))
+    going-not (a .src .now) (a .tree .now) (a .from) (a .to) (a .start) (a .left) (a .begin) (g .i) (g .st) (g .at) (g .good) (a .out .now) (g .out) (g .inv) _ _ _ _ (c .unlawful5 .ensures)
+    (stop-kids (a .tree .now) (g .i) (a .to) (g .st) (a .left) (c .before .before .before .before .before .before .before .before .before .before .before .before .before .before .before .before .kind .result) (x .result) (c .before .before .before .before .before .before .before .before .before .before .before .before .before .before .before .before .kind .ensures) (x .ensures) (p .1) lo hi
+    (kids-found (a .src .now) (a .tree .now) (g .i) (x .result) (g .st) (c .before .before .before .before .before .before .before .before .before .before .before .before .before .before .before .before .kind .result) (a .left) _ _ _ _ _ _ _ _ (c .before .before .before .before .before .write-rows .ensures) (c .before .before .before .before .before .before .before .inside .ensures) (c .before .before .before .before .before .before .before .before .before .before .before .before .before .before .below .ensures) ∙ not-true _ (c .before .if7 .taken)))
 
 write-rows-put-closing-requires : (t : ℕ) → write-rows-lts.Need-put-closing-requires (write-rows-claims t) (write-rows-at t) write-rows.Post write-rows-Inv-loop write-rows-μ-loop
-write-rows-put-closing-requires t c κs = let e = c .before .before .before .before .before .before .before .before .before .before .before .before .before .before .before in let a = e .before .before .before .before .before .before .before .before .before .args in let g = e .before .before .before .before .loop in
+write-rows-put-closing-requires t c κs = let e = c .before .before .before .before .before .before .before .before .before .before .before .before .before .before .before .before .before in let a = e .before .before .before .before .before .before .before .before .before .args in let g = e .before .before .before .before .loop in
     let p = e .before .before .before .before .before .before .before .before .before .pre .1 in
     let x = e .next in
     let lo : g .i < x .result = turn-low t e in
     let hi : x .result ≤ a .to = turn-high t e in
     let s : g .at + a .from * widest ≤ a .begin + g .i * widest = g .inv .small in
     let b : a .begin ≤ a .from * widest = p .4 in
-    let o : c .before .before .before .before .before .before .before .before .before .before .before .put-opening .result .at ≤ g .at + 8589934710 = c .before .before .before .before .before .before .before .before .before .before .before .put-opening .ensures .1 in
+    let o : c .before .before .before .before .before .before .before .before .before .before .put-opening .result .at ≤ g .at + 8589934710 = c .before .before .before .before .before .before .before .before .before .before .put-opening .ensures .1 in
     let few : a .to ≤ 33554432 = p .2 in
-    let r : c .before .before .before .before .before .write-rows .result .at + (g .i + 1) * widest ≤ c .before .before .before .before .before .before .before .before .before .before .before .put-opening .result .at + x .result * widest = c .before .before .before .before .before .write-rows .ensures .small (not-false _ (c .before .if4 .left)) in
+    let r : c .before .before .before .before .before .write-rows .result .at + (g .i + 1) * widest ≤ c .before .before .before .before .before .before .before .before .before .before .put-opening .result .at + x .result * widest = c .before .before .before .before .before .write-rows .ensures .small (not-false _ (c .before .if7 .left)) in
     let z : c .before .before .before .before .before .write-rows .result .at ≤ 1152921504606846976 = omega (arith, s, b, o, few, r, hi) in
     z
 
-write-rows-after-requires-2 : (t : ℕ) → write-rows-lts.Need-after-requires-2 (write-rows-claims t) (write-rows-at t) write-rows.Post write-rows-Inv-loop write-rows-μ-loop
-write-rows-after-requires-2 t c κs = search needs
+write-rows-after-requires-3 : (t : ℕ) → write-rows-lts.Need-after-requires-3 (write-rows-claims t) (write-rows-at t) write-rows.Post write-rows-Inv-loop write-rows-μ-loop
+write-rows-after-requires-3 t c κs = search needs
 
-write-rows-loop-less-2 : (t : ℕ) → write-rows-lts.Need-loop-less-2 (write-rows-claims t) (write-rows-at t) write-rows.Post write-rows-Inv-loop write-rows-μ-loop
-write-rows-loop-less-2 t c = let e = c .before .before .before .before .before .before .before .before .before .before .before .before .before .before .before .before .before .before .before .before .before in let a = e .before .before .before .before .before .before .before .before .before .args in let g = e .before .before .before .before .loop in
+write-rows-loop-less-3 : (t : ℕ) → write-rows-lts.Need-loop-less-3 (write-rows-claims t) (write-rows-at t) write-rows.Post write-rows-Inv-loop write-rows-μ-loop
+write-rows-loop-less-3 t c = let e = c .before .before .before .before .before .before .before .before .before .before .before .before .before .before .before .before .before .before .before .before .before .before .before in let a = e .before .before .before .before .before .before .before .before .before .args in let g = e .before .before .before .before .loop in
+    let p = e .before .before .before .before .before .before .before .before .before .pre .1 in
     let x = e .next in
     let lo : g .i < x .result = turn-low t e in
     let hi : x .result ≤ a .to = turn-high t e in
     left-falls (g .i) (x .result) (a .to) lo hi
 
-write-rows-loop-again-2 : (t : ℕ) → write-rows-lts.Need-loop-again-2 (write-rows-claims t) (write-rows-at t) write-rows.Post write-rows-Inv-loop write-rows-μ-loop
-write-rows-loop-again-2 t c = let e = c .before .before .before .before .before .before .before .before .before .before .before .before .before .before .before .before .before .before .before .before .before in let a = e .before .before .before .before .before .before .before .before .before .args in let g = e .before .before .before .before .loop in
+write-rows-loop-again-3 : (t : ℕ) → write-rows-lts.Need-loop-again-3 (write-rows-claims t) (write-rows-at t) write-rows.Post write-rows-Inv-loop write-rows-μ-loop
+write-rows-loop-again-3 t c = let e = c .before .before .before .before .before .before .before .before .before .before .before .before .before .before .before .before .before .before .before .before .before .before .before in let a = e .before .before .before .before .before .before .before .before .before .args in let g = e .before .before .before .before .loop in
     let p = e .before .before .before .before .before .before .before .before .before .pre .1 in
     let x = e .next in
     let lo : g .i < x .result = turn-low t e in
     let hi : x .result ≤ a .to = turn-high t e in
-    let k = c .before .before .before .before .before .before .before .before .before .before .before .before .before .before .before .before .before .before .before .before .kind in
     let long : 7 * x .result ≤ length (a .tree .now) = omega (arith, hi, p .1) in
-    let yes = not-false _ (c .before .before .before .before .before .before .before .if4 .left) in
-    going-turn (a .src .now) (a .tree .now) (a .from) (a .to) (a .start) (a .left) (a .begin) (g .i) (g .st) (g .at) (g .good) (a .out .now) (g .out) (g .inv) (k .result) (x .result) (k .ensures) (x .ensures) (p .1) lo hi
+    let yes = not-false _ (c .before .before .before .before .before .before .before .if7 .left) in
+    going-turn (a .src .now) (a .tree .now) (a .from) (a .to) (a .start) (a .left) (a .begin) (g .i) (g .st) (g .at) (g .good) (a .out .now) (g .out) (g .inv) (c .before .before .before .before .before .before .before .before .before .before .before .before .before .before .before .before .before .before .before .before .before .before .kind .result) (x .result) (c .before .before .before .before .before .before .before .before .before .before .before .before .before .before .before .before .before .before .before .before .before .before .kind .ensures) (x .ensures) (p .1) lo hi
     (turn-row t e)
-    (kids-found (a .src .now) (a .tree .now) (g .i) (x .result) (g .st) (k .result) (a .left) _ _ _ _ _ _ _ _ (c .before .before .before .before .before .before .before .before .before .before .before .write-rows .ensures) (c .before .before .before .before .before .before .before .before .before .before .before .before .before .before .inside .ensures) (c .before .before .before .before .before .before .before .before .before .before .before .before .before .below .ensures) ∙ yes) _ _ _ _ (c .after2 .ensures)
-    (node-whole (a .src .now) (a .tree .now) (g .i) (x .result) (g .st) (k .result) (a .left) lo long (g .at) _ _ _ _ _ _ _ _ _ _ _ _
-    (c .before .before .before .before .before .before .before .before .before .before .before .before .before .before .before .before .before .put-opening .ensures .0) (c .before .before .before .before .before .before .before .before .before .before .before .before .before .before .before .before .before .put-opening .kept .1 .1 .1 .1 .1 .0) (c .before .before .before .before .before .before .before .before .before .before .before .before .before .before .before .before .before .put-opening .ensures .1) (c .before .before .before .before .before .before .before .before .before .before .before .before .before .before .before .before .before .put-opening .ensures .2)
-    (c .before .before .before .before .before .before .before .before .before .before .before .before .before .before .inside .ensures) (c .before .before .before .before .before .before .before .before .before .before .before .before .before .below .ensures) (c .before .before .before .before .before .before .before .before .before .before .before .write-rows .ensures) (c .before .before .before .before .before .before .before .before .before .before .before .write-rows .kept .1 .1 .1 .1 .1 .1 .1 .1 .0) yes
+    (kids-found (a .src .now) (a .tree .now) (g .i) (x .result) (g .st) (c .before .before .before .before .before .before .before .before .before .before .before .before .before .before .before .before .before .before .before .before .before .before .kind .result) (a .left) _ _ _ _ _ _ _ _ (c .before .before .before .before .before .before .before .before .before .before .before .write-rows .ensures) (c .before .before .before .before .before .before .before .before .before .before .before .before .before .inside .ensures) (c .before .before .before .before .before .before .before .before .before .before .before .before .before .before .before .before .before .before .before .before .below .ensures) ∙ yes) _ _ _ _ (c .after3 .ensures)
+    (node-whole (a .src .now) (a .tree .now) (g .i) (x .result) (g .st) (c .before .before .before .before .before .before .before .before .before .before .before .before .before .before .before .before .before .before .before .before .before .before .kind .result) (a .left) lo long (g .at) _ _ _ _ _ _ _ _ _ _ _ _
+    (c .before .before .before .before .before .before .before .before .before .before .before .before .before .before .before .before .put-opening .ensures .0) (c .before .before .before .before .before .before .before .before .before .before .before .before .before .before .before .before .put-opening .kept .1 .1 .1 .1 .1 .0) (c .before .before .before .before .before .before .before .before .before .before .before .before .before .before .before .before .put-opening .ensures .1) (c .before .before .before .before .before .before .before .before .before .before .before .before .before .before .before .before .put-opening .ensures .2)
+    (c .before .before .before .before .before .before .before .before .before .before .before .before .before .inside .ensures) (c .before .before .before .before .before .before .before .before .before .before .before .before .before .before .before .before .before .before .before .before .below .ensures) (c .before .before .before .before .before .before .before .before .before .before .before .write-rows .ensures) (c .before .before .before .before .before .before .before .before .before .before .before .write-rows .kept .1 .1 .1 .1 .1 .1 .1 .1 .0) yes
     (c .before .before .before .before .before .put-closing .ensures .0) (c .before .before .before .before .before .put-closing .kept .1 .1 .1 .1 .0) (c .before .before .before .before .before .put-closing .ensures .1))
 
 write-rows-ends-requires : (t : ℕ) → write-rows-lts.Need-ends-requires (write-rows-claims t) (write-rows-at t) write-rows.Post write-rows-Inv-loop write-rows-μ-loop
 write-rows-ends-requires t c κs = search needs
 
-write-rows-unlawful-requires-4 : (t : ℕ) → write-rows-lts.Need-unlawful-requires-4 (write-rows-claims t) (write-rows-at t) write-rows.Post write-rows-Inv-loop write-rows-μ-loop
-write-rows-unlawful-requires-4 t c κs = search needs
+write-rows-unlawful-requires-6 : (t : ℕ) → write-rows-lts.Need-unlawful-requires-6 (write-rows-claims t) (write-rows-at t) write-rows.Post write-rows-Inv-loop write-rows-μ-loop
+write-rows-unlawful-requires-6 t c κs = search needs
 
-write-rows-same-length-4 : (t : ℕ) → write-rows-lts.Need-same-length-4 (write-rows-claims t) (write-rows-at t) write-rows.Post write-rows-Inv-loop write-rows-μ-loop
-write-rows-same-length-4 t c = c .before .before .before .before .loop .inv .same
+write-rows-same-length-6 : (t : ℕ) → write-rows-lts.Need-same-length-6 (write-rows-claims t) (write-rows-at t) write-rows.Post write-rows-Inv-loop write-rows-μ-loop
+write-rows-same-length-6 t c = c .before .before .before .before .loop .inv .same
 
-write-rows-returns-4 : (t : ℕ) → write-rows-lts.Need-returns-4 (write-rows-claims t) (write-rows-at t) write-rows.Post write-rows-Inv-loop write-rows-μ-loop
-write-rows-returns-4 t c = let a = c .before .before .before .before .before .before .before .before .before .args in let g = c .before .before .before .before .loop in
+write-rows-returns-6 : (t : ℕ) → write-rows-lts.Need-returns-6 (write-rows-claims t) (write-rows-at t) write-rows.Post write-rows-Inv-loop write-rows-μ-loop
+write-rows-returns-6 t c = let a = c .before .before .before .before .before .before .before .before .before .args in let g = c .before .before .before .before .loop in
     let h = g .inv .hi in
-    going-not (a .src .now) (a .tree .now) (a .from) (a .to) (a .start) (a .left) (a .begin) (g .i) (g .st) (g .at) (g .good) (a .out .now) (g .out) (g .inv) _ _ _ _ (c .unlawful4 .ensures) (ok-end (a .tree .now) (g .i) (a .to) (g .st) (a .left) (omega arith) ∙ sym (c .before .before .ends .ensures) ∙ not-true _ (c .before .if5 .taken))
+    going-not (a .src .now) (a .tree .now) (a .from) (a .to) (a .start) (a .left) (a .begin) (g .i) (g .st) (g .at) (g .good) (a .out .now) (g .out) (g .inv) _ _ _ _ (c .unlawful6 .ensures) (ok-end (a .tree .now) (g .i) (a .to) (g .st) (a .left) (omega arith) ∙ sym (c .before .before .ends .ensures) ∙ not-true _ (c .before .if8 .taken))
 
-write-rows-same-length-5 : (t : ℕ) → write-rows-lts.Need-same-length-5 (write-rows-claims t) (write-rows-at t) write-rows.Post write-rows-Inv-loop write-rows-μ-loop
-write-rows-same-length-5 t c = c .before .before .before .loop .inv .same
+write-rows-same-length-7 : (t : ℕ) → write-rows-lts.Need-same-length-7 (write-rows-claims t) (write-rows-at t) write-rows.Post write-rows-Inv-loop write-rows-μ-loop
+write-rows-same-length-7 t c = c .before .before .before .loop .inv .same
 
-write-rows-returns-5 : (t : ℕ) → write-rows-lts.Need-returns-5 (write-rows-claims t) (write-rows-at t) write-rows.Post write-rows-Inv-loop write-rows-μ-loop
-write-rows-returns-5 t c = let a = c .before .before .before .before .before .before .before .before .args in let g = c .before .before .before .loop in
+write-rows-returns-7 : (t : ℕ) → write-rows-lts.Need-returns-7 (write-rows-claims t) (write-rows-at t) write-rows.Post write-rows-Inv-loop write-rows-μ-loop
+write-rows-returns-7 t c = let a = c .before .before .before .before .before .before .before .before .args in let g = c .before .before .before .loop in
     let h = g .inv .hi in
-    going-end (a .src .now) (a .tree .now) (a .from) (a .to) (a .start) (a .left) (a .begin) (g .i) (g .st) (g .at) (g .good) (a .out .now) (g .out) (g .inv) (omega arith) (sym (c .before .ends .ensures) ∙ not-false _ (c .if5 .left))
+    going-end (a .src .now) (a .tree .now) (a .from) (a .to) (a .start) (a .left) (a .begin) (g .i) (g .st) (g .at) (g .good) (a .out .now) (g .out) (g .inv) (omega arith) (sym (c .before .ends .ensures) ∙ not-false _ (c .if8 .left))
 
 pub +write-rows-spec : {M : Type 1} → statement M
 +write-rows-spec = close μ-write-rows λ t. write-rows-lts.spec (write-rows-claims t)
@@ -293,20 +458,35 @@ pub +write-rows-spec : {M : Type 1} → statement M
     (write-rows-loop-less t)
     (write-rows-loop-again t)
     (write-rows-add-first t)
-    (write-rows-put-opening-requires t)
-    (write-rows-inside-requires t)
     (write-rows-below-requires t)
-    (write-rows-write-rows-requires t)
+    (write-rows-is-pair-requires t)
+    (write-rows-next-requires-2 t)
+    (write-rows-write-some-requires t)
     (write-rows-unlawful-requires-3 t)
     (write-rows-same-length-3 t)
     (write-rows-returns-3 t)
-    (write-rows-put-closing-requires t)
-    (write-rows-after-requires-2 t)
-    (write-rows-loop-less-2 t)
-    (write-rows-loop-again-2 t)
-    (write-rows-ends-requires t)
+    (write-rows-put-mark-requires t)
+    (write-rows-write-some-requires-2 t)
     (write-rows-unlawful-requires-4 t)
     (write-rows-same-length-4 t)
     (write-rows-returns-4 t)
+    (write-rows-put-mark-requires-2 t)
+    (write-rows-after-requires-2 t)
+    (write-rows-loop-less-2 t)
+    (write-rows-loop-again-2 t)
+    (write-rows-put-opening-requires t)
+    (write-rows-inside-requires t)
+    (write-rows-write-rows-requires t)
+    (write-rows-unlawful-requires-5 t)
     (write-rows-same-length-5 t)
     (write-rows-returns-5 t)
+    (write-rows-put-closing-requires t)
+    (write-rows-after-requires-3 t)
+    (write-rows-loop-less-3 t)
+    (write-rows-loop-again-3 t)
+    (write-rows-ends-requires t)
+    (write-rows-unlawful-requires-6 t)
+    (write-rows-same-length-6 t)
+    (write-rows-returns-6 t)
+    (write-rows-same-length-7 t)
+    (write-rows-returns-7 t)
