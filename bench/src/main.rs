@@ -98,7 +98,7 @@ fn main() -> ExitCode {
         .collect();
     print!("{}", table::step("Parsing", &parsed, |m| m.parsing));
     let both = |m: &Measured| m.reading.plus(m.parsing);
-    print!("{}", table::step("Reading and parsing", &measured, both));
+    print!("{}", table::step("Reading and parsing", &all, both));
     let ends: Vec<_> = measured
         .iter()
         .zip(&deliveries)

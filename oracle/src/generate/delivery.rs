@@ -34,7 +34,7 @@ pub fn delivery(seed: u64, size: usize) -> String {
 }
 
 /// Hostile files that reading takes whole, by name.
-pub const HOSTILE: [&str; 20] = [
+pub const HOSTILE: [&str; 22] = [
     "stars",
     "spaced-stars",
     "block-comments",
@@ -52,6 +52,8 @@ pub const HOSTILE: [&str; 20] = [
     "numbers",
     "nests",
     "empty-sentences",
+    "short-sentences",
+    "code-tables",
     "declared-names",
     "words",
     "bracketed-names",
@@ -77,6 +79,8 @@ pub fn hostile(name: &str, size: usize) -> String {
         "numbers" => repeat("F {", " 4294967295 -12.5E07", " = ; }", size),
         "nests" => repeat("F {", &nest(), " = ; }", size),
         "empty-sentences" => repeat("F {", "=;", "}", size),
+        "short-sentences" => repeat("F {", " A = B;", " }", size),
+        "code-tables" => repeat("F {", "\n  'DE' = Germany; 25 = Keep 10;", "\n}", size),
         "declared-names" => repeat("$EXTRN A", ",A", ";", size),
         "words" => repeat("F {", " e.1 A", " = ; }", size),
         "bracketed-names" => repeat("F { =", "(A)", "; }", size),
