@@ -76,6 +76,18 @@ turn-row : (t : ℕ) (e : Turn t) → rowOk (e .before .before .before .before .
 turn-row t e = let a = e .before .before .before .before .before .before .before .before .before .args in let g = e .before .before .before .before .loop in
     fits-row (a .tree .now) (g .i) (a .to) (g .st) (a .left) (turn-fits t e)
 
+turn-at : (t : ℕ) (e : Turn t) → e .before .before .before .before .loop .at ≤ e .before .before .before .before .loop .i * widest
+turn-at t e = let a = e .before .before .before .before .before .before .before .before .before .args in let g = e .before .before .before .before .loop in
+    let s : g .at + a .from * widest ≤ a .begin + g .i * widest = g .inv .small in
+    let b : a .begin ≤ a .from * widest = e .before .before .before .before .before .before .before .before .before .pre .1 .4 in
+    omega (arith, s, b)
+
+turn-long : (t : ℕ) (e : Turn t) → 7 * e .next .result ≤ length (e .before .before .before .before .before .before .before .before .before .args .tree .now)
+turn-long t e = let h = turn-high t e in omega (arith, h, e .before .before .before .before .before .before .before .before .before .pre .1 .1)
+
+turn-few : (t : ℕ) (e : Turn t) → e .next .result ≤ 33554432
+turn-few t e = let h = turn-high t e in omega (arith, h, e .before .before .before .before .before .before .before .before .before .pre .1 .2)
+
 write-rows-loop-holds : (t : ℕ) → write-rows-lts.Need-loop-holds (write-rows-claims t) (write-rows-at t) write-rows.Post write-rows-Inv-loop write-rows-μ-loop
 write-rows-loop-holds t c = let a = c .before .before .before .before .args in going-start (a .src .now) (a .tree .now) (a .from) (a .to) (a .start) (a .left) (a .begin) (a .out .now) (c .before .before .before .before .pre .1 .0)
 
@@ -100,20 +112,9 @@ write-rows-kind-requires : (t : ℕ) → write-rows-lts.Need-kind-requires (writ
 write-rows-kind-requires t c κs = search needs
 
 write-rows-write-terms-row-requires : (t : ℕ) → write-rows-lts.Need-write-terms-row-requires (write-rows-claims t) (write-rows-at t) write-rows.Post write-rows-Inv-loop write-rows-μ-loop
-write-rows-write-terms-row-requires t c κs = let e = c .before .before .before in let a = e .before .before .before .before .before .before .before .before .before .args in let g = e .before .before .before .before .loop in
-    let p = e .before .before .before .before .before .before .before .before .before .pre .1 in
-    let x = e .next in
-    let lo : g .i < x .result = turn-low t e in
-    let hi : x .result ≤ a .to = turn-high t e in
-    let s : g .at + a .from * widest ≤ a .begin + g .i * widest = g .inv .small in
-    let b : a .begin ≤ a .from * widest = p .4 in
-    let few : a .to ≤ 33554432 = p .2 in
-    let long : 7 * a .to ≤ length (a .tree .now) = p .1 in
-    let n1 : 7 * x .result ≤ length (a .tree .now) = omega (arith, hi, long) in
-    let n2 : x .result ≤ 33554432 = omega (arith, hi, few) in
-    let n3 : g .at ≤ g .i * widest = omega (arith, s, b) in
-    let n4 : a .left ≤ 4294967296 = omega arith in
-    (lo, n1, n2, n3, n4, sym (c .before .before .kind .ensures) ∙ c .before .if2 .taken, p .5)
+write-rows-write-terms-row-requires t c κs = let e = c .before .before .before in
+    let deep = c .before .before .before .before .before .before .before .before .before .before .before .before .pre .1 .3 in
+    (turn-low t e, turn-long t e, turn-few t e, turn-at t e, omega (arith, deep), sym (c .before .before .kind .ensures) ∙ c .before .if2 .taken, c .before .before .before .before .before .before .before .before .before .before .before .before .pre .1 .5)
 
 write-rows-unlawful-requires-2 : (t : ℕ) → write-rows-lts.Need-unlawful-requires-2 (write-rows-claims t) (write-rows-at t) write-rows.Post write-rows-Inv-loop write-rows-μ-loop
 write-rows-unlawful-requires-2 t c κs = search needs
@@ -160,26 +161,13 @@ write-rows-below-requires : (t : ℕ) → write-rows-lts.Need-below-requires (wr
 write-rows-below-requires t c κs = let a = c .before .before .before .before .before .before .before .before .before .before .before .args in let n : a .left ≤ 4294967296 = omega (arith, c .before .before .before .before .before .before .before .before .before .before .before .pre .1 .3) in n
 
 write-rows-is-pair-requires : (t : ℕ) → write-rows-lts.Need-is-pair-requires (write-rows-claims t) (write-rows-at t) write-rows.Post write-rows-Inv-loop write-rows-μ-loop
-write-rows-is-pair-requires t c κs = let e = c .before .before .before in let a = e .before .before .before .before .before .before .before .before .before .args in let g = e .before .before .before .before .loop in
-    let p = e .before .before .before .before .before .before .before .before .before .pre .1 in
-    let x = e .next in
-    let lo : g .i < x .result = turn-low t e in
-    let hi : x .result ≤ a .to = turn-high t e in
-    let long : 7 * a .to ≤ length (a .tree .now) = p .1 in
-    let n : 7 * x .result ≤ length (a .tree .now) = omega (arith, hi, long) in
-    (omega (arith, lo), n)
+write-rows-is-pair-requires t c κs = let l = turn-low t (c .before .before .before) in (omega (arith, l), turn-long t (c .before .before .before))
 
 write-rows-next-requires-2 : (t : ℕ) → write-rows-lts.Need-next-requires-2 (write-rows-claims t) (write-rows-at t) write-rows.Post write-rows-Inv-loop write-rows-μ-loop
-write-rows-next-requires-2 t c κs = let e = c .before .before .before .before .before in let a = e .before .before .before .before .before .before .before .before .before .args in let g = e .before .before .before .before .loop in
-    let p = e .before .before .before .before .before .before .before .before .before .pre .1 in
-    let x = e .next in
-    let lo : g .i < x .result = turn-low t e in
-    let hi : x .result ≤ a .to = turn-high t e in
-    let long : 7 * a .to ≤ length (a .tree .now) = p .1 in
-    let P = c .before .is-pair .ensures (c .if4 .taken) in
+write-rows-next-requires-2 t c κs = let P = c .before .is-pair .ensures (c .if4 .taken) in
     let l = P .low in
     let h = P .high in
-    omega (arith, l, h, hi, long)
+    omega (arith, l, h, turn-long t (c .before .before .before .before .before))
 
 -- ---- a sentence of two rows of terms, once the second is known
 abbrev Half : ℕ → Type 0
@@ -195,21 +183,11 @@ half-high : (t : ℕ) (c : Half t) → c .next2 .result < c .before .before .bef
 half-high t c = subst (λ (y : ℕ). y < c .before .before .before .before .before .before .next .result) (sym (c .next2 .ensures)) (half-pair t c .high)
 
 write-rows-write-some-requires : (t : ℕ) → write-rows-lts.Need-write-some-requires (write-rows-claims t) (write-rows-at t) write-rows.Post write-rows-Inv-loop write-rows-μ-loop
-write-rows-write-some-requires t c κs = let e = c .before .before .before .before .before .before .before in let a = e .before .before .before .before .before .before .before .before .before .args in let g = e .before .before .before .before .loop in
-    let p = e .before .before .before .before .before .before .before .before .before .pre .1 in
-    let x = e .next in
-    let lo : g .i < x .result = turn-low t e in
-    let hi : x .result ≤ a .to = turn-high t e in
-    let long : 7 * a .to ≤ length (a .tree .now) = p .1 in
-    let few : a .to ≤ 33554432 = p .2 in
-    let s : g .at + a .from * widest ≤ a .begin + g .i * widest = g .inv .small in
-    let b : a .begin ≤ a .from * widest = p .4 in
+write-rows-write-some-requires t c κs = let e = c .before .before .before .before .before .before .before in let g = e .before .before .before .before .loop in
+    let n = turn-at t e in
     let l = half-low t (c .before) in
     let h = half-high t (c .before) in
-    let n1 : 7 * c .before .next2 .result ≤ length (a .tree .now) = omega (arith, h, hi, long) in
-    let n2 : c .before .next2 .result ≤ 33554432 = omega (arith, h, hi, few) in
-    let n3 : g .at ≤ (g .i + 1 + 1) * widest = omega (arith, s, b) in
-    (l, n1, n2, n3, p .5)
+    (l, omega (arith, h, turn-long t e), omega (arith, h, turn-few t e), omega (arith, n), c .before .before .before .before .before .before .before .before .before .before .before .before .before .before .before .before .pre .1 .5)
 
 write-rows-unlawful-requires-3 : (t : ℕ) → write-rows-lts.Need-unlawful-requires-3 (write-rows-claims t) (write-rows-at t) write-rows.Post write-rows-Inv-loop write-rows-μ-loop
 write-rows-unlawful-requires-3 t c κs = search needs
@@ -223,45 +201,27 @@ write-rows-returns-3 t c = let e = c .before .before .before .before .before .be
     let x = e .next in
     let lo : g .i < x .result = turn-low t e in
     let hi : x .result ≤ a .to = turn-high t e in
-    let long : 7 * x .result ≤ length (a .tree .now) = omega (arith, hi, p .1) in
+    let long = turn-long t e in
     going-not (a .src .now) (a .tree .now) (a .from) (a .to) (a .start) (a .left) (a .begin) (g .i) (g .st) (g .at) (g .good) (a .out .now) (g .out) (g .inv) _ _ _ _ (c .unlawful3 .ensures)
     (stop-kids (a .tree .now) (g .i) (a .to) (g .st) (a .left) (c .before .before .before .before .before .before .before .before .before .before .before .before .kind .result) (x .result) (c .before .before .before .before .before .before .before .before .before .before .before .before .kind .ensures) (x .ensures) (p .1) lo hi
     (pair-stop (a .src .now) (a .tree .now) (g .i) (c .before .before .before .before .before .before .before .next2 .result) (x .result) (g .st) (c .before .before .before .before .before .before .before .before .before .before .before .before .kind .result) (a .left) (c .before .before .before .before .before .before .before .before .before .before .below .result) (half-pair t (c .before .before .before .before .before .before .before)) (c .before .before .before .before .before .before .before .next2 .ensures) (c .before .before .before .before .before .before .before .before .before .before .before .before .kind .ensures) (c .before .before .before .before .before .before .before .before .before .before .below .ensures) long (sym (c .before .before .before .before .before .write-some .ensures .lawful-is) ∙ not-true _ (c .before .if5 .taken))))
 
 write-rows-put-mark-requires : (t : ℕ) → write-rows-lts.Need-put-mark-requires (write-rows-claims t) (write-rows-at t) write-rows.Post write-rows-Inv-loop write-rows-μ-loop
-write-rows-put-mark-requires t c κs = let e = c .before .before .before .before .before .before .before .before .before .before .before .before .before in let a = e .before .before .before .before .before .before .before .before .before .args in let g = e .before .before .before .before .loop in
-    let p = e .before .before .before .before .before .before .before .before .before .pre .1 in
-    let x = e .next in
-    let lo : g .i < x .result = turn-low t e in
-    let hi : x .result ≤ a .to = turn-high t e in
-    let long : 7 * a .to ≤ length (a .tree .now) = p .1 in
-    let few : a .to ≤ 33554432 = p .2 in
-    let s : g .at + a .from * widest ≤ a .begin + g .i * widest = g .inv .small in
-    let b : a .begin ≤ a .from * widest = p .4 in
+write-rows-put-mark-requires t c κs = let e = c .before .before .before .before .before .before .before .before .before .before .before .before .before in let g = e .before .before .before .before .loop in
+    let n = turn-at t e in
     let l = half-low t (c .before .before .before .before .before .before .before) in
     let h = half-high t (c .before .before .before .before .before .before .before) in
     let r : c .before .before .before .before .before .write-some .result .at + (g .i + 1 + 1) * widest ≤ g .at + c .before .before .before .before .before .before .before .next2 .result * widest = c .before .before .before .before .before .write-some .ensures .small (not-false _ (c .before .if5 .left)) in
-    let z : c .before .before .before .before .before .write-some .result .at ≤ 1152921504606846976 = omega (arith, s, b, few, r, h, hi) in
-    z
+    omega (arith, n, l, h, r, turn-few t e)
 
 write-rows-write-some-requires-2 : (t : ℕ) → write-rows-lts.Need-write-some-requires-2 (write-rows-claims t) (write-rows-at t) write-rows.Post write-rows-Inv-loop write-rows-μ-loop
-write-rows-write-some-requires-2 t c κs = let e = c .before .before .before .before .before .before .before .before .before .before .before .before .before .before .before .before .before in let a = e .before .before .before .before .before .before .before .before .before .args in let g = e .before .before .before .before .loop in
-    let p = e .before .before .before .before .before .before .before .before .before .pre .1 in
-    let x = e .next in
-    let lo : g .i < x .result = turn-low t e in
-    let hi : x .result ≤ a .to = turn-high t e in
-    let long : 7 * a .to ≤ length (a .tree .now) = p .1 in
-    let few : a .to ≤ 33554432 = p .2 in
-    let s : g .at + a .from * widest ≤ a .begin + g .i * widest = g .inv .small in
-    let b : a .begin ≤ a .from * widest = p .4 in
+write-rows-write-some-requires-2 t c κs = let e = c .before .before .before .before .before .before .before .before .before .before .before .before .before .before .before .before .before in let g = e .before .before .before .before .loop in
+    let n = turn-at t e in
     let l = half-low t (c .before .before .before .before .before .before .before .before .before .before .before) in
     let h = half-high t (c .before .before .before .before .before .before .before .before .before .before .before) in
     let r : c .before .before .before .before .before .before .before .before .before .write-some .result .at + (g .i + 1 + 1) * widest ≤ g .at + c .before .before .before .before .before .before .before .before .before .before .before .next2 .result * widest = c .before .before .before .before .before .before .before .before .before .write-some .ensures .small (not-false _ (c .before .before .before .before .before .if5 .left)) in
     let q = c .before .before .before .put-mark .ensures .count in
-    let n1 : 7 * x .result ≤ length (a .tree .now) = omega (arith, hi, long) in
-    let n2 : x .result ≤ 33554432 = omega (arith, hi, few) in
-    let n3 : c .before .before .before .put-mark .result ≤ (c .before .before .before .before .before .before .before .before .before .before .before .next2 .result + 1) * widest = omega (arith, s, b, r, q) in
-    (h, n1, n2, n3, p .5)
+    (h, turn-long t e, turn-few t e, omega (arith, n, r, q), c .before .before .before .before .before .before .before .before .before .before .before .before .before .before .before .before .before .before .before .before .before .before .before .before .before .before .pre .1 .5)
 
 write-rows-unlawful-requires-4 : (t : ℕ) → write-rows-lts.Need-unlawful-requires-4 (write-rows-claims t) (write-rows-at t) write-rows.Post write-rows-Inv-loop write-rows-μ-loop
 write-rows-unlawful-requires-4 t c κs = search needs
@@ -275,28 +235,20 @@ write-rows-returns-4 t c = let e = c .before .before .before .before .before .be
     let x = e .next in
     let lo : g .i < x .result = turn-low t e in
     let hi : x .result ≤ a .to = turn-high t e in
-    let long : 7 * x .result ≤ length (a .tree .now) = omega (arith, hi, p .1) in
+    let long = turn-long t e in
     going-not (a .src .now) (a .tree .now) (a .from) (a .to) (a .start) (a .left) (a .begin) (g .i) (g .st) (g .at) (g .good) (a .out .now) (g .out) (g .inv) _ _ _ _ (c .unlawful4 .ensures)
     (stop-kids (a .tree .now) (g .i) (a .to) (g .st) (a .left) (c .before .before .before .before .before .before .before .before .before .before .before .before .before .before .before .before .before .before .before .before .before .before .kind .result) (x .result) (c .before .before .before .before .before .before .before .before .before .before .before .before .before .before .before .before .before .before .before .before .before .before .kind .ensures) (x .ensures) (p .1) lo hi
     (pair-stop-2 (a .src .now) (a .tree .now) (g .i) (c .before .before .before .before .before .before .before .before .before .before .before .before .before .before .before .before .before .next2 .result) (x .result) (g .st) (c .before .before .before .before .before .before .before .before .before .before .before .before .before .before .before .before .before .before .before .before .before .before .kind .result) (a .left) (c .before .before .before .before .before .before .before .before .before .before .before .before .before .before .before .before .before .before .before .before .below .result) (half-pair t (c .before .before .before .before .before .before .before .before .before .before .before .before .before .before .before .before .before)) (c .before .before .before .before .before .before .before .before .before .before .before .before .before .before .before .before .before .next2 .ensures) (c .before .before .before .before .before .before .before .before .before .before .before .before .before .before .before .before .before .before .before .before .before .before .kind .ensures) (c .before .before .before .before .before .before .before .before .before .before .before .before .before .before .before .before .before .before .before .before .below .ensures) long (sym (c .before .before .before .before .before .before .before .before .before .before .before .before .before .before .before .write-some .ensures .lawful-is) ∙ not-false _ (c .before .before .before .before .before .before .before .before .before .before .before .if5 .left)) (sym (c .before .before .before .before .before .write-some2 .ensures .lawful-is) ∙ not-true _ (c .before .if6 .taken))))
 
 write-rows-put-mark-requires-2 : (t : ℕ) → write-rows-lts.Need-put-mark-requires-2 (write-rows-claims t) (write-rows-at t) write-rows.Post write-rows-Inv-loop write-rows-μ-loop
-write-rows-put-mark-requires-2 t c κs = let e = c .before .before .before .before .before .before .before .before .before .before .before .before .before .before .before .before .before .before .before .before .before .before .before in let a = e .before .before .before .before .before .before .before .before .before .args in let g = e .before .before .before .before .loop in
-    let p = e .before .before .before .before .before .before .before .before .before .pre .1 in
-    let x = e .next in
-    let lo : g .i < x .result = turn-low t e in
-    let hi : x .result ≤ a .to = turn-high t e in
-    let long : 7 * a .to ≤ length (a .tree .now) = p .1 in
-    let few : a .to ≤ 33554432 = p .2 in
-    let s : g .at + a .from * widest ≤ a .begin + g .i * widest = g .inv .small in
-    let b : a .begin ≤ a .from * widest = p .4 in
+write-rows-put-mark-requires-2 t c κs = let e = c .before .before .before .before .before .before .before .before .before .before .before .before .before .before .before .before .before .before .before .before .before .before .before in let g = e .before .before .before .before .loop in
+    let n = turn-at t e in
     let l = half-low t (c .before .before .before .before .before .before .before .before .before .before .before .before .before .before .before .before .before) in
     let h = half-high t (c .before .before .before .before .before .before .before .before .before .before .before .before .before .before .before .before .before) in
     let r : c .before .before .before .before .before .before .before .before .before .before .before .before .before .before .before .write-some .result .at + (g .i + 1 + 1) * widest ≤ g .at + c .before .before .before .before .before .before .before .before .before .before .before .before .before .before .before .before .before .next2 .result * widest = c .before .before .before .before .before .before .before .before .before .before .before .before .before .before .before .write-some .ensures .small (not-false _ (c .before .before .before .before .before .before .before .before .before .before .before .if5 .left)) in
     let q = c .before .before .before .before .before .before .before .before .before .put-mark .ensures .count in
-    let v : c .before .before .before .before .before .write-some2 .result .at + (c .before .before .before .before .before .before .before .before .before .before .before .before .before .before .before .before .before .next2 .result + 1) * widest ≤ c .before .before .before .before .before .before .before .before .before .put-mark .result + x .result * widest = c .before .before .before .before .before .write-some2 .ensures .small (not-false _ (c .before .if6 .left)) in
-    let z : c .before .before .before .before .before .write-some2 .result .at ≤ 1152921504606846976 = omega (arith, s, b, few, r, q, v, h, hi) in
-    z
+    let v : c .before .before .before .before .before .write-some2 .result .at + (c .before .before .before .before .before .before .before .before .before .before .before .before .before .before .before .before .before .next2 .result + 1) * widest ≤ c .before .before .before .before .before .before .before .before .before .put-mark .result + e .next .result * widest = c .before .before .before .before .before .write-some2 .ensures .small (not-false _ (c .before .if6 .left)) in
+    omega (arith, n, l, h, r, q, v, turn-few t e)
 
 write-rows-after-requires-2 : (t : ℕ) → write-rows-lts.Need-after-requires-2 (write-rows-claims t) (write-rows-at t) write-rows.Post write-rows-Inv-loop write-rows-μ-loop
 write-rows-after-requires-2 t c κs = search needs
@@ -315,24 +267,17 @@ write-rows-loop-again-2 t c = let e = c .before .before .before .before .before 
     let x = e .next in
     let lo : g .i < x .result = turn-low t e in
     let hi : x .result ≤ a .to = turn-high t e in
-    let long : 7 * x .result ≤ length (a .tree .now) = omega (arith, hi, p .1) in
+    let long = turn-long t e in
     going-turn (a .src .now) (a .tree .now) (a .from) (a .to) (a .start) (a .left) (a .begin) (g .i) (g .st) (g .at) (g .good) (a .out .now) (g .out) (g .inv) (c .before .before .before .before .before .before .before .before .before .before .before .before .before .before .before .before .before .before .before .before .before .before .before .before .before .before .before .before .kind .result) (x .result) (c .before .before .before .before .before .before .before .before .before .before .before .before .before .before .before .before .before .before .before .before .before .before .before .before .before .before .before .before .kind .ensures) (x .ensures) (p .1) lo hi
     (turn-row t e)
     (pair-kids (a .src .now) (a .tree .now) (g .i) (c .before .before .before .before .before .before .before .before .before .before .before .before .before .before .before .before .before .before .before .before .before .before .before .next2 .result) (x .result) (g .st) (c .before .before .before .before .before .before .before .before .before .before .before .before .before .before .before .before .before .before .before .before .before .before .before .before .before .before .before .before .kind .result) (a .left) (c .before .before .before .before .before .before .before .before .before .before .before .before .before .before .before .before .before .before .before .before .before .before .before .before .before .before .below .result) (half-pair t (c .before .before .before .before .before .before .before .before .before .before .before .before .before .before .before .before .before .before .before .before .before .before .before)) (c .before .before .before .before .before .before .before .before .before .before .before .before .before .before .before .before .before .before .before .before .before .before .before .next2 .ensures) (c .before .before .before .before .before .before .before .before .before .before .before .before .before .before .before .before .before .before .before .before .before .before .before .before .before .before .before .before .kind .ensures) (c .before .before .before .before .before .before .before .before .before .before .before .before .before .before .before .before .before .before .before .before .before .before .before .before .before .before .below .ensures) long _ _ _ _ _ _ _ _ _ _ _ _ _ _ (c .before .before .before .before .before .before .before .before .before .before .before .before .before .before .before .before .before .before .before .before .before .write-some .ensures) (not-false _ (c .before .before .before .before .before .before .before .before .before .before .before .before .before .before .before .before .before .if5 .left)) (c .before .before .before .before .before .before .before .before .before .before .before .before .before .before .before .before .before .before .before .before .before .write-some .kept .1 .1 .1 .1 .1 .1 .1 .0) (c .before .before .before .before .before .before .before .before .before .before .before .before .before .before .before .put-mark .ensures) (c .before .before .before .before .before .before .before .before .before .before .before .before .before .before .before .put-mark .kept .1 .1 .0) (c .before .before .before .before .before .before .before .before .before .before .before .write-some2 .ensures) (not-false _ (c .before .before .before .before .before .before .before .if6 .left)) (c .before .before .before .before .before .before .before .before .before .before .before .write-some2 .kept .1 .1 .1 .1 .1 .1 .1 .0) (c .before .before .before .before .before .put-mark2 .ensures) (c .before .before .before .before .before .put-mark2 .kept .1 .1 .0)) _ _ _ _ (c .after2 .ensures)
     (pair-node (a .src .now) (a .tree .now) (g .i) (c .before .before .before .before .before .before .before .before .before .before .before .before .before .before .before .before .before .before .before .before .before .before .before .next2 .result) (x .result) (g .st) (c .before .before .before .before .before .before .before .before .before .before .before .before .before .before .before .before .before .before .before .before .before .before .before .before .before .before .before .before .kind .result) (a .left) (c .before .before .before .before .before .before .before .before .before .before .before .before .before .before .before .before .before .before .before .before .before .before .before .before .before .before .below .result) (half-pair t (c .before .before .before .before .before .before .before .before .before .before .before .before .before .before .before .before .before .before .before .before .before .before .before)) (c .before .before .before .before .before .before .before .before .before .before .before .before .before .before .before .before .before .before .before .before .before .before .before .next2 .ensures) (c .before .before .before .before .before .before .before .before .before .before .before .before .before .before .before .before .before .before .before .before .before .before .before .before .before .before .before .before .kind .ensures) (c .before .before .before .before .before .before .before .before .before .before .before .before .before .before .before .before .before .before .before .before .before .before .before .before .before .before .below .ensures) long _ _ _ _ _ _ _ _ _ _ _ _ _ _ (c .before .before .before .before .before .before .before .before .before .before .before .before .before .before .before .before .before .before .before .before .before .write-some .ensures) (not-false _ (c .before .before .before .before .before .before .before .before .before .before .before .before .before .before .before .before .before .if5 .left)) (c .before .before .before .before .before .before .before .before .before .before .before .before .before .before .before .before .before .before .before .before .before .write-some .kept .1 .1 .1 .1 .1 .1 .1 .0) (c .before .before .before .before .before .before .before .before .before .before .before .before .before .before .before .put-mark .ensures) (c .before .before .before .before .before .before .before .before .before .before .before .before .before .before .before .put-mark .kept .1 .1 .0) (c .before .before .before .before .before .before .before .before .before .before .before .write-some2 .ensures) (not-false _ (c .before .before .before .before .before .before .before .if6 .left)) (c .before .before .before .before .before .before .before .before .before .before .before .write-some2 .kept .1 .1 .1 .1 .1 .1 .1 .0) (c .before .before .before .before .before .put-mark2 .ensures) (c .before .before .before .before .before .put-mark2 .kept .1 .1 .0))
 
 write-rows-put-opening-requires : (t : ℕ) → write-rows-lts.Need-put-opening-requires (write-rows-claims t) (write-rows-at t) write-rows.Post write-rows-Inv-loop write-rows-μ-loop
-write-rows-put-opening-requires t c κs = let e = c .before .before .before .before .before .before in let a = e .before .before .before .before .before .before .before .before .before .args in let g = e .before .before .before .before .loop in
-    let p = e .before .before .before .before .before .before .before .before .before .pre .1 in
-    let m : g .i < a .to = e .before .before .before .loop-test .taken in
-    let x = e .next in
-    let lo : g .i < x .result = turn-low t e in
-    let hi : x .result ≤ a .to = turn-high t e in
-    let s : g .at + a .from * widest ≤ a .begin + g .i * widest = g .inv .small in
-    let b : a .begin ≤ a .from * widest = p .4 in
-    let few : a .to ≤ 33554432 = p .2 in
-    let n : g .at ≤ 1152921504606846976 = omega (arith, s, b, few, m) in
-    (omega (arith, m, p .1), standing (g .st) (a .left) (rowAt (a .tree .now) (g .i)) (turn-row t e), n)
+write-rows-put-opening-requires t c κs = let e = c .before .before .before .before .before .before in let g = e .before .before .before .before .loop in
+    let n = turn-at t e in
+    let l = turn-low t e in
+    (omega (arith, l, turn-long t e), standing (g .st) (c .before .before .before .before .before .before .before .before .before .before .before .before .before .before .before .args .left) (rowAt (c .before .before .before .before .before .before .before .before .before .before .before .before .before .before .before .args .tree .now) (g .i)) (turn-row t e), omega (arith, n, l, turn-few t e))
 
 write-rows-inside-requires : (t : ℕ) → write-rows-lts.Need-inside-requires (write-rows-claims t) (write-rows-at t) write-rows.Post write-rows-Inv-loop write-rows-μ-loop
 write-rows-inside-requires t c κs = search needs
@@ -343,20 +288,14 @@ write-rows-write-rows-requires t c κs = let e = c .before .before .before .befo
     let x = e .next in
     let lo : g .i < x .result = turn-low t e in
     let hi : x .result ≤ a .to = turn-high t e in
-    let s : g .at + a .from * widest ≤ a .begin + g .i * widest = g .inv .small in
-    let b : a .begin ≤ a .from * widest = p .4 in
+    let n = turn-at t e in
     let o : c .before .before .before .before .put-opening .result .at ≤ g .at + 8589934710 = c .before .before .before .before .put-opening .ensures .1 in
     let size = e .before .before .before .before .before .before .before .before .before .pre .0 in
     let f : x .result - (g .i + 1) < a .to - a .from = rows-fall (a .from) (g .i) (x .result) (a .to) (g .inv .lo) lo hi in
-    let few : a .to ≤ 33554432 = p .2 in
-    let long : 7 * a .to ≤ length (a .tree .now) = p .1 in
     let deep : a .left + (a .to - a .from) ≤ 4294967296 = p .3 in
     let l1 : c .before .before .before .before .before .before .before .before .below .result ≤ a .left + 1 = subst (λ (y : ℕ). y ≤ a .left + 1) (sym (c .before .before .before .before .before .before .before .before .below .ensures)) (below-le (g .st) (c .before .before .before .before .before .before .before .before .before .before .kind .result) (a .left)) in
-    let n1 : 7 * x .result ≤ length (a .tree .now) = omega (arith, hi, long) in
-    let n2 : x .result ≤ 33554432 = omega (arith, hi, few) in
     let n3 : c .before .before .before .before .before .before .before .before .below .result + (x .result - (g .i + 1)) ≤ 4294967296 = omega (arith, l1, f, deep) in
-    let n4 : c .before .before .before .before .put-opening .result .at ≤ (g .i + 1) * widest = omega (arith, s, b, o) in
-    (omega arith, (omega (arith, lo), n1, n2, n3, n4, p .5))
+    (omega arith, (omega (arith, lo), turn-long t e, turn-few t e, n3, omega (arith, n, o), p .5))
 
 write-rows-unlawful-requires-5 : (t : ℕ) → write-rows-lts.Need-unlawful-requires-5 (write-rows-claims t) (write-rows-at t) write-rows.Post write-rows-Inv-loop write-rows-μ-loop
 write-rows-unlawful-requires-5 t c κs = search needs
@@ -375,18 +314,12 @@ write-rows-returns-5 t c = let e = c .before .before .before .before .before .be
     (kids-found (a .src .now) (a .tree .now) (g .i) (x .result) (g .st) (c .before .before .before .before .before .before .before .before .before .before .before .before .before .before .before .before .kind .result) (a .left) _ _ _ _ _ _ _ _ (c .before .before .before .before .before .write-rows .ensures) (c .before .before .before .before .before .before .before .inside .ensures) (c .before .before .before .before .before .before .before .before .before .before .before .before .before .before .below .ensures) ∙ not-true _ (c .before .if7 .taken)))
 
 write-rows-put-closing-requires : (t : ℕ) → write-rows-lts.Need-put-closing-requires (write-rows-claims t) (write-rows-at t) write-rows.Post write-rows-Inv-loop write-rows-μ-loop
-write-rows-put-closing-requires t c κs = let e = c .before .before .before .before .before .before .before .before .before .before .before .before .before .before .before .before .before in let a = e .before .before .before .before .before .before .before .before .before .args in let g = e .before .before .before .before .loop in
-    let p = e .before .before .before .before .before .before .before .before .before .pre .1 in
-    let x = e .next in
-    let lo : g .i < x .result = turn-low t e in
-    let hi : x .result ≤ a .to = turn-high t e in
-    let s : g .at + a .from * widest ≤ a .begin + g .i * widest = g .inv .small in
-    let b : a .begin ≤ a .from * widest = p .4 in
+write-rows-put-closing-requires t c κs = let e = c .before .before .before .before .before .before .before .before .before .before .before .before .before .before .before .before .before in let g = e .before .before .before .before .loop in
+    let n = turn-at t e in
+    let l = turn-low t e in
     let o : c .before .before .before .before .before .before .before .before .before .before .put-opening .result .at ≤ g .at + 8589934710 = c .before .before .before .before .before .before .before .before .before .before .put-opening .ensures .1 in
-    let few : a .to ≤ 33554432 = p .2 in
-    let r : c .before .before .before .before .before .write-rows .result .at + (g .i + 1) * widest ≤ c .before .before .before .before .before .before .before .before .before .before .put-opening .result .at + x .result * widest = c .before .before .before .before .before .write-rows .ensures .small (not-false _ (c .before .if7 .left)) in
-    let z : c .before .before .before .before .before .write-rows .result .at ≤ 1152921504606846976 = omega (arith, s, b, o, few, r, hi) in
-    z
+    let r : c .before .before .before .before .before .write-rows .result .at + (g .i + 1) * widest ≤ c .before .before .before .before .before .before .before .before .before .before .put-opening .result .at + e .next .result * widest = c .before .before .before .before .before .write-rows .ensures .small (not-false _ (c .before .if7 .left)) in
+    omega (arith, n, l, o, r, turn-few t e)
 
 write-rows-after-requires-3 : (t : ℕ) → write-rows-lts.Need-after-requires-3 (write-rows-claims t) (write-rows-at t) write-rows.Post write-rows-Inv-loop write-rows-μ-loop
 write-rows-after-requires-3 t c κs = search needs
@@ -405,7 +338,7 @@ write-rows-loop-again-3 t c = let e = c .before .before .before .before .before 
     let x = e .next in
     let lo : g .i < x .result = turn-low t e in
     let hi : x .result ≤ a .to = turn-high t e in
-    let long : 7 * x .result ≤ length (a .tree .now) = omega (arith, hi, p .1) in
+    let long = turn-long t e in
     let yes = not-false _ (c .before .before .before .before .before .before .before .if7 .left) in
     going-turn (a .src .now) (a .tree .now) (a .from) (a .to) (a .start) (a .left) (a .begin) (g .i) (g .st) (g .at) (g .good) (a .out .now) (g .out) (g .inv) (c .before .before .before .before .before .before .before .before .before .before .before .before .before .before .before .before .before .before .before .before .before .before .kind .result) (x .result) (c .before .before .before .before .before .before .before .before .before .before .before .before .before .before .before .before .before .before .before .before .before .before .kind .ensures) (x .ensures) (p .1) lo hi
     (turn-row t e)

@@ -1,10 +1,9 @@
 -- `refal_writer::walk::is_pair` meets its contract.
-use Prim.Native.Nat.{ℕ, _+_, _*_, _≤_, _<_}
+use Prim.Native.Nat.{ℕ, _<_}
 use native.Mathlib.Omega.{arith}
-use mathlib.Core.Bool.{true, _&&_, true≢false}
-use mathlib.Core.Path.{_≡_, sym, ap, subst, _∙_}
+use mathlib.Core.Bool.{_&&_, true≢false}
+use mathlib.Core.Path.{sym, ap, subst, _∙_}
 use lib.Dec.{eqb, ltb}
-use lib.ListN.{length}
 use borrow.Author.Tests.{not-false, eqb-true, ltb-true}
 use Rattle.refal_rows.specs.Tests.{and-left, and-right}
 use Rattle.refal_tree.specs.Ranges.{nextAt}
