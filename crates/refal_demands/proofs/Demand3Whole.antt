@@ -16,7 +16,7 @@ use Rattle.refal_ast.specs.declared.Refusal.{Refusal}
 use Rattle.refal_ast.specs.declared.Answer.the-variants.{Done, Refused}
 use Rattle.refal_tree.specs.Lawful.{treeOf, tree-of, mostLevels, lawful}
 use Rattle.refal_spelling.specs.Spell.{views, text}
-use Rattle.refal_writer.specs.Spellings.{allSpelled}
+use Rattle.refal_spelling.specs.Spellings.{allSpelled}
 use Rattle.refal_writer.specs.Write.{treeText, written, mostBytes, fits, refuse, writeAnswer, left, writeBytes}
 use Rattle.refal_demands.specs.RoundTrip.{Accepted, treeRows, RowsSuffice, Again}
 use Rattle.refal_demands.specs.Demand3Whole.{Exactly, Gives, Only, Back, NeverRefused, Demand3Whole}

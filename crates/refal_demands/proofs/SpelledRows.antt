@@ -19,7 +19,7 @@ use Rattle.refal_spelling.specs.Spells.{spells}
 use Rattle.refal_spelling.specs.SpellsLaws.{identifier-spells, number-spells, good-index}
 use Rattle.refal_spelling.specs.Good.{Good, entry, extern, identifier, variableOf, number, character, mark as oneByte}
 use Rattle.refal_spelling.specs.Sound.{Sound, AllSound, sound-more}
-use Rattle.refal_writer.specs.Spellings.{charOk, inSource, rowSpelled, allSpelled}
+use Rattle.refal_spelling.specs.Spellings.{charOk, inSource, rowSpelled, allSpelled}
 use Rattle.refal_demands.proofs.Flats.{flatT, flatC, flatS, flatN, flatP, flatP-is}
 
 -- a Char that reading gives can be written

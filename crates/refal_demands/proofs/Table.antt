@@ -18,7 +18,7 @@ use Rattle.refal_tree.specs.Typed.{getT, getS, getSentence, getTail, getBlock, 
 use Rattle.refal_tree.specs.Lawful.{treeOf, lawful}
 use Rattle.refal_spelling.specs.Spell.{body, spelling, text}
 use Rattle.refal_spelling.specs.Spells.{spells}
-use Rattle.refal_writer.specs.Spellings.{rowSpelled, allSpelled}
+use Rattle.refal_spelling.specs.Spellings.{rowSpelled, allSpelled}
 use Rattle.refal_writer.specs.Write.{written, writeAnswer, writeBytes}
 
 pub table-holds : AllHold table

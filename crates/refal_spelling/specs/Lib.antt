@@ -1,5 +1,6 @@
 -- Definitions: Spell (spellings), Spells (the test of 41), Good (the spellings that reading gives), Places (of tokens in a text), Sound.
 -- Laws of words: Runs, NumberWords, ScanWords, CharWords, Sees, SpellsLaws. Of reading: ReadsGood, Answered, Few, Passes.
+-- The test for refusal 41: Spellings; its laws: WordLaws, SpellingLaws.
 -- Laws of texts: TextReads, TextViews, TextWell. The theorems: RoundTrip; that the test of 41 is exact: Given.
 pub mod Spell
 pub mod Spells
@@ -21,3 +22,6 @@ pub mod TextViews
 pub mod TextWell
 pub mod RoundTrip
 pub mod Given
+pub mod Spellings
+pub mod WordLaws
+pub mod SpellingLaws

@@ -1,10 +1,10 @@
 -- What writers of bytes leave in a slice: `Puts`, bytes at its front where they fit; `Pours`, a text put part by part, each part into
 -- the rest of the slice lent from its middle.
-use Prim.Native.Nat.{ℕ, suc, _+_, _-_, _<_, _≤_, min}
+use Prim.Native.Nat.{ℕ, zero, suc, _+_, _-_, _<_, _≤_, min}
 use native.Mathlib.Omega.{arith}
 use native.Mathlib.Numerals.{add-one}
 use native.Mathlib.Decide.{decLe}
-use native.Mathlib.Nat.{le-of-eq}
+use native.Mathlib.Nat.{zero-add, le-of-eq}
 use mathlib.Core.List.{List, [], _∷_, _++_, append-nil, append-assoc}
 use mathlib.Core.Path.{_≡_, refl, ap, _∙_, sym, subst}
 use lib.ListN.{length, take, drop, getD, set, length-drop, length-append, drop-of-length-le}
@@ -92,20 +92,13 @@ module _ (src o : List ℕ) (start len from n : ℕ) (e : from ≡ min start (le
   text-puts o₁ r g =
       let h : n ≤ length (drop from src) = rw length-drop (omega arith) in
       let p : n < length o = omega arith in
-      record {
-        count = text-count;
-        bytes = λ _.
-            ap (λ (l : List ℕ). set l n 32) g
-            ∙ set-behind (take n (drop from src)) o n 32 (length-take-le n (drop from src) h) p
-            ∙ ap (λ (t : List ℕ). (t ++ 32 ∷ []) ++ drop (n + 1) o) (clip src start len from n e f);
-      }
+      record { count = text-count; bytes = λ _. ap (λ (l : List ℕ). set l n 32) g ∙ set-behind (take n (drop from src)) o n 32 (length-take-le n (drop from src) h) p ∙ ap (λ (t : List ℕ). (t ++ 32 ∷ []) ++ drop (n + 1) o) (clip src start len from n e f) }
 
   pub text-short : length o < n + 1 → Puts (take len (drop start src) ++ 32 ∷ []) (n + 1) o o
   text-short r = record { count = text-count; bytes = λ h. absurd (omega arith) }
 
 -- ---- a copy's turn, from a place of src
-pub copy-from : (l l₀ src : List ℕ) (start i : ℕ) → l ≡ take i (drop start src) ++ drop i l₀ → start + i < length src → i < length l₀
-    → set l i (getD src (start + i) 0) ≡ take (i + 1) (drop start src) ++ drop (i + 1) l₀
+pub copy-from : (l l₀ src : List ℕ) (start i : ℕ) → l ≡ take i (drop start src) ++ drop i l₀ → start + i < length src → i < length l₀ → set l i (getD src (start + i) 0) ≡ take (i + 1) (drop start src) ++ drop (i + 1) l₀
 copy-from l l₀ src start i e h h₀ =
     let n : i < length (drop start src) = rw length-drop (omega arith) in
     rw (← getD-drop start src i 0) (copy-turn l l₀ (drop start src) i e n h₀)
@@ -115,6 +108,9 @@ pub record Pours (t rest : List ℕ) (at : ℕ) (o o₀ : List ℕ) : Type 0 whe
   pub rest-is : drop at t ≡ rest
   pub count : at + length rest ≡ length t
   pub bytes : at ≤ length o₀ → o ≡ take at t ++ drop at o₀
+
+pub pours-start : (t o : List ℕ) → Pours t t 0 o o
+pours-start t o = record { rest-is = refl; count = zero-add _; bytes = λ h. refl }
 
 pub pours-end : (t o o₀ : List ℕ) (at : ℕ) → Pours t [] at o o₀ → Puts t at o₀ o
 pours-end t o o₀ at p =
@@ -130,8 +126,7 @@ back-rest o p from =
     let e : drop (length o - from) (drop from o) ≡ [] = drop-of-length-le (drop from o) (le-of-eq (length-drop from o)) in
     ap (λ (l : List ℕ). take from o ++ (p ++ l)) e ∙ ap (λ (l : List ℕ). take from o ++ l) (append-nil p)
 
-module _ (t bs rest o o₀ p : List ℕ) (at from k : ℕ) (h : Pours t (bs ++ rest) at o o₀) (l : length o ≡ length o₀) (e : from ≡ min at (length o))
-    (q : Puts bs k (take (length o - from) (drop from o)) p) where
+module _ (t bs rest o o₀ p : List ℕ) (at from k : ℕ) (h : Pours t (bs ++ rest) at o o₀) (l : length o ≡ length o₀) (e : from ≡ min at (length o)) (q : Puts bs k (take (length o - from) (drop from o)) p) where
   count-on : at + k + length rest ≡ length t
   count-on = omega (arith, q .count, length-append bs rest, h .count)
 

@@ -1,14 +1,11 @@
 -- The text of flattened tokens, what the writers of tokens ask of a token, and the text of each kind of token.
 use Prim.Native.Nat.{ℕ, _≤_, _<_}
-use mathlib.Core.Bool.{true, false, not, _&&_}
-use lib.Dec.{eqb, ltb}
 use mathlib.Core.List.{List, [], _∷_, _++_, append-assoc, append-nil}
 use mathlib.Core.Path.{_≡_, refl, sym, ap, _∙_}
-use borrow.Author.Tests.{not-true, ne-eqb, ltb-true}
-use Rattle.refal_rows.specs.Tests.{and-left, and-right}
+use lib.Dec.{eqb}
+use borrow.Author.Tests.{ne-eqb}
 use Rattle.refal_ast.specs.Flatten.{Flat}
-use Rattle.refal_spelling.specs.Sound.{views-append}
-use Rattle.refal_spelling.specs.Spell.{Spelled, spelled, views, spelling, text, entryWord, externWord, body, quoted, dotted, markByte}
+use Rattle.refal_spelling.specs.Spell.{Spelled, spelled, view, views, spelling, text, entryWord, externWord, body, quoted, dotted, markByte}
 
 -- a list of flattened tokens, written with the source src
 abbrev pub textOf : List ℕ → List Flat → List ℕ
@@ -38,23 +35,16 @@ text-append [] us = refl
 text-append (t ∷ ts) us =
     ap (λ (l : List ℕ). (spelling t ++ 32 ∷ []) ++ l) (text-append ts us) ∙ sym (append-assoc (spelling t ++ 32 ∷ []) (text ts) (text us))
 
+views-append : (src : List ℕ) (fs gs : List Flat) → views src (fs ++ gs) ≡ views src fs ++ views src gs
+views-append src [] gs = refl
+views-append src (f ∷ fs) gs = ap (λ (l : List Spelled). view src f ∷ l) (views-append src fs gs)
+
 pub text-of-append : (src : List ℕ) (fs gs : List Flat) → textOf src (fs ++ gs) ≡ textOf src fs ++ textOf src gs
 text-of-append src fs gs = ap text (views-append src fs gs) ∙ text-append (views src fs) (views src gs)
 
 -- ---- the text of a token of each kind
 pub quoted-text : (x : ℕ) → 39 ∷ (body x ++ 39 ∷ 32 ∷ []) ≡ quoted x ++ 32 ∷ []
 quoted-text x = ap (λ (l : List ℕ). 39 ∷ l) (sym (append-assoc (body x) (39 ∷ []) (32 ∷ [])))
-
--- a character below 128 that is no apostrophe stands for itself
-pub plain-low : (x : ℕ) → ltb x 128 && not (eqb x 39) ≡ true → x < 128
-plain-low x h = ltb-true x 128 (and-left (ltb x 128) (not (eqb x 39)) h)
-
-pub plain-text : (x : ℕ) → ltb x 128 && not (eqb x 39) ≡ true → 39 ∷ x ∷ 39 ∷ 32 ∷ [] ≡ quoted x ++ 32 ∷ []
-unfolding body
-plain-text x h =
-    let a : ltb x 128 ≡ true = and-left (ltb x 128) (not (eqb x 39)) h in
-    let b : eqb x 39 ≡ false = not-true (eqb x 39) (and-right (ltb x 128) (not (eqb x 39)) h) in
-    sym (simp (b, a))
 
 -- no token after it
 alone : (l : List ℕ) → l ++ 32 ∷ [] ≡ (l ++ 32 ∷ []) ++ []

@@ -1,22 +1,22 @@
--- Writing by a walk over rows: what is known of a row that keeps the rules, and the text of rows, part by part.
+-- Writing by a walk over rows: what is known of the rows that it writes, and a turn of the walk at row i.
 use Prim.Native.Nat.{ℕ, zero, suc, _+_, _*_, _-_, _≤_, _<_}
 use mathlib.Core.Bool.{Bool, true, false, not, _&&_, _||_, true≢false}
-use mathlib.Core.List.{List, [], _++_}
-use mathlib.Core.Path.{_≡_, refl, sym, ap, _∙_}
+use mathlib.Core.List.{List, [], _∷_, _++_}
+use mathlib.Core.Path.{_≡_, refl, sym, ap, subst, _∙_}
 use native.Mathlib.Omega.{arith}
 use native.Mathlib.Decide.{decLe}
 use lib.Dec.{eqb}
-use lib.ListN.{length}
+use lib.ListN.{length, getD}
 use borrow.Author.Tests.{eqb-true}
 use Rattle.refal_rows.specs.Tests.{and-left, and-right}
 use Rattle.refal_ast.specs.Flatten.{Flat}
 use Rattle.refal_tree.specs.Forest.{Row}
-use Rattle.refal_tree.specs.States.{wrong, pick, inside, after, fits, room}
+use Rattle.refal_tree.specs.States.{wrong, pick, inside, after, below, fits, room}
 use Rattle.refal_tree.specs.Rules.{letter, fieldsOk, rowOk}
 use Rattle.refal_writer.specs.Kinds.{after-high-kind}
 use Rattle.refal_tree.specs.Ranges.{rowAt, kindAt, nextAt, okAt}
 use Rattle.refal_tree.specs.FlattenRows.{opening, closing}
-use Rattle.refal_tree.specs.Walk.{flatAt, step, flat-step, flat-end}
+use Rattle.refal_tree.specs.Walk.{flatAt, Step, step, flat-step, flat-end}
 use Rattle.refal_spelling.specs.Spell.{text}
 use Rattle.refal_writer.specs.Token.{textOf, text-of-append}
 
@@ -25,6 +25,11 @@ pub record Standing (kind detail : ℕ) : Type 0 where
   pub low : 1 ≤ kind
   pub high : kind ≤ 14
   pub letter : kind ≡ 12 → detail < 256
+
+-- rows i to j keep the rules, from the state st on
+pub record Walks (w : List ℕ) (i j st : ℕ) : Type 0 where
+  pub left : ℕ
+  pub ok : okAt w i j st left ≡ true
 
 never : {A : Type 0} {b : Bool} → b ≡ true → b ≡ false → A
 never h e = absurd (true≢false (sym h ∙ e))
@@ -64,7 +69,7 @@ letter-small d h = go (eqb d 115) (eqb d 116) (eqb d 101) refl refl refl h
     go false false true e f g h = let i = eqb-true d 101 g in omega arith
     go false false false e f g h = absurd (true≢false (sym h))
 
-pub standing : (st left : ℕ) (r : Row) → rowOk st left r ≡ true → Standing (r .kind) (r .detail)
+standing : (st left : ℕ) (r : Row) → rowOk st left r ≡ true → Standing (r .kind) (r .detail)
 standing st left r h =
     let f : Bool = fits st (r .kind) in
     let d : Bool = room (r .kind) left in
@@ -76,34 +81,57 @@ standing st left r h =
       letter = λ e. letter-small (r .detail) (and-left _ true (ap (λ (k : ℕ). fieldsOk k (r .detail) (r .start) (r .len) (r .from) (r .to)) (sym e) ∙ and-right (f && d) g h));
     }
 
--- a call
-pub call-stands : (k d : ℕ) → k ≡ 14 → Standing k d
-call-stands k d e = record { low = omega arith; high = omega arith; letter = λ f. absurd (omega arith) }
+-- ---- a turn of the walk at row i, of the kind k and with the next row x
+module _ (w : List ℕ) (i j st k x : ℕ) (kind : k ≡ kindAt w i) (next : x ≡ nextAt w i) (long : 7 * j ≤ length w) (more : i < j) (W : Walks w i j st) where
+  here : Step w i j st (W .left)
+  here = step w i j st (W .left) long more (W .ok)
 
--- ---- the text of lawful rows i to j, part by part: row i is of the kind k and has the next row x
-module _ (w : List ℕ) (i j st left k x : ℕ) (kind : k ≡ kindAt w i) (next : x ≡ nextAt w i) (long : 7 * j ≤ length w) (more : i < j) (ok : okAt w i j st left ≡ true) where
-  pub turn-text : (src : List ℕ) → textOf src (flatAt w i j st)
-      ≡ textOf src (opening st (rowAt w i)) ++ (textOf src (flatAt w (i + 1) x (inside k)) ++ (textOf src (closing st k) ++ textOf src (flatAt w x j (after st k))))
-  turn-text src =
-      let K : ℕ = kindAt w i in
-      let z : ℕ = nextAt w i in
-      let A : List Flat = opening st (rowAt w i) in
-      let B : List Flat = flatAt w (i + 1) z (inside K) in
-      let C : List Flat = closing st K in
-      let D : List Flat = flatAt w z j (after st K) in
-      ap (textOf src) (flat-step w i j st left long (step w i j st left long more ok))
-      ∙ text-of-append src A (B ++ (C ++ D))
-      ∙ ap (λ (l : List ℕ). textOf src A ++ l) (text-of-append src B (C ++ D) ∙ ap (λ (l : List ℕ). textOf src B ++ l) (text-of-append src C D))
-      ∙ sym (rw (kind, next) refl)
+  pub walk-low : i < x
+  walk-low = let l = here .lo in omega arith
+
+  pub walk-high : x ≤ j
+  walk-high = let l = here .hi in omega arith
+
+  pub walk-row : Standing (kindAt w i) (getD w (7 * i + 1) 0)
+  walk-row = standing st (W .left) (rowAt w i) (here .here)
+
+  -- s is the state of the children, and u the state of what follows
+  module _ (s u : ℕ) (first : s ≡ inside k) (then : u ≡ after st k) where
+    pub walk-kids : Walks w (i + 1) x s
+    walk-kids = record { left = below st (kindAt w i) (W .left); ok = rw (first, kind, next) (here .kids) }
+
+    pub walk-rest : Walks w x j u
+    walk-rest = record { left = W .left; ok = rw (then, kind, next) (here .rest) }
+
+    -- the text of a turn, part by part
+    pub turn-text : (src : List ℕ) → textOf src (flatAt w i j st) ≡ textOf src (opening st (rowAt w i)) ++ (textOf src (flatAt w (i + 1) x s) ++ (textOf src (closing st k) ++ textOf src (flatAt w x j u)))
+    turn-text src =
+        let K : ℕ = kindAt w i in
+        let z : ℕ = nextAt w i in
+        let A : List Flat = opening st (rowAt w i) in
+        let B : List Flat = flatAt w (i + 1) z (inside K) in
+        let C : List Flat = closing st K in
+        let D : List Flat = flatAt w z j (after st K) in
+        ap (textOf src) (flat-step w i j st (W .left) long here)
+        ∙ text-of-append src A (B ++ (C ++ D))
+        ∙ ap (λ (l : List ℕ). textOf src A ++ l) (text-of-append src B (C ++ D) ∙ ap (λ (l : List ℕ). textOf src B ++ l) (text-of-append src C D))
+        ∙ sym (rw (first, then, kind, next) refl)
 
 -- the text of no rows
 pub end-text : (w src : List ℕ) (i j st : ℕ) → i ≡ j → textOf src (flatAt w i j st) ≡ []
 unfolding text
 end-text w src i j st e = ap (textOf src) (flat-end w i j st e)
 
--- ---- no row is written with more bytes than `widest`
+-- ---- how long a text of so many rows can be: no row is written with more bytes than `widest`
 abbrev pub widest : ℕ
 widest = 17179869184
+
+module _ (from i x to at a b : ℕ) (done : at + from * widest ≤ i * widest) (own : a ≤ 8589934710) (kids : b + (i + 1) * widest ≤ x * widest) (end : x ≤ to) (few : to ≤ 33554432) where
+  pub filled-small : at + a + b ≤ 1152921504606846976
+  filled-small = omega arith
+
+  pub turn-small : (c : ℕ) → c ≤ 16 → at + a + b + c + from * widest ≤ x * widest
+  turn-small c h = omega arith
 
 pub rows-fall : (from i x to : ℕ) → from ≤ i → i < x → x ≤ to → x - (i + 1) < to - from
 rows-fall from i x to a b c = omega arith

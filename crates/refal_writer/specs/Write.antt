@@ -1,6 +1,6 @@
 -- What `write` answers, and what it leaves in the bytes lent, for the node words w, the source src and the bytes `old` (document 01 "Writing").
 use Prim.Native.Nat.{ℕ}
-use mathlib.Core.Bool.{Bool, not, _&&_}
+use mathlib.Core.Bool.{Bool, true, false, not, _&&_}
 use mathlib.Core.List.{List, [], _++_}
 use mathlib.Core.Option.{Option, none, some}
 use lib.Dec.{leb}
@@ -12,7 +12,7 @@ use Rattle.refal_ast.specs.declared.Answer.{Answer}
 use Rattle.refal_ast.specs.declared.Answer.the-variants.{Done, Refused}
 use Rattle.refal_tree.specs.Lawful.{treeOf, mostLevels, lawful}
 use Rattle.refal_spelling.specs.Spell.{views, text}
-use Rattle.refal_writer.specs.Spellings.{allSpelled}
+use Rattle.refal_spelling.specs.Spellings.{allSpelled}
 
 -- the text of a tree: each flattened token as spelled in the source, then one space
 abbrev pub treeText : List ℕ → Option Program → List ℕ

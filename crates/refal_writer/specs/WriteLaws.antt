@@ -1,28 +1,27 @@
 -- Laws of `write`: what it answers and leaves at each of its ways out, and that the walk writes the tree's text.
-use Prim.Native.Nat.{ℕ, _*_, _/_, _%_, _≤_, _<_}
+use Prim.Native.Nat.{ℕ, _+_, _*_, _/_, _%_, _<_, _≤_}
 use native.Mathlib.Omega.{arith}
 use mathlib.Core.Bool.{Bool, true, false, not, _&&_, true≢false}
-use mathlib.Core.List.{List}
+use mathlib.Core.List.{List, [], _++_}
 use mathlib.Core.Option.{Option, none, some}
-use mathlib.Core.Path.{_≡_, refl, ap, sym, _∙_}
+use mathlib.Core.Path.{_≡_, refl, ap, sym, subst, _∙_}
 use lib.Dec.{eqb, leb}
-use lib.ListN.{length, replicate}
-use borrow.Author.Tests.{eqb-true, eqb-false, leb-true, leb-false}
+use lib.ListN.{length, drop, replicate}
+use borrow.Author.Tests.{eqb-true, leb-true}
 use Rattle.refal_rows.specs.Tests.{and-left, and-right}
 use Rattle.refal_ast.specs.Tree.{Program}
 use Rattle.refal_ast.specs.Encode.{nodeWidth}
 use Rattle.refal_ast.specs.declared.Answer.{Answer}
-use Rattle.refal_ast.specs.declared.Answer.the-variants.{Done}
+use Rattle.refal_ast.specs.declared.Answer.the-variants.{Done, Refused}
 use Rattle.refal_tree.specs.States.{atItems}
 use Rattle.refal_tree.specs.Lawful.{treeOf, found, mostRows, mostLevels, lawful}
-use Rattle.refal_tree.specs.Ranges.{okAt}
-use Rattle.refal_tree.specs.Whole.{not-whole, too-many, all-rows}
+use Rattle.refal_tree.specs.Whole.{all-rows}
 use Rattle.refal_tree.specs.Walk.{flatAt, flat-tree-rows}
-use Rattle.refal_writer.specs.Spellings.{allSpelled}
-use Rattle.refal_writer.specs.SpelledRows.{spelledRows, spelled-all}
-use Rattle.refal_writer.specs.Write.{written, treeText, refuse, writeAnswer, writeBytes, left}
+use Rattle.refal_spelling.specs.Spellings.{allSpelled}
+use Rattle.refal_writer.specs.Write.{written, treeText, fits, refuse, writeAnswer, writeBytes, left}
 use Rattle.refal_writer.specs.Puts.{Puts}
 use Rattle.refal_writer.specs.Token.{textOf}
+use Rattle.refal_writer.specs.Walk.{Walks}
 
 -- what is known of lawful words: whole rows, not too many, and their tree
 record Known (w : List ℕ) : Type 0 where
@@ -48,37 +47,16 @@ known w h = go (treeOf mostLevels w) refl
         let b : length w ≤ 7 * mostRows = leb-true _ _ (and-right x y (and-left (x && y) (found (treeOf mostLevels w)) h)) in
         record { tree = t; is = e; whole = omega arith; few = omega arith }
 
--- the test of the number of words, and the walk from the first row on
-abbrev wholeRows : List ℕ → Bool
-wholeRows w = eqb (length w % 7) 0 && leb (length w / 7) 33554432
-
-pub whole-rows : (w : List ℕ) → wholeRows w ≡ true → lawful w ≡ okAt w 0 (length w / 7) atItems mostLevels
-whole-rows w h =
-    let a : length w % 7 ≡ 0 = eqb-true _ _ (and-left (eqb (length w % 7) 0) (leb (length w / 7) 33554432) h) in
-    let b : length w / 7 ≤ 33554432 = leb-true _ _ (and-right (eqb (length w % 7) 0) (leb (length w / 7) 33554432) h) in
-    all-rows w (length w / 7) (omega arith) b
-
-pub no-rows : (w : List ℕ) → wholeRows w ≡ false → lawful w ≡ false
-no-rows w h = go (eqb (length w % 7) 0) refl
-  where
-    go : (b : Bool) → eqb (length w % 7) 0 ≡ b → lawful w ≡ false
-    go true e =
-        let c : leb (length w / 7) 33554432 ≡ false = sym (ap (λ (b : Bool). b && leb (length w / 7) 33554432) e) ∙ h in
-        let d : 33554432 < length w / 7 = leb-false _ _ c in
-        too-many w (omega arith)
-    go false e = not-whole w (eqb-false _ _ e)
-
-pub few-rows : (w : List ℕ) → wholeRows w ≡ true → length w / 7 ≤ 33554432
-few-rows w h = leb-true _ _ (and-right (eqb (length w % 7) 0) (leb (length w / 7) 33554432) h)
-
 module _ (w src : List ℕ) (h : lawful w ≡ true) where
+  pub lawful-few : length w / 7 ≤ 33554432
+  lawful-few = known w h .few
+
+  pub lawful-walks : Walks w 0 (length w / 7) atItems
+  lawful-walks = let k = known w h in record { left = mostLevels; ok = sym (all-rows w (length w / 7) (k .whole) (k .few)) ∙ h }
+
   pub written-is : textOf src (flatAt w 0 (length w / 7) atItems) ≡ written w src
   unfolding written
   written-is = let k = known w h in ap (textOf src) (flat-tree-rows mostLevels w (k .tree) (length w / 7) (k .is) (k .whole)) ∙ sym (ap (treeText src) (k .is))
-
-  -- the test of all rows, as the walk makes it
-  pub all-spelled : spelledRows src w 0 (length w / 7) ≡ allSpelled src w
-  all-spelled = spelled-all src w (length w / 7) (known w h .whole)
 
 -- ---- the ways out
 pub record Answers (a : Answer) (w src old new : List ℕ) : Type 0 where

@@ -1,20 +1,8 @@
 // Writing: from the rows of a tree and its source to a text that reads back the same.
 mod bytes;
-mod chars;
-mod leaf;
-mod one;
 mod opening;
-mod put;
-mod row;
-mod run;
-mod short;
-mod spelling;
-mod terms;
 mod token;
 mod walk;
-mod window;
-mod words;
-mod wrote;
 
 use refal_ast::Answer;
 use refal_ast::Refusal;
@@ -41,25 +29,17 @@ pub fn write(tree: &[u32], src: &[u8], out: &mut [u8]) -> Answer
     ensures { λ r. ⌜ r ≡ writeAnswer (now (tree .entry)) (now (src .entry)) (now (out .entry)) ⌝ }
     ensures { λ r. ⌜ now (out .exit) ≡ writeBytes (now (tree .entry)) (now (src .entry)) (now (out .entry)) ⌝ }
 {
-    let room = out.len();
-    let rows = tree.len() / 7;
-    let whole = (tree.len() % 7 == 0) & (rows <= 33554432);
-    if !whole {
+    if !refal_tree::lawful(tree) {
         refal_rows::clear_bytes(out);
         return refused(40, 0);
     }
-    let edge =
-        b"111111111111111100000000000000000000000000000000000000000000000000000000000001001111111111000000011111111111111111111111111000010111111111111111111111111110000000000000000000000000000000000000000000000000000000000000000000000000000000000000000000000000000000000000000000000000000000000000";
-    let all = walk::write_rows(tree, src, 0, rows, 1, 64, edge, 0, out);
-    if !all.lawful {
-        refal_rows::clear_bytes(out);
-        return refused(40, 0);
-    }
-    if !all.good {
+    if !refal_spelling::spellings(tree, src) {
         refal_rows::clear_bytes(out);
         return refused(41, 0);
     }
-    let n = all.at;
+    let room = out.len();
+    let rows = tree.len() / 7;
+    let n = walk::write_rows(tree, src, 0, rows, 1, out);
     let fits = (n <= room) & (n <= 16777216);
     if fits {
         return Answer::Done(n);

@@ -2,6 +2,7 @@
 use crate::token::write_mark;
 use crate::token::write_token;
 use refal_rows::least;
+ghost use mathlib.Core.Path.{_≡_};
 ghost use mathlib.Core.List.{[], _∷_, _++_};
 ghost use Prim.Native.Nat.{_+_, _≤_, _<_};
 ghost use lib.Dec.{eqb};

@@ -44,7 +44,7 @@ fn mark_byte(kind: u32) -> u8
 }
 
 // A text of the source and a space. What lies outside the source is not there.
-pub fn write_text(src: &[u8], start: u32, len: u32, out: &mut [u8]) -> usize
+fn write_text(src: &[u8], start: u32, len: u32, out: &mut [u8]) -> usize
     ensures { λ r. ⌜ Puts (textAt (now (src .entry)) start len ++ 32 ∷ []) r (now (out .entry)) (now (out .exit)) × (r ≤ 4294967296) ⌝ }
 {
     let from = least(start as usize, src.len());
@@ -99,13 +99,9 @@ fn put_code(x: u32, out: &mut [u8]) -> usize
 }
 
 // A character in apostrophes, and a space.
-pub fn write_char(x: u32, out: &mut [u8]) -> usize
+fn write_char(x: u32, out: &mut [u8]) -> usize
     ensures { λ r. ⌜ Puts (quoted x ++ 32 ∷ []) r (now (out .entry)) (now (out .exit)) × (r ≤ 8) ⌝ }
 {
-    let plain = (x < 128) & !(x == 39);
-    if plain {
-        return put4(39, x as u8, 39, 32, out);
-    }
     let a = put1(39, out);
     let f = least(a, out.len());
     let b = put_code(x, &mut out[f..]);

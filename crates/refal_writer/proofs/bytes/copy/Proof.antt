@@ -2,9 +2,9 @@
 use Rattle.refal_writer.specs.Puts.{copy-from}
 use Prim.Native.Nat.{ℕ, _+_, _-_, _≤_, _<_}
 use native.Mathlib.Omega.{arith}
-use mathlib.Core.List.{_++_}
-use mathlib.Core.Path.{_≡_, refl, ap, _∙_}
-use lib.ListN.{length, take, drop, length-set}
+use mathlib.Core.List.{List, _++_}
+use mathlib.Core.Path.{_≡_, refl, ap, sym, _∙_}
+use lib.ListN.{length, take, drop, set, length-set}
 use borrow.Author.Needs.{needs}
 use Rattle.refal_writer.proofs.bytes.copy.Statement.{statement}
 use Rattle.refal_writer.proofs.bytes.copy.Tie as tie

@@ -1,9 +1,11 @@
 -- `refal_writer::bytes::put_word` meets its contract.
 use native.Mathlib.Omega.{arith}
+use native.Mathlib.Nat.{le-refl}
 use mathlib.Core.List.{List, _++_}
-use mathlib.Core.Path.{refl, ap, _∙_}
-use lib.ListN.{length, drop}
+use mathlib.Core.Path.{_≡_, refl, ap, _∙_}
+use lib.ListN.{length, take, drop}
 use lib.Seq.{take-length}
+use Rattle.refal_writer.specs.Puts.{Puts}
 use borrow.Author.Needs.{needs}
 use Rattle.refal_writer.proofs.bytes.put_word.Statement.{statement}
 use Rattle.refal_writer.proofs.bytes.put_word.Tie as tie

@@ -1,7 +1,10 @@
 -- `refal_writer::opening::write_closing` meets its contract.
 use native.Mathlib.Omega.{arith}
-use borrow.Author.Tests.{ne-eqb}
-use Rattle.refal_writer.specs.TextPuts.{closes-at}
+use borrow.Author.Tests.{eq-eqb, ne-eqb}
+use Prim.Native.Nat.{ℕ}
+use mathlib.Core.Path.{_≡_}
+use Rattle.refal_writer.specs.Puts.{Puts, puts-none}
+use Rattle.refal_writer.specs.TextPuts.{text-two, opens-at, closes-at}
 use Rattle.refal_writer.specs.TextPuts.{empty-puts}
 use borrow.Author.Needs.{needs}
 use Rattle.refal_writer.proofs.opening.write_closing.Statement.{statement}

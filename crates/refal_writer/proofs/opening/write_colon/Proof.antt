@@ -42,11 +42,8 @@ same-length-2 : tie.Need-same-length-2
 same-length-2 c = search needs
 
 returns-2 : tie.Need-returns-2
-returns-2 c = let a = c .before .before .before .before .before .before .before .before .before .before .before .before .before .args in (
-  simp (ne-eqb _ _ (c .before .before .before .before .before .before .before .before .before .before .if1 .left), eq-eqb _ _ (c .before .before .before .before .before .before .before .before .before .if2 .taken)) (text-two (a .src .now) (mark 14 ∷ []) (mark 7 ∷ []) _ _ _ _ _ _ (c .before .before .before .before .before .before .before .write-mark2 .ensures .0)
-      (c .before .before .before .before .before .before .before .write-mark2 .kept .1 .0) (c .before .before .before .before .least .ensures) (c .before .before .write-mark3 .ensures .0)),
-  omega arith,
-)
+returns-2 c = let a = c .before .before .before .before .before .before .before .before .before .before .before .before .before .args in
+    (simp (ne-eqb _ _ (c .before .before .before .before .before .before .before .before .before .before .if1 .left), eq-eqb _ _ (c .before .before .before .before .before .before .before .before .before .if2 .taken)) (text-two (a .src .now) (mark 14 ∷ []) (mark 7 ∷ []) _ _ _ _ _ _ (c .before .before .before .before .before .before .before .write-mark2 .ensures .0) (c .before .before .before .before .before .before .before .write-mark2 .kept .1 .0) (c .before .before .before .before .least .ensures) (c .before .before .write-mark3 .ensures .0)), omega arith)
 
 returns-3 : tie.Need-returns-3
 returns-3 c = (simp (ne-eqb _ _ (c .before .if1 .left), ne-eqb _ _ (c .if2 .left)) (empty-puts _), omega arith)

@@ -2,7 +2,7 @@
 use native.Mathlib.Omega.{arith}
 use mathlib.Core.List.{[], _∷_}
 use borrow.Author.Tests.{eq-eqb, ne-eqb}
-use Rattle.refal_ast.specs.Flatten.{mark, nameOf}
+use Rattle.refal_ast.specs.Flatten.{flatToken, mark, nameOf}
 use Rattle.refal_writer.specs.TextPuts.{text-two}
 use borrow.Author.Needs.{needs}
 use Rattle.refal_writer.proofs.opening.write_head.Statement.{statement}

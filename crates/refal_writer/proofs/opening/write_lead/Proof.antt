@@ -1,8 +1,10 @@
 -- `refal_writer::opening::write_lead` meets its contract.
 use native.Mathlib.Omega.{arith}
 use borrow.Author.Tests.{eq-eqb, ne-eqb}
+use Prim.Native.Nat.{ℕ}
 use mathlib.Core.Path.{_≡_}
-use Rattle.refal_writer.specs.TextPuts.{opens-at, only-terms}
+use Rattle.refal_writer.specs.Puts.{Puts, puts-none}
+use Rattle.refal_writer.specs.TextPuts.{text-two, opens-at, only-terms}
 use Rattle.refal_writer.specs.TextPuts.{empty-puts}
 use borrow.Author.Needs.{needs}
 use Rattle.refal_writer.proofs.opening.write_lead.Statement.{statement}
@@ -80,15 +82,12 @@ same-length-7 c = search needs
 
 returns-8 : tie.Need-returns-8
 returns-8 c = let a = c .before .before .before .before .before .before .before .before .before .before .before .before .before .before .args in
-    let e : a .kind ≡ 6 = only-terms (a .kind) (c .before .before .before .before .before .before .before .before .before .before .before .before .before .before .pre .0) (c .before .before .before .before .before .before .before .before .before .before .before .before .before .before .pre .1)
-    (c .before .before .before .before .before .before .before .before .before .before .before .if1 .left) (c .before .before .before .before .before .before .before .before .before .before .if2 .left) (c .before .before .before .before .before .before .before .before .before .if3 .left) (c .before .before .before .before .before .before .before .before .if4 .left)
-    (c .before .before .before .before .before .before .before .if5 .left) (c .before .before .before .before .before .before .if6 .left) (c .before .before .before .before .before .if7 .left) in
+    let e : a .kind ≡ 6 = only-terms (a .kind) (c .before .before .before .before .before .before .before .before .before .before .before .before .before .before .pre .0) (c .before .before .before .before .before .before .before .before .before .before .before .before .before .before .pre .1) (c .before .before .before .before .before .before .before .before .before .before .before .if1 .left) (c .before .before .before .before .before .before .before .before .before .before .if2 .left) (c .before .before .before .before .before .before .before .before .before .if3 .left) (c .before .before .before .before .before .before .before .before .if4 .left) (c .before .before .before .before .before .before .before .if5 .left) (c .before .before .before .before .before .before .if6 .left) (c .before .before .before .before .before .if7 .left) in
     (opens-at (a .src .now) (a .st) (a .kind) (a .detail) (a .start) (a .len) 6 e (simp (eq-eqb _ _ (c .before .before .before .before .if8 .taken)) (c .before .before .write-mark4 .ensures .0)), omega arith)
 
 returns-9 : tie.Need-returns-9
 returns-9 c = let a = c .before .before .before .before .before .before .before .before .before .before .args in
-    let e : a .kind ≡ 6 = only-terms (a .kind) (c .before .before .before .before .before .before .before .before .before .before .pre .0) (c .before .before .before .before .before .before .before .before .before .before .pre .1) (c .before .before .before .before .before .before .before .if1 .left) (c .before .before .before .before .before .before .if2 .left)
-    (c .before .before .before .before .before .if3 .left) (c .before .before .before .before .if4 .left) (c .before .before .before .if5 .left) (c .before .before .if6 .left) (c .before .if7 .left) in
+    let e : a .kind ≡ 6 = only-terms (a .kind) (c .before .before .before .before .before .before .before .before .before .before .pre .0) (c .before .before .before .before .before .before .before .before .before .before .pre .1) (c .before .before .before .before .before .before .before .if1 .left) (c .before .before .before .before .before .before .if2 .left) (c .before .before .before .before .before .if3 .left) (c .before .before .before .before .if4 .left) (c .before .before .before .if5 .left) (c .before .before .if6 .left) (c .before .if7 .left) in
     (opens-at (a .src .now) (a .st) (a .kind) (a .detail) (a .start) (a .len) 6 e (simp (ne-eqb _ _ (c .if8 .left)) (empty-puts _)), omega arith)
 
 pub write-lead-spec : {M : Type 1} → statement M

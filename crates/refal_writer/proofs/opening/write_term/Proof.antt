@@ -1,7 +1,10 @@
 -- `refal_writer::opening::write_term` meets its contract.
 use native.Mathlib.Omega.{arith}
+use borrow.Author.Tests.{eq-eqb, ne-eqb}
+use Prim.Native.Nat.{ℕ}
 use mathlib.Core.Path.{_≡_}
-use Rattle.refal_writer.specs.TextPuts.{opens-at, only-call}
+use Rattle.refal_writer.specs.Puts.{Puts, puts-none}
+use Rattle.refal_writer.specs.TextPuts.{text-two, opens-at, only-call}
 use borrow.Author.Needs.{needs}
 use Rattle.refal_writer.proofs.opening.write_term.Statement.{statement}
 use Rattle.refal_writer.proofs.opening.write_term.Tie as tie
@@ -64,8 +67,7 @@ same-length-6 c = search needs
 
 returns-6 : tie.Need-returns-6
 returns-6 c = let a = c .before .before .before .before .before .before .before .before .before .before .before .args in
-    let e : a .kind ≡ 14 = only-call (a .kind) (c .before .before .before .before .before .before .before .before .before .before .before .pre .0) (c .before .before .before .before .before .before .before .before .before .before .before .pre .1 .high) (c .before .before .before .before .before .before .before .before .if1 .left)
-    (c .before .before .before .before .before .before .before .if2 .left) (c .before .before .before .before .before .before .if3 .left) (c .before .before .before .before .before .if4 .left) (c .before .before .before .before .if5 .left) in
+    let e : a .kind ≡ 14 = only-call (a .kind) (c .before .before .before .before .before .before .before .before .before .before .before .pre .0) (c .before .before .before .before .before .before .before .before .before .before .before .pre .1 .high) (c .before .before .before .before .before .before .before .before .if1 .left) (c .before .before .before .before .before .before .before .if2 .left) (c .before .before .before .before .before .before .if3 .left) (c .before .before .before .before .before .if4 .left) (c .before .before .before .before .if5 .left) in
     (opens-at (a .src .now) (a .st) (a .kind) (a .detail) (a .start) (a .len) 14 e (c .before .before .write-two .ensures .0), omega arith)
 
 pub write-term-spec : {M : Type 1} → statement M

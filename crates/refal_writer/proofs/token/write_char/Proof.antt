@@ -1,25 +1,13 @@
 -- `refal_writer::token::write_char` meets its contract.
 use native.Mathlib.Omega.{arith}
-use mathlib.Core.List.{[], _∷_, _++_}
-use mathlib.Core.Path.{_∙_}
-use Rattle.refal_writer.specs.Puts.{puts-as, pours-first, pours-on, pours-end}
-use Rattle.refal_writer.specs.Token.{quoted-text, plain-text, plain-low}
-use Rattle.refal_spelling.specs.Spell.{body}
+use mathlib.Core.List.{List, [], _∷_, _++_}
+use mathlib.Core.Path.{_≡_, _∙_}
+use Rattle.refal_writer.specs.Puts.{Puts, Pours, puts-as, pours-first, pours-on, pours-end}
+use Rattle.refal_writer.specs.Token.{quoted-text}
+use Rattle.refal_spelling.specs.Spell.{body, quoted}
 use borrow.Author.Needs.{needs}
 use Rattle.refal_writer.proofs.token.write_char.Statement.{statement}
 use Rattle.refal_writer.proofs.token.write_char.Tie as tie
-
-cast-put4 : tie.Need-cast-put4
-cast-put4 c = let l = plain-low (c .before .before .args .x) (c .if1 .taken) in omega arith
-
-put4-requires : tie.Need-put4-requires
-put4-requires c κs = search needs
-
-same-length : tie.Need-same-length
-same-length c = search needs
-
-returns : tie.Need-returns
-returns c = (puts-as _ _ (plain-text (c .before .before .before .before .before .before .args .x) (c .before .before .before .before .if1 .taken)) (c .before .before .put4 .ensures .0), omega arith)
 
 put1-requires : tie.Need-put1-requires
 put1-requires c κs = search needs
@@ -60,24 +48,20 @@ put2-requires c κs = search needs
 add-result : tie.Need-add-result
 add-result c = search needs
 
-same-length-2 : tie.Need-same-length-2
-same-length-2 c = search needs
+same-length : tie.Need-same-length
+same-length c = search needs
 
-returns-2 : tie.Need-returns-2
-returns-2 c = let x = c .before .before .before .before .before .before .before .before .before .before .before .before .before .before .before .before .args .x in
+returns : tie.Need-returns
+returns c = let x = c .before .before .before .before .before .before .before .before .before .before .before .before .before .before .before .args .x in
     let p1 = pours-first (39 ∷ []) (body x ++ 39 ∷ 32 ∷ []) _ _ _ (c .before .before .before .before .before .before .before .before .before .before .before .before .put1 .ensures .0) in
     let p2 = pours-on _ (body x) (39 ∷ 32 ∷ []) _ _ _ _ _ _ p1 (c .before .before .before .before .before .before .before .before .before .before .before .before .put1 .kept .1 .0) (c .before .before .before .before .before .before .before .before .before .least .ensures) (c .before .before .before .before .before .before .before .put-code .ensures .0) in
-    let p3 = pours-on _ (39 ∷ 32 ∷ []) [] _ _ _ _ _ _ p2 (c .before .before .before .before .before .before .out3 .given .1 ∙ c .before .before .before .before .before .before .before .before .before .before .before .before .put1 .kept .1 .0) (c .before .before .before .before .least2 .ensures) (c .before .before .put2 .ensures .0) in
+    let p3 = pours-on _ (39 ∷ 32 ∷ []) [] _ _ _ _ _ _ p2 (c .before .before .before .before .before .before .out2 .given .1 ∙ c .before .before .before .before .before .before .before .before .before .before .before .before .put1 .kept .1 .0) (c .before .before .before .before .least2 .ensures) (c .before .before .put2 .ensures .0) in
     (puts-as _ _ (quoted-text x) (pours-end _ _ _ _ p3), omega arith)
 
 pub write-char-spec : {M : Type 1} → statement M
 write-char-spec =
     tie.close
     (tie.spec
-    cast-put4
-    put4-requires
-    same-length
-    returns
     put1-requires
     least-requires
     sub-put-code
@@ -91,5 +75,5 @@ write-char-spec =
     part-put2-end
     put2-requires
     add-result
-    same-length-2
-    returns-2)
+    same-length
+    returns)

@@ -1,9 +1,9 @@
 -- `refal_writer::token::write_mark` meets its contract.
 use native.Mathlib.Omega.{arith}
-use mathlib.Core.List.{[], _∷_}
-use mathlib.Core.Path.{ap, _∙_}
-use Rattle.refal_writer.specs.Puts.{puts-as}
-use Rattle.refal_writer.specs.Token.{entry-text, extern-text, mark-text}
+use mathlib.Core.List.{List, [], _∷_, _++_}
+use mathlib.Core.Path.{_≡_, ap, _∙_}
+use Rattle.refal_writer.specs.Puts.{Puts, puts-as}
+use Rattle.refal_writer.specs.Token.{tokenText, entry-text, extern-text, mark-text}
 use borrow.Author.Needs.{needs}
 use Rattle.refal_writer.proofs.token.write_mark.Statement.{statement}
 use Rattle.refal_writer.proofs.token.write_mark.Tie as tie

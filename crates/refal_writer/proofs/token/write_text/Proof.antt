@@ -1,5 +1,5 @@
 -- `refal_writer::token::write_text` meets its contract.
-use Rattle.refal_writer.specs.Puts.{text-puts, text-short}
+use Rattle.refal_writer.specs.Puts.{Puts, text-puts, text-short}
 use native.Mathlib.Omega.{arith}
 use borrow.Author.Needs.{needs}
 use Rattle.refal_writer.proofs.token.write_text.Statement.{statement}

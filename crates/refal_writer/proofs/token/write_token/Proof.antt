@@ -1,8 +1,8 @@
 -- `refal_writer::token::write_token` meets its contract.
 use native.Mathlib.Omega.{arith}
 use Rattle.refal_spelling.specs.Spell.{textAt}
-use Rattle.refal_writer.specs.Puts.{puts-as}
-use Rattle.refal_writer.specs.Token.{name-text, variable-text, number-text, char-text, bare-text}
+use Rattle.refal_writer.specs.Puts.{Puts, puts-as}
+use Rattle.refal_writer.specs.Token.{tokenText, Mark, name-text, variable-text, number-text, char-text, bare-text}
 use borrow.Author.Needs.{needs}
 use Rattle.refal_writer.proofs.token.write_token.Statement.{statement}
 use Rattle.refal_writer.proofs.token.write_token.Tie as tie
@@ -54,12 +54,8 @@ same-length-5 : tie.Need-same-length-5
 same-length-5 c = search needs
 
 returns-5 : tie.Need-returns-5
-returns-5 c = let a = c .before .before .before .before .before .before .before .before .before .before .args in (
-  puts-as _ _ (bare-text (a .kind) (a .detail) (textAt (a .src .now) (a .start) (a .len))
-      (record { few = c .before .before .before .before .before .before .before .before .before .before .pre .few; no-name = c .before .before .before .before .before .before .before .if1 .left; no-variable = c .before .before .before .before .before .before .if2 .left; no-number = c .before .before .before .before .before .if3 .left; no-char = c .before .before .before .before .if4 .left }))
-      (c .before .before .write-mark .ensures .0),
-  omega arith,
-)
+returns-5 c = let a = c .before .before .before .before .before .before .before .before .before .before .args in
+    (puts-as _ _ (bare-text (a .kind) (a .detail) (textAt (a .src .now) (a .start) (a .len)) (record { few = c .before .before .before .before .before .before .before .before .before .before .pre .few; no-name = c .before .before .before .before .before .before .before .if1 .left; no-variable = c .before .before .before .before .before .before .if2 .left; no-number = c .before .before .before .before .before .if3 .left; no-char = c .before .before .before .before .if4 .left })) (c .before .before .write-mark .ensures .0), omega arith)
 
 pub write-token-spec : {M : Type 1} → statement M
 write-token-spec =

@@ -1,7 +1,8 @@
 -- `refal_writer::token::write_variable` meets its contract.
 use native.Mathlib.Omega.{arith}
-use mathlib.Core.List.{[], _∷_, _++_}
-use Rattle.refal_writer.specs.Puts.{puts-two}
+use mathlib.Core.List.{List, [], _∷_, _++_}
+use mathlib.Core.Path.{_≡_, _∙_}
+use Rattle.refal_writer.specs.Puts.{Puts, Pours, puts-two}
 use Rattle.refal_spelling.specs.Spell.{textAt}
 use borrow.Author.Needs.{needs}
 use Rattle.refal_writer.proofs.token.write_variable.Statement.{statement}
