@@ -13,7 +13,8 @@ use Rattle.refal_ast.specs.Answers.{refusal, pickAnswer}
 use Rattle.refal_ast.specs.Tokens.{Token, tokensOf}
 use Rattle.refal_ast.specs.Check.{wellFormed}
 use Rattle.refal_ast.specs.Tree.{Program, sizeP, depthP}
-use Rattle.refal_ast.specs.Encode.{nodeWidth, encP}
+use Rattle.refal_ast.specs.Nodes.{nodeWidth}
+use Rattle.refal_ast.specs.Encode.{encP}
 use Rattle.refal_ast.specs.Flatten.{Flat, mark, flatOf, flatsOf, Loose}
 use Rattle.refal_ast.specs.declared.Answer.the-variants.{Done, Refused}
 use Rattle.refal_parser.specs.Machine.{Outcome, tree, refuse}

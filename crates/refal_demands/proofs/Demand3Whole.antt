@@ -14,7 +14,8 @@ use Rattle.refal_ast.specs.Flatten.{flattenP}
 use Rattle.refal_ast.specs.declared.Answer.{Answer}
 use Rattle.refal_ast.specs.declared.Refusal.{Refusal}
 use Rattle.refal_ast.specs.declared.Answer.the-variants.{Done, Refused}
-use Rattle.refal_tree.specs.Lawful.{treeOf, tree-of, mostLevels, lawful}
+use Rattle.refal_ast.specs.Limits.{mostLevels}
+use Rattle.refal_tree.specs.Lawful.{treeOf, tree-of, lawful}
 use Rattle.refal_spelling.specs.Spell.{views, text}
 use Rattle.refal_spelling.specs.Spellings.{allSpelled}
 use Rattle.refal_writer.specs.Write.{treeText, written, mostBytes, fits, refuse, writeAnswer, left, writeBytes}

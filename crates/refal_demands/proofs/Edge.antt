@@ -7,7 +7,8 @@ use native.Mathlib.Omega.{arith}
 use Rattle.refal_ast.specs.Kinds.{nodeDeclaration, nodeFunction}
 use Rattle.refal_ast.specs.Tokens.{Token}
 use Rattle.refal_ast.specs.Tree.{Terms, Sentences, Program, p0, pDeclaration, pFunction, sizeN, sizeS, sizeP}
-use Rattle.refal_ast.specs.Encode.{node, entryWord, encN, encS, encP}
+use Rattle.refal_ast.specs.Nodes.{node}
+use Rattle.refal_ast.specs.Encode.{entryWord, encN, encS, encP}
 use Rattle.refal_ast.specs.declared.tree.Term.{Term}
 use Rattle.refal_ast.specs.declared.tree.Term.the-variants.{Symbol as theSymbol, Variable, Bracket, Call, UnknownVariable, NoTerm}
 use Rattle.refal_parser.specs.Machine.{termOf, Block, body, inCondition, inEnding, Place, pattern, argument, matching, result, ending, bracket, call}

@@ -10,14 +10,16 @@ use Rattle.refal_ast.specs.Kinds.{tokEof}
 use Rattle.refal_ast.specs.Answers.{refusal, pickAnswer}
 use Rattle.refal_ast.specs.Tokens.{Token, flat, tokensOf, tokens-flat}
 use Rattle.refal_ast.specs.Check.{wellFormed}
-use Rattle.refal_ast.specs.Encode.{nodeWidth, encP}
+use Rattle.refal_ast.specs.Nodes.{nodeWidth}
+use Rattle.refal_ast.specs.Encode.{encP}
 use Rattle.refal_ast.specs.Tree.{Program, sizeP, depthP}
 use Rattle.refal_ast.specs.Flatten.{Flat, mark, flatOf, flatsOf, flattenP, Loose}
 use Rattle.refal_ast.specs.declared.Answer.the-variants.{Done, Refused}
 use Rattle.refal_lexer.specs.Lex.{Out, lex}
 use Rattle.refal_parser.specs.Machine.{Outcome, tree}
 use Rattle.refal_parser.specs.Parse.{parsed, answerOf}
-use Rattle.refal_tree.specs.Lawful.{lawful, lawful-is, mostRows}
+use Rattle.refal_ast.specs.Limits.{mostRows}
+use Rattle.refal_tree.specs.Lawful.{lawful, lawful-is}
 use Rattle.refal_spelling.specs.Spell.{Spelled, view, views, text}
 use Rattle.refal_spelling.specs.Places.{tokensAt}
 use Rattle.refal_spelling.specs.Sound.{AllSound, sound-more, sound-good, loose-sound}

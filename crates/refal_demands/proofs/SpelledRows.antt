@@ -9,7 +9,8 @@ use Rattle.refal_ast.specs.Kinds.{tokExtern, tokIdentifier, tokChar, tokLBrace,
 use Rattle.refal_ast.specs.Kinds.{tokComma, tokColon, tokEquals, tokSemicolon}
 use Rattle.refal_ast.specs.Kinds.{nodeDeclaration, nodeName, nodeFunction, nodeSentence, nodeCondition, nodeTerms, nodeEndingBlock, nodeConditionBlock}
 use Rattle.refal_ast.specs.Kinds.{nodeIdentifier, nodeNumber, nodeChar, nodeVariable, nodeBracket, nodeCall}
-use Rattle.refal_ast.specs.Encode.{node, letterOf, entryWord, leafRow, encT, encTerms, encC, encS, encN, encP}
+use Rattle.refal_ast.specs.Nodes.{node}
+use Rattle.refal_ast.specs.Encode.{letterOf, entryWord, leafRow, encT, encTerms, encC, encS, encN, encP}
 use Rattle.refal_ast.specs.Tree.{Leaf, symbol, variable, Terms, t0, tLeaf, tBracket, tCall, Conditions, c0, cTerms, cBlock, Sentences, s0, sTerms, sBlock}
 use Rattle.refal_ast.specs.Tree.{Names, nOne, nMore, Program, p0, pDeclaration, pFunction}
 use Rattle.refal_ast.specs.Flatten.{Flat, mark, nameOf, flatLeaf, flatEntry, flattenP}

@@ -7,7 +7,7 @@ use mathlib.Core.Logic.{_↔_}
 use mathlib.Core.List.{List}
 use lib.ListN.{length, take}
 use Rattle.refal_ast.specs.Check.{wellFormed}
-use Rattle.refal_ast.specs.Encode.{nodeWidth}
+use Rattle.refal_ast.specs.Nodes.{nodeWidth}
 use Rattle.refal_ast.specs.declared.Answer.the-variants.{Done}
 use Rattle.refal_parser.specs.Parse.{parseAnswer, parseRows}
 use Rattle.refal_demands.specs.Spans.{SameButSpans}

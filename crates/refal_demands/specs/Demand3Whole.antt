@@ -7,7 +7,7 @@ use mathlib.Core.List.{List}
 use mathlib.Core.Logic.{_↔_}
 use lib.ListN.{length, take}
 use Rattle.refal_ast.specs.Check.{wellFormed}
-use Rattle.refal_ast.specs.Encode.{nodeWidth}
+use Rattle.refal_ast.specs.Nodes.{nodeWidth}
 use Rattle.refal_ast.specs.declared.Refusal.{Refusal}
 use Rattle.refal_ast.specs.declared.Answer.the-variants.{Done, Refused}
 use Rattle.refal_parser.specs.Parse.{parseAnswer}

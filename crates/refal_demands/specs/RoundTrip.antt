@@ -4,7 +4,7 @@ use Prim.Native.Nat.{ℕ, _*_, _≤_}
 use mathlib.Core.Bool.{true}
 use mathlib.Core.List.{List}
 use lib.ListN.{length, take}
-use Rattle.refal_ast.specs.Encode.{nodeWidth}
+use Rattle.refal_ast.specs.Nodes.{nodeWidth}
 use Rattle.refal_ast.specs.Flatten.{flattenP}
 use Rattle.refal_ast.specs.declared.Answer.the-variants.{Done}
 use Rattle.refal_lexer.specs.Lex.{lex}

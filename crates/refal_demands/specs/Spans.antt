@@ -3,7 +3,7 @@ use mathlib.Core.Path.{_≡_}
 use Prim.Native.Nat.{ℕ, _%_}
 use mathlib.Core.List.{List}
 use lib.ListN.{length, getD}
-use Rattle.refal_ast.specs.Encode.{nodeWidth}
+use Rattle.refal_ast.specs.Nodes.{nodeWidth}
 
 -- word i is none of a span's two, which are words 4 and 5 of a row
 abbrev pub OutsideSpan : ℕ → Type 0

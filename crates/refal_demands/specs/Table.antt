@@ -6,7 +6,7 @@ use lib.ListN.{length, replicate}
 use Rattle.refal_ast.specs.Kinds.{tokEntry, tokIdentifier, tokVariable, tokNumber, tokChar, tokLBrace, tokRBrace, tokComma, tokColon, tokEquals, tokSemicolon, tokEof}
 use Rattle.refal_ast.specs.Kinds.{nodeFunction, nodeSentence, nodeCondition, nodeTerms, nodeConditionBlock, nodeIdentifier}
 use Rattle.refal_ast.specs.Answers.{refusal}
-use Rattle.refal_ast.specs.Encode.{node}
+use Rattle.refal_ast.specs.Nodes.{node}
 use Rattle.refal_ast.specs.declared.Answer.{Answer}
 use Rattle.refal_ast.specs.declared.Answer.the-variants.{Done, Refused}
 use Rattle.refal_lexer.specs.Read.{readAnswer, readRows}

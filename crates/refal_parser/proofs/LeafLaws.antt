@@ -12,7 +12,8 @@ use Rattle.refal_ast.specs.Kinds.{tokEof}
 use Rattle.refal_ast.specs.Tokens.{Token}
 use Rattle.refal_ast.specs.Check.{goodToken, goodFields, okTokens, scalar}
 use Rattle.refal_ast.specs.Tree.{Leaf, symbol, variable}
-use Rattle.refal_ast.specs.Encode.{node, leafRow}
+use Rattle.refal_ast.specs.Nodes.{node}
+use Rattle.refal_ast.specs.Encode.{leafRow}
 use Rattle.refal_ast.specs.declared.tree.Symbol.the-variants.{Char, Identifier, Number}
 use Rattle.refal_ast.specs.declared.tree.VariableKind.the-variants.{Symbol as kindS, Term as kindT, Expression as kindE}
 use Rattle.refal_parser.specs.Machine.{termOf}

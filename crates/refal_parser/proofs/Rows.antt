@@ -7,7 +7,8 @@ use Rattle.refal_rows.specs.Writes.{Writes, none, sized, placed, then, row}
 use Rattle.refal_ast.specs.Kinds.{nodeDeclaration, nodeFunction, nodeSentence, nodeCondition, nodeTerms, nodeEndingBlock, nodeConditionBlock, nodeBracket, nodeCall}
 use Rattle.refal_ast.specs.Tree.{Leaf, symbol, variable, Terms, t0, tLeaf, tBracket, tCall, Conditions, c0, cTerms, cBlock, Sentences, s0, sTerms, sBlock, Names, nOne, nMore}
 use Rattle.refal_ast.specs.Tree.{Program, p0, pDeclaration, pFunction, sizeT, sizeC, sizeS, sizeN, sizeP}
-use Rattle.refal_ast.specs.Encode.{node, leafRow, entryWord, endTerms, encT, encTerms, encC, encS, encN, encP}
+use Rattle.refal_ast.specs.Nodes.{node}
+use Rattle.refal_ast.specs.Encode.{leafRow, entryWord, endTerms, encT, encTerms, encC, encS, encN, encP}
 use Rattle.refal_ast.specs.declared.tree.Symbol.the-variants.{Char, Identifier, Number}
 use Rattle.refal_parser.specs.Writers.{putNode, spanRow, wT, wTerms, wC, wS, wN, wP, Cond, withTerms, withBlock, addC, sizeCond, wCond}
 use Rattle.refal_parser.specs.Writers.{End, plain, block, addS, wEnd, endSen, wSen, Item, declaration, function, addP, sizeItem, wItem}

@@ -6,7 +6,8 @@ use native.Mathlib.Omega.{arith}
 use lib.ListN.{length, getD}
 use Rattle.refal_ast.specs.Kinds.{nodeBracket, nodeCall}
 use Rattle.refal_ast.specs.Tree.{Leaf, symbol, variable, Terms, tLeaf, tBracket, tCall, sizeT}
-use Rattle.refal_ast.specs.Encode.{node, leafRow}
+use Rattle.refal_ast.specs.Nodes.{node}
+use Rattle.refal_ast.specs.Encode.{leafRow}
 use Rattle.refal_parser.specs.Machine.{Place, within, inTerms, lastEnd, run}
 use Rattle.refal_parser.specs.Ready.{rest, tok, termAt, afterFrom, afterTo, Ready}
 use Rattle.refal_parser.specs.Leaves.{leafTerm}

@@ -9,7 +9,8 @@ use Rattle.refal_ast.specs.Answers.{refusal, pickAnswer}
 use Rattle.refal_ast.specs.Tokens.{tokensOf}
 use Rattle.refal_ast.specs.Check.{wellFormed}
 use Rattle.refal_ast.specs.Tree.{Program, p0, sizeP}
-use Rattle.refal_ast.specs.Encode.{nodeWidth, encP}
+use Rattle.refal_ast.specs.Nodes.{nodeWidth}
+use Rattle.refal_ast.specs.Encode.{encP}
 use Rattle.refal_ast.specs.declared.Answer.{Answer}
 use Rattle.refal_ast.specs.declared.Answer.the-variants.{Done, Refused}
 use Rattle.refal_parser.specs.Machine.{Outcome, tree, refuse, items, run}

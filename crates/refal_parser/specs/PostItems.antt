@@ -5,7 +5,7 @@ use mathlib.Core.Bool.{Bool}
 use mathlib.Core.List.{List}
 use lib.ListN.{length, getD}
 use Rattle.refal_ast.specs.Kinds.{nodeFunction}
-use Rattle.refal_ast.specs.Encode.{node}
+use Rattle.refal_ast.specs.Nodes.{node}
 use Rattle.refal_ast.specs.Tree.{Sentences, Names, nOne, nMore, Program, p0, pFunction, sizeS, sizeN, sizeP}
 use Rattle.refal_parser.specs.Machine.{items, wantsName, wantsMore, named, headed, tree, refuse, run}
 use Rattle.refal_parser.specs.Ready.{rest, Ready}

@@ -4,7 +4,7 @@ use Prim.Native.Nat.{ℕ, _+_, _≤_, _<_}
 use mathlib.Core.List.{List}
 use lib.ListN.{length, getD}
 use Rattle.refal_ast.specs.Kinds.{nodeBracket, nodeCall}
-use Rattle.refal_ast.specs.Encode.{node}
+use Rattle.refal_ast.specs.Nodes.{node}
 use Rattle.refal_ast.specs.Tokens.{Token}
 use Rattle.refal_ast.specs.Tree.{Terms, t0, tBracket, tCall, Conditions, Sentences, sizeT}
 use Rattle.refal_ast.specs.declared.tree.Term.the-variants.{NoTerm}

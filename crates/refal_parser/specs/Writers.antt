@@ -6,7 +6,8 @@ use Rattle.refal_rows.specs.Rows.{putRow}
 use Rattle.refal_ast.specs.Kinds.{nodeDeclaration, nodeName, nodeFunction, nodeSentence, nodeCondition, nodeTerms, nodeEndingBlock, nodeConditionBlock, nodeBracket, nodeCall}
 use Rattle.refal_ast.specs.Tree.{Terms, t0, tLeaf, tBracket, tCall, Conditions, c0, cTerms, cBlock, Sentences, s0, sTerms, sBlock, Names, nOne, nMore}
 use Rattle.refal_ast.specs.Tree.{Program, p0, pDeclaration, pFunction, sizeT, sizeC, sizeS, sizeN, sizeP}
-use Rattle.refal_ast.specs.Encode.{nodeWidth, node, leafRow, entryWord, endTerms}
+use Rattle.refal_ast.specs.Nodes.{nodeWidth, node}
+use Rattle.refal_ast.specs.Encode.{leafRow, entryWord, endTerms}
 
 -- row m put in, where it fits whole
 abbrev pub putNode : List ℕ → ℕ → List ℕ → List ℕ

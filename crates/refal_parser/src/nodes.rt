@@ -2,7 +2,8 @@
 ghost use mathlib.Core.Path.{_≡_};
 ghost use Prim.Native.Nat.{_+_, _≤_};
 ghost use Rattle.refal_ast.specs.Tree.{symbol, variable};
-ghost use Rattle.refal_ast.specs.Encode.{node, leafRow, letterOf};
+ghost use Rattle.refal_ast.specs.Nodes.{node};
+ghost use Rattle.refal_ast.specs.Encode.{leafRow, letterOf};
 ghost use Rattle.refal_parser.specs.Writers.{putNode, spanRow, termsRow};
 use refal_ast::kinds::node;
 use refal_ast::tree::Symbol;

@@ -1,41 +1,91 @@
 -- The test of refusal 41 holds exactly of the texts that reading gives, from any source, as that kind.
-use Prim.Native.Nat.{ℕ}
+use Prim.Native.Nat.{ℕ, zero, suc, _+_, _-_, _*_, _<_, _≤_}
 use native.Mathlib.Omega.{arith}
-use mathlib.Core.Bool.{true}
-use mathlib.Core.List.{List, [], _∷_, _++_}
+use borrow.Author.Tests.{le-leb, leb-true}
+use mathlib.Core.Bool.{true, false, _&&_}
+use mathlib.Core.List.{List, [], _∷_, _++_, append-nil}
 use mathlib.Core.Logic.{_↔_}
 use mathlib.Core.Path.{_≡_, refl, ap, sym, subst, _∙_}
+use lib.Dec.{leb}
+use lib.ListN.{length, take, drop, length-take, length-drop}
+use lib.Seq.{take-length, drop-length, drop-append-add}
+use Rattle.refal_rows.specs.Tests.{and-left, and-right}
+use Rattle.refal_text.specs.Utf8.{wellTo}
 use Rattle.refal_ast.specs.Kinds.{tokIdentifier, tokVariable, tokNumber, tokEof}
+use Rattle.refal_ast.specs.Limits.{mostBytes}
 use Rattle.refal_ast.specs.Flatten.{flatOf}
-use Rattle.refal_ast.specs.Tokens.{Token}
-use Rattle.refal_lexer.specs.Lex.{Out, fine, lex}
-use Rattle.refal_spelling.specs.Spell.{Spelled, spelled, textAt, text}
+use Rattle.refal_ast.specs.Tokens.{Token, token, words, flat}
+use Rattle.refal_ast.specs.declared.Answer.the-variants.{Done}
+use Rattle.refal_lexer.specs.Lex.{Out, more, eofAt, after, lex}
+use Rattle.refal_lexer.specs.LexLaws.{lex-skip}
+use Rattle.refal_lexer.specs.Read.{readAnswer, readRows}
+use Rattle.refal_lexer.specs.Scans.{scan}
+use Rattle.refal_lexer.specs.declared.Scan.{Scan}
+use Rattle.refal_lexer.specs.declared.Scan.the-variants as S
+use Rattle.refal_spelling.specs.Spell.{Spelled, spelled, dotted, textAt, spelling}
 use Rattle.refal_spelling.specs.Spells.{spells, spellsIndex}
-use Rattle.refal_spelling.specs.Good.{Good, AllGood, no-more, and-more}
-use Rattle.refal_spelling.specs.Places.{tokenAt, tokensAt}
+use Rattle.refal_spelling.specs.Spellings.{numberOk}
+use Rattle.refal_spelling.specs.Good.{Good, identifier, variableOf, number, mark}
+use Rattle.refal_spelling.specs.Runs.{at-end}
+use Rattle.refal_spelling.specs.ScanWords.{number-some, scan-identifier, scan-index, scan-number}
 use Rattle.refal_spelling.specs.Sound.{Sound}
 use Rattle.refal_spelling.specs.ReadsGood.{Reading, ends, goes, reading}
+use Rattle.refal_spelling.specs.Answered.{Answered, answered, answers, rows-left}
 use Rattle.refal_spelling.specs.SpellsLaws.{spells-identifier, identifier-spells, spells-number, number-spells, index-good, good-index}
-use Rattle.refal_spelling.specs.RoundTrip.{text-reads, text-views}
+use Rattle.refal_spelling.specs.TextWell.{token-well}
 
--- reading gives the word, as the text of a token of that kind, from some source
+-- reading a source into rows lent answers how many tokens it has, and one of the rows is that of a token of the kind whose text is the word
 pub record Gives (kind : ℕ) (word : List ℕ) : Type 0 where
   pub source : List ℕ
-  pub stops : lex 0 0 true source .stop ≡ fine
-  pub before : List Token
+  pub lent : List ℕ
+  pub count : ℕ
+  pub answer : readAnswer source (length lent) ≡ Done count
+  pub i : ℕ
+  pub below : i < count
   pub t : Token
-  pub behind : List Token
-  pub tokens : lex 0 0 true source .tokens ≡ before ++ (t ∷ behind)
+  pub row : take 6 (drop (6 * i) (readRows source lent)) ≡ words t
   pub is-kind : t .kind ≡ kind
   pub is-text : textAt source (t .start) (t .len) ≡ word
 
 -- ---- the statements
 pub record Exactly : Type 0 where
   pub identifiers : (w : List ℕ) → Gives tokIdentifier w ↔ (spells tokIdentifier w ≡ true)
-  pub numbers : (w : List ℕ) → Gives tokNumber w ↔ (spells tokNumber w ≡ true)
+  pub numbers : (w : List ℕ) → Gives tokNumber w ↔ (numberOk w ≡ true)
   pub indices : (w : List ℕ) → Gives tokVariable w ↔ (spellsIndex w ≡ true)
 
--- ---- the proofs
+-- ---- what reading gives is good
+-- row i of the rows of tokens is the row of one of them
+record Among (ts : List Token) (i : ℕ) (r : List ℕ) : Type 0 where
+  before : List Token
+  x : Token
+  behind : List Token
+  is : ts ≡ before ++ (x ∷ behind)
+  row : take 6 (drop (6 * i) (flat ts ++ r)) ≡ words x
+
+among : (ts : List Token) (i : ℕ) (r : List ℕ) → i < length ts → Among ts i r
+among [] i r h = absurd (omega arith)
+among (x ∷ ts) zero r h = record { before = []; x = x; behind = ts; is = refl; row = refl }
+among (x ∷ ts) (suc i) r h =
+    let A = among ts i r (omega arith) in
+    let e : 6 * suc i ≡ length (words x) + 6 * i = omega arith in
+    record {
+      before = x ∷ A .before;
+      x = A .x;
+      behind = A .behind;
+      is = ap (λ (l : List Token). x ∷ l) (A .is);
+      row = ap (λ (k : ℕ). take 6 (drop k (words x ++ (flat ts ++ r)))) e ∙ ap (take 6) (drop-append-add (words x) (flat ts ++ r) (6 * i)) ∙ A .row;
+    }
+
+same-token : (t u : Token) → words t ≡ words u → t ≡ u
+same-token t u e =
+    let ek : t .kind ≡ u .kind = cc in
+    let ed : t .detail ≡ u .detail = cc in
+    let es : t .start ≡ u .start = cc in
+    let el : t .len ≡ u .len = cc in
+    let ea : t .from ≡ u .from = cc in
+    let eb : t .to ≡ u .to = cc in
+    λ i. record { kind = ek i; detail = ed i; start = es i; len = el i; from = ea i; to = eb i }
+
 tail : (src : List ℕ) (x : Token) (l : List Token) → Reading src (x ∷ l) → (l ≡ [] → ⊥) → Reading src l
 tail src x l (ends at) n = absurd (n refl)
 tail src x l (goes h r) n = r
@@ -50,48 +100,95 @@ member src [] t us (ends at) n = absurd (n refl)
 member src [] t us (goes h r) n = h
 member src (x ∷ ts) t us r n = member src ts t us (tail src x (ts ++ (t ∷ us)) r (some ts t us)) n
 
-given-good : (kind : ℕ) (w : List ℕ) → (kind ≡ tokEof → ⊥) → Gives kind w → (d : ℕ) × Good (spelled kind d w)
+given-good : (kind : ℕ) (w : List ℕ) → (kind ≡ tokEof → ⊥) → Gives kind w → ((d : ℕ) × Good (spelled kind d w)) × (length w ≤ mostBytes)
 given-good kind w n g =
-    let r : Reading (g .source) (g .before ++ (g .t ∷ g .behind)) = subst (Reading (g .source)) (g .tokens) (reading (g .source) (g .source) 0 0 true refl (g .stops)) in
-    let h : Sound (g .source) (flatOf (g .t)) = member (g .source) (g .before) (g .t) (g .behind) r (λ e. n (sym (g .is-kind) ∙ e)) in (
-      g .t .detail,
-      subst (λ (x : List ℕ). Good (spelled kind (g .t .detail) x)) (g .is-text)
-          (subst (λ (k : ℕ). Good (spelled k (g .t .detail) (textAt (g .source) (g .t .start) (g .t .len)))) (g .is-kind) (h .good)),
+    let s : List ℕ = g .source in
+    let ts : List Token = lex 0 0 true s .tokens in
+    let a = answered s (length (g .lent)) (g .count) (g .answer) in
+    let A = among ts (g .i) (drop (6 * g .count) (g .lent)) (let b = g .below in let c = a .count in omega arith) in
+    let e : A .x ≡ g .t = same-token (A .x) (g .t) (sym (A .row) ∙ sym (ap (λ (l : List ℕ). take 6 (drop (6 * g .i) l)) (rows-left s (g .lent) (g .count) (g .answer))) ∙ g .row) in
+    let k : A .x .kind ≡ kind = ap (λ (t : Token). t .kind) e ∙ g .is-kind in
+    let q : textAt s (A .x .start) (A .x .len) ≡ w = ap (λ (t : Token). textAt s (t .start) (t .len)) e ∙ g .is-text in
+    let r : Reading s (A .before ++ (A .x ∷ A .behind)) = subst (Reading s) (A .is) (reading s s 0 0 true refl (a .stops)) in
+    let h : Sound s (flatOf (A .x)) = member s (A .before) (A .x) (A .behind) r (λ z. n (sym k ∙ z)) in
+    let l : length (textAt s (A .x .start) (A .x .len)) ≤ mostBytes = let i = a .short in simp (length-take, length-drop) (omega arith) in (
+      (
+        A .x .detail,
+        subst (λ (x : List ℕ). Good (spelled kind (A .x .detail) x)) q
+            (subst (λ (k : ℕ). Good (spelled k (A .x .detail) (textAt s (A .x .start) (A .x .len)))) k (h .good)),
+      ),
+      subst (λ (x : List ℕ). length x ≤ mostBytes) q l,
     )
 
--- a good token's own spelling is such a source
-good-given : (kind d : ℕ) (w : List ℕ) → Good (spelled kind d w) → Gives kind w
-unfolding tokensAt tokenAt
-good-given kind d w g =
-    let ts = spelled kind d w ∷ [] in
-    let a : AllGood ts = and-more g no-more in
-    let l = text-reads ts a in
+-- ---- a good word is given, by itself or, an index, behind a letter and a point
+lex-alone : (kind d start len : ℕ) (l : List ℕ) → scan 0 true l ≡ S.Token kind d start len (0 + length l) → 1 ≤ length l
+    → lex 0 0 true l ≡ more (token kind d start len 0 (0 + length l)) (eofAt (length l))
+unfolding lex
+lex-alone kind d start len [] e h = absurd (omega arith)
+lex-alone kind d start len (b ∷ s) e h =
+    let k : 0 + suc (length s) - suc 0 ≡ length s = omega arith in
+    let z : suc 0 + length s ≡ suc (length s) = omega arith in
+    ap (λ (x : Scan). after 0 b s x (λ k l. lex k (suc 0) l s)) e
+    ∙ ap (λ (n : ℕ). more (token kind d start len 0 (0 + suc (length s))) (lex n (suc 0) false s)) k
+    ∙ ap (more (token kind d start len 0 (0 + suc (length s))))
+    (lex-skip (length s) (suc 0) false s (omega arith) ∙ ap (lex 0 (suc 0 + length s) false) (drop-length s) ∙ ap eofAt z)
+
+-- rows for two tokens
+rows12 : List ℕ
+rows12 = 0 ∷ 0 ∷ 0 ∷ 0 ∷ 0 ∷ 0 ∷ 0 ∷ 0 ∷ 0 ∷ 0 ∷ 0 ∷ 0 ∷ []
+
+given-alone : (kind d start len : ℕ) (l w : List ℕ) → scan 0 true (l ++ []) ≡ S.Token kind d start len (0 + length l) → 1 ≤ length l
+    → length l ≤ mostBytes → wellTo 0 l ≡ length l → textAt l start len ≡ w → Gives kind w
+unfolding rows12
+given-alone kind d start len l w e some short well text =
+    let o : lex 0 0 true l ≡ more (token kind d start len 0 (0 + length l)) (eofAt (length l)) = lex-alone kind d start len l (ap (scan 0 true) (sym (append-nil l)) ∙ e) some in
+    let A : Answered l 12 2 = record { short = short; well = omega arith; stops = ap (λ (x : Out). x .stop) o; count = ap (λ (x : Out). length (x .tokens)) o; room = omega arith } in
+    let r : readAnswer l (length rows12) ≡ Done 2 = answers l 12 2 A in
     record {
-      source = text ts;
-      stops = ap (λ (o : Out). o .stop) l;
-      before = [];
-      t = tokenAt 0 (spelled kind d w);
-      behind = _;
-      tokens = ap (λ (o : Out). o .tokens) l;
+      source = l;
+      lent = rows12;
+      count = 2;
+      answer = r;
+      i = 0;
+      below = omega arith;
+      t = token kind d start len 0 (0 + length l);
+      row = ap (λ (m : List ℕ). take 6 (drop 0 m)) (rows-left l rows12 2 r ∙ ap (λ (x : Out). flat (x .tokens) ++ drop 12 rows12) o);
       is-kind = refl;
-      is-text = first (text-views ts a);
+      is-text = text;
     }
-  where
-    first : {x y : Spelled} → x ∷ [] ≡ y ∷ [] → x .word ≡ y .word
-    first e = cc
+
+identifier-given : (w : List ℕ) → Good (spelled tokIdentifier 0 w) → Gives tokIdentifier w
+unfolding spelling
+identifier-given w (identifier b s u a h) =
+    given-alone tokIdentifier 0 0 (suc (length s)) (b ∷ s) (b ∷ s) (scan-identifier 0 true b s [] u a h at-end) (omega arith) (omega arith)
+    (token-well (spelled tokIdentifier 0 (b ∷ s)) (identifier b s u a h)) (take-length (b ∷ s))
+identifier-given w (mark k lo hi) = absurd (omega arith)
+
+number-given : (w : List ℕ) → Good (spelled tokNumber 0 w) → length w ≤ mostBytes → Gives tokNumber w
+unfolding spelling
+number-given w (number v n) short =
+    given-alone tokNumber 0 0 (length v) v v (scan-number v n 0 true [] at-end) (number-some v n) short (token-well (spelled tokNumber 0 v) (number v n)) (take-length v)
+number-given w (mark k lo hi) short = absurd (omega arith)
+
+index-given : (v : ℕ) (w : List ℕ) → Good (spelled tokVariable v w) → Gives tokVariable w
+unfolding spelling
+index-given v w (variableOf x y u a lo hi) =
+    given-alone tokVariable x 2 (length y) (dotted x y) y (scan-index 0 true x y [] u a lo hi at-end) (omega arith) (omega arith)
+    (token-well (spelled tokVariable x y) (variableOf x y u a lo hi)) (take-length y)
+index-given v w (mark k lo hi) = absurd (omega arith)
 
 pub spells-exactly : Exactly
 spells-exactly = record {
-  identifiers = λ w. (λ g. of-identifier w (given-good tokIdentifier w (λ e. omega arith) g), λ h. good-given tokIdentifier 0 w (spells-identifier w h));
-  numbers = λ w. (λ g. of-number w (given-good tokNumber w (λ e. omega arith) g), λ h. good-given tokNumber 0 w (spells-number w h));
-  indices = λ w. (λ g. of-index w (given-good tokVariable w (λ e. omega arith) g), λ h. good-given tokVariable 115 w (index-good 115 w refl h));
+  identifiers = λ w. (λ g. of-identifier w (given-good tokIdentifier w (λ e. omega arith) g .0), λ h. identifier-given w (spells-identifier w h));
+  numbers = λ w. (λ g. of-number w (given-good tokNumber w (λ e. omega arith) g), λ h. number-given w (spells-number w (and-left _ _ h)) (leb-true _ _ (and-right (spells tokNumber w) _ h)));
+  indices = λ w. (λ g. of-index w (given-good tokVariable w (λ e. omega arith) g .0), λ h. index-given 115 w (index-good 115 w refl h));
 }
   where
     of-identifier : (w : List ℕ) → (d : ℕ) × Good (spelled tokIdentifier d w) → spells tokIdentifier w ≡ true
     of-identifier w p = identifier-spells (p .0) w (p .1)
 
-    of-number : (w : List ℕ) → (d : ℕ) × Good (spelled tokNumber d w) → spells tokNumber w ≡ true
-    of-number w p = number-spells (p .0) w (p .1)
+    of-number : (w : List ℕ) → ((d : ℕ) × Good (spelled tokNumber d w)) × (length w ≤ mostBytes) → numberOk w ≡ true
+    of-number w p = rw (number-spells (p .0 .0) w (p .0 .1), le-leb _ _ (p .1)) refl
 
     of-index : (w : List ℕ) → (d : ℕ) × Good (spelled tokVariable d w) → spellsIndex w ≡ true
     of-index w p = good-index (p .0) w (p .1) .1

@@ -21,7 +21,7 @@ pub mod TextReads
 pub mod TextViews
 pub mod TextWell
 pub mod RoundTrip
-pub mod Given
 pub mod Spellings
+pub mod Given
 pub mod WordLaws
 pub mod SpellingLaws

@@ -8,7 +8,8 @@ use lib.ListN.{length}
 use Rattle.refal_text.specs.Pick.{pick}
 use Rattle.refal_ast.specs.Kinds.{tokIdentifier, tokNumber, nodeNumber, nodeChar, nodeVariable}
 use Rattle.refal_ast.specs.Check.{scalar}
-use Rattle.refal_tree.specs.Rules.{usesText}
+use Rattle.refal_ast.specs.Limits.{mostBytes}
+use Rattle.refal_ast.specs.Nodes.{Node, hasText, nodesOf}
 use Rattle.refal_spelling.specs.Spell.{textAt}
 use Rattle.refal_spelling.specs.Spells.{spells, spellsIndex}
 
@@ -20,10 +21,14 @@ charOk x = not (eqb x 10) && scalar x
 abbrev pub inSource : List ℕ → ℕ → ℕ → Bool
 inSource src start len = leb (start + len) (length src)
 
+-- a Number that reading gives: its text stands in a source, and no source of more bytes is read
+abbrev pub numberOk : List ℕ → Bool
+numberOk word = spells tokNumber word && leb (length word) mostBytes
+
 -- the word is a spelling that reading gives for the kind of a row that uses its text
 abbrev pub wordOk : ℕ → List ℕ → Bool
 wordOk kind word =
-    pick (eqb kind nodeNumber) (spells tokNumber word) (pick (eqb kind nodeVariable) (spellsIndex word) (spells tokIdentifier word))
+    pick (eqb kind nodeNumber) (numberOk word) (pick (eqb kind nodeVariable) (spellsIndex word) (spells tokIdentifier word))
 
 abbrev pub textSpelled : List ℕ → ℕ → ℕ → ℕ → Bool
 textSpelled src kind start len = inSource src start len && wordOk kind (textAt src start len)
@@ -31,15 +36,12 @@ textSpelled src kind start len = inSource src start len && wordOk kind (textAt s
 -- one row: kind, detail, text start and length
 unfoldable pub rowSpelled : List ℕ → ℕ → ℕ → ℕ → ℕ → Bool
 rowSpelled src kind detail start len =
-    pick (eqb kind nodeChar) (charOk detail) (pick (usesText kind) (textSpelled src kind start len) true)
+    pick (eqb kind nodeChar) (charOk detail) (pick (hasText kind) (textSpelled src kind start len) true)
 
--- every row of the words w; words short of a whole row hold none
+unfoldable pub nodesSpelled : List ℕ → List Node → Bool
+nodesSpelled src [] = true
+nodesSpelled src (x ∷ xs) = rowSpelled src (x .kind) (x .detail) (x .start) (x .len) && nodesSpelled src xs
+
+-- every row of the words w
 unfoldable pub allSpelled : List ℕ → List ℕ → Bool
-allSpelled src [] = true
-allSpelled src (k ∷ []) = true
-allSpelled src (k ∷ d ∷ []) = true
-allSpelled src (k ∷ d ∷ s ∷ []) = true
-allSpelled src (k ∷ d ∷ s ∷ l ∷ []) = true
-allSpelled src (k ∷ d ∷ s ∷ l ∷ a ∷ []) = true
-allSpelled src (k ∷ d ∷ s ∷ l ∷ a ∷ b ∷ []) = true
-allSpelled src (k ∷ d ∷ s ∷ l ∷ a ∷ b ∷ x ∷ w) = rowSpelled src k d s l && allSpelled src w
+allSpelled src w = nodesSpelled src (nodesOf w)

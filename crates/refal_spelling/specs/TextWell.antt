@@ -116,6 +116,9 @@ well-token t (number w h) = well-ascii w (number-ascii w h)
 well-token t (character x sc n) = well-append (39 ∷ []) (body x ++ (39 ∷ [])) (well-byte 39 refl) (well-append (body x) (39 ∷ []) (well-body x sc) (well-byte 39 refl))
 well-token t (mark k lo hi) = subst Well (sym (mark-spelling k lo)) (well-byte (markByte k) (mark-ascii k (omega arith)))
 
+pub token-well : (t : Spelled) → Good t → wellTo 0 (spelling t) ≡ length (spelling t)
+token-well t g = well-whole (spelling t) (well-token t g)
+
 well-text : (ts : List Spelled) → AllGood ts → Well (text ts)
 unfolding text
 well-text ts no-more = well-none

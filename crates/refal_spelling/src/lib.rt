@@ -5,11 +5,12 @@ mod words;
 use crate::words::is_identifier;
 use crate::words::is_index;
 use crate::words::is_number;
+use refal_ast::kinds::node;
+use refal_ast::limits;
+use refal_ast::nodes;
 ghost use mathlib.Core.Path.{_≡_};
-ghost use Prim.Native.Nat.{_+_, _≤_};
-ghost use lib.ListN.{length};
-ghost use Rattle.refal_tree.specs.Rules.{usesText};
-ghost use Rattle.refal_spelling.specs.Spellings.{charOk, textSpelled, rowSpelled, allSpelled};
+ghost use Rattle.refal_ast.specs.Nodes.{HasRow, wordAt, colKind, colDetail, colStart, colLen};
+ghost use Rattle.refal_spelling.specs.Spellings.{charOk, numberOk, textSpelled, rowSpelled, allSpelled};
 
 // Neither newline nor outside the scalar values.
 fn is_char(x: u32) -> bool
@@ -18,10 +19,12 @@ fn is_char(x: u32) -> bool
     (!(x == 10)) & ((x <= 1114111) & !((55296 <= x) & (x <= 57343)))
 }
 
-fn uses_text(kind: u32) -> bool
-    ensures { λ r. ⌜ r ≡ usesText kind ⌝ }
+// A Number that reading gives.
+fn number_ok(word: &[u8]) -> bool
+    ensures { λ r. ⌜ r ≡ numberOk (now (word .entry)) ⌝ }
 {
-    (((((kind == 2) | (kind == 3)) | (kind == 9)) | (kind == 10)) | (kind == 12)) | (kind == 14)
+    let short = word.len() <= limits::MOST_BYTES;
+    is_number(word) & short
 }
 
 // The text of a row of the kind.
@@ -33,23 +36,31 @@ fn text_spelled(src: &[u8], kind: u32, start: u32, len: u32) -> bool
     if src.len() < end {
         return false;
     }
-    if kind == 10 {
-        return is_number(&src[from..end]);
+    if kind == node::NUMBER {
+        return number_ok(&src[from..end]);
     }
-    if kind == 12 {
+    if kind == node::VARIABLE {
         return is_index(&src[from..end]);
     }
     is_identifier(&src[from..end])
 }
 
-fn row_spelled(src: &[u8], kind: u32, detail: u32, start: u32, len: u32) -> bool
-    ensures { λ r. ⌜ r ≡ rowSpelled (now (src .entry)) kind detail start len ⌝ }
+// Row i of the tree.
+fn row_spelled(tree: &[u32], src: &[u8], i: usize) -> bool
+    requires { ⌜ HasRow (now tree) i ⌝ }
+    ensures { λ r. ⌜ r ≡ rowSpelled (now (src .entry)) (wordAt (now (tree .entry)) i colKind) (wordAt (now (tree .entry)) i colDetail) (wordAt (now (tree .entry)) i colStart) (wordAt (now (tree .entry)) i colLen) ⌝ }
 {
-    if kind == 11 {
-        return is_char(detail);
+    let kind = nodes::kind(tree, i);
+    if kind == node::CHAR {
+        return is_char(nodes::detail(tree, i));
     }
-    if uses_text(kind) {
-        return text_spelled(src, kind, start, len);
+    if nodes::has_text(kind) {
+        return text_spelled(
+            src,
+            kind,
+            nodes::text_start(tree, i),
+            nodes::text_len(tree, i),
+        );
     }
     true
 }
@@ -58,11 +69,10 @@ fn row_spelled(src: &[u8], kind: u32, detail: u32, start: u32, len: u32) -> bool
 pub fn spellings(tree: &[u32], src: &[u8]) -> bool
     ensures { λ r. ⌜ r ≡ allSpelled (now (src .entry)) (now (tree .entry)) ⌝ }
 {
-    let rows = tree.len() / 7;
+    let rows = tree.len() / nodes::WIDTH;
     let mut i = 0;
     while i < rows {
-        let at = 7 * i;
-        if !row_spelled(src, tree[at], tree[at + 1], tree[at + 2], tree[at + 3]) {
+        if !row_spelled(tree, src, i) {
             return false;
         }
         i += 1;

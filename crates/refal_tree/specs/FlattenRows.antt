@@ -5,6 +5,7 @@ use mathlib.Core.Bool.{Bool, true, false}
 use mathlib.Core.List.{List, [], _∷_, _++_, append-assoc, append-nil}
 use mathlib.Core.Path.{_≡_, refl, sym, ap, _∙_}
 use lib.Dec.{eqb}
+use borrow.Author.Tests.{eqb-true}
 use Rattle.refal_ast.specs.Kinds.{tokExtern, tokVariable, tokNumber, tokChar, tokLBrace, tokRBrace, tokLParen, tokRParen, tokLAngle, tokRAngle}
 use Rattle.refal_ast.specs.Kinds.{tokComma, tokColon, tokEquals, tokSemicolon}
 use Rattle.refal_ast.specs.Kinds.{nodeDeclaration, nodeName, nodeFunction, nodeSentence, nodeCondition, nodeTerms, nodeEndingBlock, nodeConditionBlock}
@@ -15,7 +16,7 @@ use Rattle.refal_ast.specs.Encode.{entryWord}
 use Rattle.refal_ast.specs.Flatten.{Flat, flatToken, mark, nameOf, flatLeaf, flattenT, flattenC, flattenS, flattenN, flatEntry, flatFunction, flattenP}
 use Rattle.refal_ast.specs.declared.tree.Symbol.the-variants.{Char, Identifier, Number}
 use Rattle.refal_tree.specs.Forest.{Row, row, Forest, empty, tree}
-use Rattle.refal_tree.specs.States.{atItems, atName, atNames, atSentences, atPattern, atConditions, atCondition, atColon, atTerms, atArgument, closed, inside, after}
+use Rattle.refal_tree.specs.States.{atItems, atName, atNames, atSentences, atPattern, atConditions, atCondition, atColon, atTerms, atArgument, atEnding, closed, inside, after}
 use Rattle.refal_tree.specs.Typed.{leafR, plain, forT, forTerms, forC, forS, nameR, forN, forP, toForest}
 
 abbrev pub pickF : Bool → List Flat → List Flat → List Flat
@@ -58,6 +59,16 @@ unfoldable pub flattenG : ℕ → Forest → List Flat
 flattenG st empty = []
 flattenG st (tree r f g) =
     opening st r ++ (flattenG (inside (r .kind)) f ++ (closing st (r .kind) ++ flattenG (after st (r .kind)) g))
+
+-- the sentences of an ending block flatten as those of a function
+flat-ending : (f : Forest) → flattenG atEnding f ≡ flattenG atSentences f
+unfolding flattenG
+flat-ending empty = refl
+flat-ending (tree r f g) = go (flat-ending g) (eqb (r .kind) nodeSentence) refl
+  where
+    go : flattenG atEnding g ≡ flattenG atSentences g → (b : Bool) → eqb (r .kind) nodeSentence ≡ b → flattenG atEnding (tree r f g) ≡ flattenG atSentences (tree r f g)
+    go ih true e = rw (eqb-true (r .kind) nodeSentence e) (ap (λ (l : List Flat). flattenG atPattern f ++ (mark tokSemicolon ∷ l)) ih)
+    go ih false e = rw e refl
 
 -- ---- a tree's flattening
 
@@ -116,6 +127,9 @@ at-colon f = flows-as (append-nil (flattenT f)) (flows-terms atColon f)
 at-result : (f : Terms) → Flows atConditions closed (forTerms f) (mark tokEquals ∷ flattenT f)
 at-result f = flows-as (ap (λ (l : List Flat). mark tokEquals ∷ l) (append-nil (flattenT f))) (flows-terms atConditions f)
 
+flows-ending : {op : Forest → Forest} {E : List Flat} → Flows atSentences atSentences op E → Flows atEnding atEnding op E
+flows-ending {op} {E} p = record { flat = λ g. flat-ending (op g) ∙ p .flat g ∙ ap (λ (l : List Flat). E ++ l) (sym (flat-ending g)) }
+
 mutual
   unfolding flattenC flattenS forC forS
 
@@ -139,7 +153,7 @@ mutual
       (flows-row atSentences (plain 4 a b)
       (flows-then (at-pattern f)
       (flows-then (flows-C cs)
-      (flows-row atConditions (plain 7 o e) (flows-then (flows-terms atArgument t) (flows-S v)))))))
+      (flows-row atConditions (plain 7 o e) (flows-then (flows-terms atArgument t) (flows-ending (flows-S v))))))))
 
 flows-name : (s l : ℕ) → Flows atName atNames (λ (g : Forest). tree (nameR s l) empty g) (nameOf s l ∷ [])
 unfolding flattenG

@@ -4,7 +4,7 @@ use mathlib.Core.Bool.{Bool, true, false}
 use mathlib.Core.List.{List, [], _∷_, _++_}
 use mathlib.Core.Option.{Option, none, some}
 use lib.Dec.{eqb}
-use Rattle.refal_ast.specs.Encode.{node}
+use Rattle.refal_ast.specs.Nodes.{Node, nodeWords, wholeRows, nodesOf}
 
 -- a node's own words: kind, detail, text start and length, span start and end
 pub record Row : Type 0 where
@@ -28,9 +28,13 @@ unfoldable pub sizeG : Forest → ℕ
 sizeG empty = 0
 sizeG (tree r f g) = 1 + sizeG f + sizeG g
 
--- a row's seven words, with the number of the next row
+-- a row's node, with the number of the next row, and its words
+abbrev pub withNext : Row → ℕ → Node
+withNext r next =
+    record { kind = r .kind; detail = r .detail; start = r .start; len = r .len; from = r .from; to = r .to; next = next }
+
 abbrev pub rowWords : Row → ℕ → List ℕ
-rowWords r next = node (r .kind) (r .detail) (r .start) (r .len) (r .from) (r .to) next
+rowWords r next = nodeWords (withNext r next)
 
 -- the words of a forest whose first row is row n: parent first, `next` being the row after the subtree
 unfoldable pub encG : Forest → ℕ → List ℕ
@@ -70,13 +74,19 @@ abbrev pub under : Row → ℕ → ℕ → Option Forest → Option Forest
 under r n x none = none
 under r n x (some f) = parent r (cut f (n + 1) x)
 
--- the forest that a list of words holds, whose first row is row n: a row's children are the trees after it, up to its `next`
+-- a node's own words
+abbrev pub own : Node → Row
+own x = row (x .kind) (x .detail) (x .start) (x .len) (x .from) (x .to)
+
+-- the forest that a list of nodes is, the first of which is row n: a row's children are the trees after it, up to its `next`
+unfoldable pub forestN : List Node → ℕ → Option Forest
+forestN [] n = some empty
+forestN (x ∷ xs) n = under (own x) n (x .next) (forestN xs (n + 1))
+
+abbrev pub pickForest : Bool → Option Forest → Option Forest
+pickForest true o = o
+pickForest false o = none
+
+-- the forest that a list of words holds, whose first row is row n
 unfoldable pub forestOf : List ℕ → ℕ → Option Forest
-forestOf [] n = some empty
-forestOf (k ∷ []) n = none
-forestOf (k ∷ d ∷ []) n = none
-forestOf (k ∷ d ∷ s ∷ []) n = none
-forestOf (k ∷ d ∷ s ∷ l ∷ []) n = none
-forestOf (k ∷ d ∷ s ∷ l ∷ a ∷ []) n = none
-forestOf (k ∷ d ∷ s ∷ l ∷ a ∷ b ∷ []) n = none
-forestOf (k ∷ d ∷ s ∷ l ∷ a ∷ b ∷ x ∷ w) n = under (row k d s l a b) n x (forestOf w (n + 1))
+forestOf w n = pickForest (wholeRows w) (forestN (nodesOf w) n)

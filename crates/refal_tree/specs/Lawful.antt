@@ -13,7 +13,9 @@ use lib.ListN.{length}
 use borrow.Author.Tests.{leb-true, le-leb, eq-eqb}
 use Rattle.refal_rows.specs.Tests.{and-left, and-right}
 use Rattle.refal_ast.specs.Tree.{Program, sizeP, depthP}
-use Rattle.refal_ast.specs.Encode.{nodeWidth, encP}
+use Rattle.refal_ast.specs.Limits.{mostRows, mostLevels}
+use Rattle.refal_ast.specs.Nodes.{nodeWidth, wholeRows}
+use Rattle.refal_ast.specs.Encode.{encP}
 use Rattle.refal_tree.specs.Forest.{Forest, encG, forestOf}
 use Rattle.refal_tree.specs.ForestLaws.{forest-enc, enc-forest, length-enc}
 use Rattle.refal_tree.specs.States.{atItems}
@@ -41,15 +43,9 @@ abbrev pub found : Option Program → Bool
 found none = false
 found (some t) = true
 
-abbrev pub mostRows : ℕ
-mostRows = 33554432
-
-abbrev pub mostLevels : ℕ
-mostLevels = 64
-
 -- the test for refusal 40: whole rows, not too many, and a lawful tree of depth 64 or less
 unfoldable pub lawful : List ℕ → Bool
-lawful w = (eqb (length w % nodeWidth) 0 && leb (length w) (nodeWidth * mostRows)) && found (treeOf mostLevels w)
+lawful w = (wholeRows w && leb (length w) (nodeWidth * mostRows)) && found (treeOf mostLevels w)
 
 -- ---- the rows of a tree, and nothing else
 pub tree-of : (left : ℕ) (t : Program) → depthP t ≤ left → treeOf left (encP t 0) ≡ some t
@@ -87,28 +83,28 @@ pub record Lawful (w : List ℕ) : Type 0 where
   pub deep : depthP tree ≤ mostLevels
   pub few : sizeP tree ≤ mostRows
 
-length-tree : (t : Program) → length (encP t 0) ≡ 7 * sizeP t
-length-tree t = ap length (sym (enc-tree t 0)) ∙ length-enc (toForest t) 0 ∙ ap (λ (n : ℕ). 7 * n) (size-tree t)
+length-tree : (t : Program) → length (encP t 0) ≡ nodeWidth * sizeP t
+length-tree t = ap length (sym (enc-tree t 0)) ∙ length-enc (toForest t) 0 ∙ ap (λ (n : ℕ). nodeWidth * n) (size-tree t)
 
 pub lawful-is : (w : List ℕ) → (lawful w ≡ true) ↔ Lawful w
 unfolding lawful
 lawful-is w = (λ h. yes h (treeOf mostLevels w) refl, no)
   where
     whole : Bool
-    whole = eqb (length w % nodeWidth) 0 && leb (length w) (nodeWidth * mostRows)
+    whole = wholeRows w && leb (length w) (nodeWidth * mostRows)
 
     yes : lawful w ≡ true → (o : Option Program) → treeOf mostLevels w ≡ o → Lawful w
     yes h none q = let e : found none ≡ true = ap found (sym q) ∙ and-right whole (found (treeOf mostLevels w)) h in never e
     yes h (some t) q =
         let T = of-tree mostLevels w t q in
-        let l = leb-true (length w) (nodeWidth * mostRows) (and-right (eqb (length w % nodeWidth) 0) (leb (length w) (nodeWidth * mostRows)) (and-left whole (found (treeOf mostLevels w)) h)) in
-        let m : length w ≡ 7 * sizeP t = ap length (T .words) ∙ length-tree t in
+        let l = leb-true (length w) (nodeWidth * mostRows) (and-right (wholeRows w) (leb (length w) (nodeWidth * mostRows)) (and-left whole (found (treeOf mostLevels w)) h)) in
+        let m : length w ≡ nodeWidth * sizeP t = ap length (T .words) ∙ length-tree t in
         record { tree = t; words = T .words; deep = T .deep; few = omega arith }
 
     no : Lawful w → lawful w ≡ true
     no x =
-        let m : length w ≡ 7 * sizeP (x .tree) = ap length (x .words) ∙ length-tree (x .tree) in
+        let m : length w ≡ nodeWidth * sizeP (x .tree) = ap length (x .words) ∙ length-tree (x .tree) in
         let f = x .few in
-        let z : length w % 7 ≡ 0 = ap (λ (n : ℕ). n % 7) m ∙ mul-mod-right 7 (sizeP (x .tree)) in
+        let z : length w % nodeWidth ≡ 0 = ap (λ (n : ℕ). n % nodeWidth) m ∙ mul-mod-right nodeWidth (sizeP (x .tree)) in
         let o : found (treeOf mostLevels w) ≡ true = ap (λ (l : List ℕ). found (treeOf mostLevels l)) (x .words) ∙ ap found (tree-of mostLevels (x .tree) (x .deep)) in
-        rw (eq-eqb (length w % 7) 0 z, le-leb (length w) (7 * mostRows) (omega arith)) o
+        rw (eq-eqb (length w % nodeWidth) 0 z, le-leb (length w) (nodeWidth * mostRows) (omega arith)) o

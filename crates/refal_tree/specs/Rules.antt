@@ -2,14 +2,11 @@
 use Prim.Native.Nat.{ℕ}
 use mathlib.Core.Bool.{Bool, true, not, _&&_, _||_}
 use lib.Dec.{eqb, leb}
-use Rattle.refal_ast.specs.Kinds.{nodeName, nodeFunction, nodeTerms, nodeIdentifier, nodeNumber, nodeChar, nodeVariable, nodeCall}
+use Rattle.refal_ast.specs.Kinds.{nodeName, nodeFunction, nodeTerms, nodeChar, nodeVariable}
+use Rattle.refal_ast.specs.Nodes.{hasText}
 use Rattle.refal_ast.specs.Check.{pickBool}
 use Rattle.refal_tree.specs.Forest.{Row, Forest, empty, tree}
 use Rattle.refal_tree.specs.States.{fits, room, ends, inside, after, below}
-
--- the kinds that use their text
-abbrev pub usesText : ℕ → Bool
-usesText k = ((((eqb k nodeName || eqb k nodeFunction) || eqb k nodeIdentifier) || eqb k nodeNumber) || eqb k nodeVariable) || eqb k nodeCall
 
 -- the kinds whose span is 0
 abbrev pub spanless : ℕ → Bool
@@ -25,7 +22,7 @@ detailOk k d =
     pickBool (eqb k nodeFunction) (leb d 1) (pickBool (eqb k nodeChar) true (pickBool (eqb k nodeVariable) (letter d) (eqb d 0)))
 
 abbrev pub textOk : ℕ → ℕ → ℕ → Bool
-textOk k s l = usesText k || (eqb s 0 && eqb l 0)
+textOk k s l = hasText k || (eqb s 0 && eqb l 0)
 
 abbrev pub spanOk : ℕ → ℕ → ℕ → Bool
 spanOk k a b = not (spanless k) || (eqb a 0 && eqb b 0)

@@ -11,11 +11,11 @@ use Rattle.refal_ast.specs.Tree.{nMore, Program, p0, pDeclaration, pFunction, d
 use Rattle.refal_ast.specs.Encode.{entryWord}
 use Rattle.refal_ast.specs.declared.tree.Symbol.the-variants.{Char, Identifier, Number}
 use Rattle.refal_tree.specs.Forest.{Row, row, Forest, empty, tree}
-use Rattle.refal_tree.specs.States.{atItems, atName, atNames, atSentences, atPattern, atConditions, atCondition, atColon, atTerms, atArgument, closed, inside, after, below, lower}
+use Rattle.refal_tree.specs.States.{atItems, atName, atNames, atSentences, atPattern, atConditions, atCondition, atColon, atTerms, atArgument, atEnding, closed, inside, after, below, lower}
 use Rattle.refal_tree.specs.Rules.{rowOk, okG}
 use Rattle.refal_tree.specs.Typed.{leafR, plain, forT, forTerms, forC, forS, nameR, forN, forP, toForest, getT, getS, getSentence, getTail}
 use Rattle.refal_tree.specs.Typed.{getBlock, getCondition, getRight, getNs, getN, getP, programOf}
-use Rattle.refal_tree.specs.TypedRules.{leaf-back, entry-back}
+use Rattle.refal_tree.specs.TypedRules.{ending-is, leaf-back, entry-back}
 use Rattle.refal_tree.specs.Views.{never, TermRow, isLeaf, isBracket, isCall, ItemRow, isDeclaration, isFunction, NameRow, isName, PlainRow, isPlain, TermsRow}
 use Rattle.refal_tree.specs.Views.{isTerms, TailRow, isCondition, isResult, isEnding, RightRow, isRight, isBlock, Kept, kept, item-row, name-row, names-row}
 use Rattle.refal_tree.specs.Views.{sentence-row, pattern-row, condition-row, argument-row, tail-row, right-row, term-row}
@@ -42,10 +42,6 @@ closed-empty left (tree r f g) h = never (parts closed left r f g h .here .fit)
 raise : (d left : ℕ) → leb 1 left ≡ true → d ≤ lower left → suc d ≤ left
 raise d zero h i = let z = leb-true 1 zero h in absurd (omega arith)
 raise d (suc n) h i = omega arith
-
-suc-lower : (left : ℕ) → leb 1 left ≡ true → suc (lower left) ≡ left
-suc-lower zero h = let z = leb-true 1 zero h in absurd (omega arith)
-suc-lower (suc n) h = refl
 
 -- ---- terms
 pub record TermsOf (left : ℕ) (t : Terms) (f : Forest) : Type 0 where
@@ -127,7 +123,7 @@ pub record TailOf (left : ℕ) (s : Sentences) (r : Row) (p : Terms) (cs : Condi
 -- an ending block, of the row q
 pub record BlockOf (left : ℕ) (s : Sentences) (r : Row) (p : Terms) (cs : Conditions) (q : Row) (f : Forest) : Type 0 where
   pub forest : (g : Forest) → forS (getBlock s r p cs q f) g ≡ forS s (tree (plain 4 (r .from) (r .to)) (forTerms p (forC cs (tree (plain 7 (q .from) (q .to)) f empty))) g)
-  pub deep : depthS s ≤ suc left → depthT p ≤ suc left → depthC cs ≤ suc left → depthS (getBlock s r p cs q f) ≤ suc left
+  pub deep : leb 1 left ≡ true → depthS s ≤ left → depthT p ≤ left → depthC cs ≤ left → depthS (getBlock s r p cs q f) ≤ left
 
 -- a condition, of the row r
 pub record ConditionOf (left : ℕ) (cs : Conditions) (r : Row) (f : Forest) : Type 0 where
@@ -194,28 +190,26 @@ tail-step _ f g left s r p cs isResult q kids blocks rest =
       deep = λ d u c. omega arith;
     }
 tail-step _ f g left s r p cs (isEnding a b) q kids blocks rest =
-    let k = blocks (lower left) s r p cs (plain 7 a b) (q .kids) in
-    let e = suc-lower left (q .here .deep) in
+    let k = blocks left s r p cs (plain 7 a b) (q .kids) in
     record {
       forest = λ h.
           k .forest h
           ∙ ap (λ (y : Forest). forS s (tree (plain 4 (r .from) (r .to)) (forTerms p (forC cs (tree (plain 7 a b) f y))) h)) (sym (closed-empty left g (q .rest)));
-      deep = λ d u c. let i : depthS (getBlock s r p cs (plain 7 a b) f) ≤ suc (lower left) = k .deep (omega arith) (omega arith) (omega arith) in omega arith;
+      deep = k .deep (q .here .deep);
     }
 
 block-step : (z : Row) (f g : Forest) (left : ℕ) (s : Sentences) (r : Row) (p : Terms) (cs : Conditions) (q : Row) → TermsRow z → Parts atArgument left z f g → AllS g
     → BlockOf left s r p cs q (tree z f g)
 unfolding getBlock forS depthS
 block-step _ f g left s r p cs q isTerms o rest =
-    let t = terms-deep f (suc left) (o .kids) in
-    let n = rest left s0 (o .rest) in
-    let v : depthS (getS s0 g) ≤ left = n .deep (omega arith) in
+    let t = terms-deep f left (o .kids) in
+    let n = rest (lower left) s0 (sym (ending-is left g) ∙ o .rest) in
     let whole : Forest → Forest → Forest = λ h y. forS s (tree (plain 4 (r .from) (r .to)) (forTerms p (forC cs (tree (plain 7 (q .from) (q .to)) y empty))) h) in
     record {
       forest = λ h.
-          ap (λ (y : Forest). whole h (tree (plain 6 0 0) y (forS (getS s0 g) empty))) (terms-of f (suc left) (o .kids))
+          ap (λ (y : Forest). whole h (tree (plain 6 0 0) y (forS (getS s0 g) empty))) (terms-of f left (o .kids))
           ∙ ap (λ (y : Forest). whole h (tree (plain 6 0 0) f y)) (n .forest);
-      deep = λ d u c. omega arith;
+      deep = λ some d u c. let v = raise (depthS (getS s0 g)) left some (n .deep (omega arith)) in omega arith;
     }
 
 condition-step : (z : Row) (f g : Forest) (left : ℕ) (cs : Conditions) (r : Row) → TermsRow z → Parts atCondition left z f g → AllRight g → ConditionOf left cs r (tree z f g)

@@ -21,7 +21,7 @@ atName = 2
 abbrev pub atNames : ℕ
 atNames = 3
 
--- in a function or a block: sentences
+-- in a function or a condition's block: sentences
 abbrev pub atSentences : ℕ
 atSentences = 4
 
@@ -49,9 +49,13 @@ atTerms = 9
 abbrev pub atArgument : ℕ
 atArgument = 10
 
+-- after the argument of an ending block: its sentences
+abbrev pub atEnding : ℕ
+atEnding = 11
+
 -- no more rows
 abbrev pub closed : ℕ
-closed = 11
+closed = 12
 
 abbrev pub pick : Bool → ℕ → ℕ → ℕ
 pick true x y = x
@@ -77,7 +81,8 @@ after st k =
     (on st atCondition (on k nodeTerms atColon wrong)
     (on st atColon (on k nodeTerms closed (on k nodeConditionBlock closed wrong))
     (on st atTerms (pick (termKind k) atTerms wrong)
-    (on st atArgument (on k nodeTerms atSentences wrong) wrong)))))))))
+    (on st atArgument (on k nodeTerms atEnding wrong)
+    (on st atEnding (on k nodeSentence atEnding wrong) wrong))))))))))
 
 -- the state before the first child of a node of the kind k
 abbrev pub inside : ℕ → ℕ
@@ -94,7 +99,7 @@ inside k =
 
 -- whether a node's children may end here
 abbrev pub ends : ℕ → Bool
-ends st = (((eqb st atItems || eqb st atNames) || eqb st atSentences) || eqb st atTerms) || eqb st closed
+ends st = ((((eqb st atItems || eqb st atNames) || eqb st atSentences) || eqb st atTerms) || eqb st atEnding) || eqb st closed
 
 -- whether a row of the kind k may stand here
 abbrev pub fits : ℕ → ℕ → Bool
@@ -112,6 +117,11 @@ abbrev pub lower : ℕ → ℕ
 lower zero = zero
 lower (suc n) = n
 
--- the levels left inside a row of the kind k; an ending block does not count for the terms of its own argument
+-- whether the levels fall by one below a row of the kind k in the state st; those of an ending block fall at its sentences, since the terms of
+-- its argument stand outside it
+abbrev pub opens : ℕ → ℕ → Bool
+opens st k = ((eqb k nodeConditionBlock || eqb k nodeBracket) || eqb k nodeCall) || eqb st atEnding
+
+-- the levels left below it
 abbrev pub below : ℕ → ℕ → ℕ → ℕ
-below st k left = pick (counts k) (lower left) (on st atArgument (suc left) left)
+below st k left = pick (opens st k) (lower left) left

@@ -4,14 +4,15 @@ use mathlib.Core.Bool.{Bool, true, false, _&&_}
 use mathlib.Core.Path.{_≡_, refl, ap, _∙_}
 use native.Mathlib.Omega.{arith}
 use lib.Dec.{eqb, leb}
-use borrow.Author.Tests.{le-leb}
+use borrow.Author.Tests.{le-leb, eqb-true}
+use Rattle.refal_ast.specs.Kinds.{nodeSentence}
 use Rattle.refal_ast.specs.Tree.{Leaf, symbol, variable, Terms, t0, tLeaf, tBracket, tCall, Conditions, c0, cTerms, cBlock, Sentences, s0, sTerms, sBlock, Names, nOne}
 use Rattle.refal_ast.specs.Tree.{nMore, Program, p0, pDeclaration, pFunction, depthT, depthC, depthS, depthP}
 use Rattle.refal_ast.specs.Encode.{entryWord}
 use Rattle.refal_ast.specs.declared.tree.Symbol.the-variants.{Char, Identifier, Number}
 use Rattle.refal_ast.specs.declared.tree.VariableKind.the-variants.{Symbol as kindS, Term as kindT, Expression as kindE}
 use Rattle.refal_tree.specs.Forest.{Row, row, Forest, empty, tree}
-use Rattle.refal_tree.specs.States.{atItems, atName, atNames, atSentences, atPattern, atConditions, atCondition, atColon, atTerms, atArgument, inside, after, below, lower}
+use Rattle.refal_tree.specs.States.{atItems, atName, atNames, atSentences, atPattern, atConditions, atCondition, atColon, atTerms, atArgument, atEnding, inside, after, below, lower}
 use Rattle.refal_tree.specs.Rules.{rowOk, okG}
 use Rattle.refal_tree.specs.Typed.{leafR, plain, forT, forTerms, forC, forS, nameR, forN, forP, toForest, addTerm, getT, getS, getSentence}
 use Rattle.refal_tree.specs.Typed.{getTail, getBlock, getCondition, getRight, getNs, getN, getP, programOf}
@@ -28,9 +29,16 @@ lower-le : (d left : ℕ) → suc d ≤ left → d ≤ lower left
 lower-le d zero h = absurd (omega arith)
 lower-le d (suc n) h = omega arith
 
-back : (left d e : ℕ) → suc e ≤ left → d ≤ left → d ≤ suc (lower left)
-back zero d e h i = absurd (omega arith)
-back (suc n) d e h i = omega arith
+-- the sentences of an ending block are sentences with one level less
+pub ending-is : (left : ℕ) (g : Forest) → okG atEnding left g ≡ okG atSentences (lower left) g
+unfolding okG
+ending-is left empty = refl
+ending-is left (tree r f g) = go (λ (l : ℕ). ending-is l g) (eqb (r .kind) nodeSentence) refl
+  where
+    go : ((l : ℕ) → okG atEnding l g ≡ okG atSentences (lower l) g) → (b : Bool) → eqb (r .kind) nodeSentence ≡ b
+        → okG atEnding left (tree r f g) ≡ okG atSentences (lower left) (tree r f g)
+    go ih true e = rw (eqb-true (r .kind) nodeSentence e, ih left)
+    go ih false e = rw e refl
 
 -- a level is left
 some-left : (d left : ℕ) → suc d ≤ left → leb 1 left && true ≡ true
@@ -90,14 +98,14 @@ mutual
       ∙ ok-tree atConditions left (plain 6 0 0) (forT t empty) empty refl (ok-inner t left (omega arith)))
   ok-S (sBlock s a f cs o t v e b) left g h =
       let i : suc (depthS v) ≤ left = omega arith in
-      let j : depthT t ≤ suc (lower left) = back left (depthT t) (depthS v) i (omega arith) in
       let B : Forest = tree (plain 7 o e) (forTerms t (forS v empty)) empty in
       ok-S s left (tree (plain 4 a b) (forTerms f (forC cs B)) g) (omega arith)
       ∙ ok-tree atSentences left (plain 4 a b) (forTerms f (forC cs B)) g refl
       (ok-tree atPattern left (plain 6 0 0) (forT f empty) (forC cs B) refl (ok-inner f left (omega arith))
       ∙ ok-C cs left B (omega arith)
       ∙ ok-tree atConditions left (plain 7 o e) (forTerms t (forS v empty)) empty (some-left (depthS v) left i)
-      (ok-tree atArgument (lower left) (plain 6 0 0) (forT t empty) (forS v empty) refl (ok-inner t (suc (lower left)) j)
+      (ok-tree atArgument left (plain 6 0 0) (forT t empty) (forS v empty) refl (ok-inner t left (omega arith))
+      ∙ ending-is left (forS v empty)
       ∙ ok-S v (lower left) empty (lower-le (depthS v) left i)))
 
 -- names after others, and names

@@ -12,7 +12,7 @@ use Rattle.refal_ast.specs.declared.tree.Symbol.the-variants.{Char, Identifier,
 use Rattle.refal_ast.specs.declared.tree.VariableKind.{VariableKind}
 use Rattle.refal_ast.specs.declared.tree.VariableKind.the-variants.{Symbol as kindS, Term as kindT, Expression as kindE}
 use Rattle.refal_tree.specs.Forest.{Row, row}
-use Rattle.refal_tree.specs.States.{wrong, atItems, atName, atNames, atSentences, atPattern, atConditions, atCondition, atColon, atTerms, atArgument, closed, pick, on, fits, room}
+use Rattle.refal_tree.specs.States.{wrong, atItems, atName, atNames, atSentences, atPattern, atConditions, atCondition, atColon, atTerms, atArgument, atEnding, closed, pick, on, fits, room}
 use Rattle.refal_tree.specs.Rules.{letter, fieldsOk, rowOk}
 use Rattle.refal_tree.specs.Typed.{leafR, plain, nameR}
 
@@ -194,7 +194,7 @@ module _ {left : ℕ} {r : Row} where
   condition-row p = let e = only (r .kind) 6 atColon (p .fit) in terms-is r e (at r (p .good) 6 e)
 
   pub argument-row : Kept atArgument left r → TermsRow r
-  argument-row p = let e = only (r .kind) 6 atSentences (p .fit) in terms-is r e (at r (p .good) 6 e)
+  argument-row p = let e = only (r .kind) 6 atEnding (p .fit) in terms-is r e (at r (p .good) 6 e)
 
   pub tail-row : Kept atConditions left r → TailRow r
   tail-row p =

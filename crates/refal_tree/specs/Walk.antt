@@ -8,6 +8,7 @@ use native.Mathlib.Omega.{arith}
 use native.Mathlib.Decide.{decLe}
 use lib.ListN.{length}
 use Rattle.refal_rows.specs.Tests.{and-left, and-right}
+use Rattle.refal_ast.specs.Nodes.{nodeWidth}
 use Rattle.refal_ast.specs.Tree.{Program}
 use Rattle.refal_ast.specs.Flatten.{Flat, flattenP}
 use Rattle.refal_tree.specs.Forest.{Row, Forest, tree, forestOf}
@@ -37,7 +38,7 @@ pub record Step (w : List ℕ) (i j st left : ℕ) : Type 0 where
   pub kids : okAt w (i + 1) (nextAt w i) (inside (kindAt w i)) (below st (kindAt w i) left) ≡ true
   pub rest : okAt w (nextAt w i) j (after st (kindAt w i)) left ≡ true
 
-pub step : (w : List ℕ) (i j st left : ℕ) → 7 * j ≤ length w → i < j → okAt w i j st left ≡ true → Step w i j st left
+pub step : (w : List ℕ) (i j st left : ℕ) → nodeWidth * j ≤ length w → i < j → okAt w i j st left ≡ true → Step w i j st left
 step w i j st left l h ok = go (decLe (i + 1) (nextAt w i)) (decLe (nextAt w i) j)
   where
     bad : (i < nextAt w i → nextAt w i ≤ j → ⊥) → Step w i j st left
@@ -62,7 +63,7 @@ flat-joined st s₁ l₁ s₂ l₂ r (some f) none h h' = never h'
 flat-joined st s₁ l₁ s₂ l₂ r (some f) (some g) h h' = refl
 
 -- its tokens: the row's opening ones, its children's, its closing ones, and those of what follows
-pub flat-step : (w : List ℕ) (i j st left : ℕ) → 7 * j ≤ length w → Step w i j st left
+pub flat-step : (w : List ℕ) (i j st left : ℕ) → nodeWidth * j ≤ length w → Step w i j st left
     → flatAt w i j st ≡ opening st (rowAt w i) ++ (flatAt w (i + 1) (nextAt w i) (inside (kindAt w i)) ++ (closing st (kindAt w i) ++ flatAt w (nextAt w i) j (after st (kindAt w i))))
 flat-step w i j st left l S =
     ap (flatIn st) (forest-turn w i j l (S .lo) (S .hi))
@@ -77,5 +78,5 @@ pub forest-tree : (left : ℕ) (w : List ℕ) (t : Program) → treeOf left w �
 forest-tree left w t e =
     ap (λ (l : List ℕ). forestOf l 0) (of-tree left w t e .words ∙ sym (enc-tree t 0)) ∙ forest-enc (toForest t) 0
 
-pub flat-tree-rows : (left : ℕ) (w : List ℕ) (t : Program) (n : ℕ) → treeOf left w ≡ some t → length w ≡ 7 * n → flatAt w 0 n atItems ≡ flattenP t
+pub flat-tree-rows : (left : ℕ) (w : List ℕ) (t : Program) (n : ℕ) → treeOf left w ≡ some t → length w ≡ nodeWidth * n → flatAt w 0 n atItems ≡ flattenP t
 flat-tree-rows left w t n e l = ap (flatIn atItems) (forest-all w n l ∙ forest-tree left w t e) ∙ flatten-tree t

@@ -8,22 +8,24 @@ use native.Mathlib.Omega.{arith}
 use lib.Dec.{eqb, leb}
 use lib.ListN.{length}
 use borrow.Author.Tests.{eq-eqb, ne-eqb, le-leb, lt-leb}
+use Rattle.refal_ast.specs.Limits.{mostRows, mostLevels}
+use Rattle.refal_ast.specs.Nodes.{nodeWidth}
 use Rattle.refal_tree.specs.Forest.{Forest, forestOf}
 use Rattle.refal_tree.specs.States.{atItems}
 use Rattle.refal_tree.specs.Rules.{okG}
 use Rattle.refal_tree.specs.Typed.{programOf}
-use Rattle.refal_tree.specs.Lawful.{pickTree, treeIn, treeOf, found, mostRows, mostLevels, lawful}
+use Rattle.refal_tree.specs.Lawful.{pickTree, treeIn, treeOf, found, lawful}
 use Rattle.refal_tree.specs.Ranges.{forest-all, okIn, okAt}
 
-pub not-whole : (w : List ℕ) → (length w % 7 ≡ 0 → ⊥) → lawful w ≡ false
+pub not-whole : (w : List ℕ) → (length w % nodeWidth ≡ 0 → ⊥) → lawful w ≡ false
 unfolding lawful
-not-whole w h = rw (ne-eqb (length w % 7) 0 h)
+not-whole w h = rw (ne-eqb (length w % nodeWidth) 0 h)
 
-pub too-many : (w : List ℕ) → 7 * mostRows < length w → lawful w ≡ false
+pub too-many : (w : List ℕ) → nodeWidth * mostRows < length w → lawful w ≡ false
 unfolding lawful
 too-many w h =
-    ap (λ (b : Bool). (eqb (length w % 7) 0 && b) && found (treeOf mostLevels w)) (lt-leb (length w) (7 * mostRows) h)
-    ∙ ap (λ (b : Bool). b && found (treeOf mostLevels w)) (and-false (eqb (length w % 7) 0))
+    ap (λ (b : Bool). (eqb (length w % nodeWidth) 0 && b) && found (treeOf mostLevels w)) (lt-leb (length w) (nodeWidth * mostRows) h)
+    ∙ ap (λ (b : Bool). b && found (treeOf mostLevels w)) (and-false (eqb (length w % nodeWidth) 0))
 
 found-is : (left : ℕ) (o : Option Forest) → found (treeIn left o) ≡ okIn atItems left o
 found-is left none = refl
@@ -33,10 +35,10 @@ found-is left (some f) = go (okG atItems left f)
     go true = refl
     go false = refl
 
-pub all-rows : (w : List ℕ) (n : ℕ) → length w ≡ 7 * n → n ≤ mostRows → lawful w ≡ okAt w 0 n atItems mostLevels
+pub all-rows : (w : List ℕ) (n : ℕ) → length w ≡ nodeWidth * n → n ≤ mostRows → lawful w ≡ okAt w 0 n atItems mostLevels
 unfolding lawful treeOf
 all-rows w n e h =
-    ap (λ (b : Bool). (b && leb (length w) (7 * mostRows)) && found (treeIn mostLevels (forestOf w 0))) (eq-eqb (length w % 7) 0 (omega arith))
-    ∙ ap (λ (b : Bool). b && found (treeIn mostLevels (forestOf w 0))) (le-leb (length w) (7 * mostRows) (omega arith))
+    ap (λ (b : Bool). (b && leb (length w) (nodeWidth * mostRows)) && found (treeIn mostLevels (forestOf w 0))) (eq-eqb (length w % nodeWidth) 0 (omega arith))
+    ∙ ap (λ (b : Bool). b && found (treeIn mostLevels (forestOf w 0))) (le-leb (length w) (nodeWidth * mostRows) (omega arith))
     ∙ found-is mostLevels (forestOf w 0)
     ∙ ap (okIn atItems mostLevels) (sym (forest-all w n e))

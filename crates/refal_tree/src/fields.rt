@@ -1,56 +1,45 @@
 // The fields of a row: which kinds use which, and that the others are 0.
+use refal_ast::kinds::node;
+use refal_ast::nodes::has_text;
 ghost use mathlib.Core.Path.{_≡_};
-ghost use Rattle.refal_tree.specs.Rules.{usesText, spanless as hasNoSpan, letter as isLetter, detailOk, textOk, spanOk, fieldsOk};
-
-fn uses_text(k: u32) -> bool
-    ensures { λ r. ⌜ r ≡ usesText k ⌝ }
-{
-    (((((k == 2) | (k == 3)) | (k == 9)) | (k == 10)) | (k == 12)) | (k == 14)
-}
+ghost use Rattle.refal_tree.specs.Rules.{spanless as hasNoSpan, letter as isLetter, detailOk, textOk, spanOk};
 
 fn spanless(k: u32) -> bool
     ensures { λ r. ⌜ r ≡ hasNoSpan k ⌝ }
 {
-    (k == 2) | (k == 6)
+    (k == node::NAME) | (k == node::TERMS)
 }
 
 // s, t, e
-pub fn letter(d: u32) -> bool
+fn letter(d: u32) -> bool
     ensures { λ r. ⌜ r ≡ isLetter d ⌝ }
 {
     ((d == 115) | (d == 116)) | (d == 101)
 }
 
-fn detail_ok(k: u32, d: u32) -> bool
+pub fn detail_ok(k: u32, d: u32) -> bool
     ensures { λ r. ⌜ r ≡ detailOk k d ⌝ }
 {
-    if k == 3 {
+    if k == node::FUNCTION {
         return d <= 1;
     }
-    if k == 11 {
+    if k == node::CHAR {
         return true;
     }
-    if k == 12 {
+    if k == node::VARIABLE {
         return letter(d);
     }
     d == 0
 }
 
-fn text_ok(k: u32, s: u32, l: u32) -> bool
-    ensures { λ r. ⌜ r ≡ textOk k s l ⌝ }
+pub fn text_ok(k: u32, start: u32, len: u32) -> bool
+    ensures { λ r. ⌜ r ≡ textOk k start len ⌝ }
 {
-    uses_text(k) | ((s == 0) & (l == 0))
+    has_text(k) | ((start == 0) & (len == 0))
 }
 
-fn span_ok(k: u32, a: u32, b: u32) -> bool
-    ensures { λ r. ⌜ r ≡ spanOk k a b ⌝ }
+pub fn span_ok(k: u32, from: u32, to: u32) -> bool
+    ensures { λ r. ⌜ r ≡ spanOk k from to ⌝ }
 {
-    !spanless(k) | ((a == 0) & (b == 0))
-}
-
-// The detail d, the text's start and length, the span.
-pub fn fields_ok(k: u32, d: u32, s: u32, l: u32, a: u32, b: u32) -> bool
-    ensures { λ r. ⌜ r ≡ fieldsOk k d s l a b ⌝ }
-{
-    detail_ok(k, d) & (text_ok(k, s, l) & span_ok(k, a, b))
+    !spanless(k) | ((from == 0) & (to == 0))
 }

@@ -1,107 +1,40 @@
 // Trees of rows: whether words are the rows of a lawful tree.
-pub mod fields;
-pub mod leaves;
+mod fields;
 pub mod states;
 
+use refal_ast::limits;
+use refal_ast::nodes;
 ghost use mathlib.Core.Path.{_≡_};
-ghost use Prim.Native.Nat.{_+_, _*_, _-_, _≤_, _<_};
-ghost use lib.ListN.{length, getD};
-ghost use Rattle.refal_tree.specs.States.{lower as oneLess, below as levels};
-ghost use Rattle.refal_tree.specs.Forest.{row};
+ghost use Prim.Native.Nat.{_*_, _≤_};
+ghost use lib.ListN.{length};
+ghost use Rattle.refal_ast.specs.Nodes.{HasRow, nodeWidth};
 ghost use Rattle.refal_tree.specs.Rules.{rowOk};
 ghost use Rattle.refal_tree.specs.Ranges.{rowAt, okAt};
 ghost use Rattle.refal_tree.specs.Lawful.{lawful as isLawful};
 
-// The most rows that a tree may have, and the most levels.
-const MOST_ROWS: usize = 33554432;
-
-const MOST_LEVELS: usize = 64;
-
-// The kind of row i.
-fn kind(tree: &[u32], i: usize) -> u32
-    requires { ⌜ 7 * i + 6 < length (now tree) ⌝ }
-    ensures { λ r. ⌜ r ≡ getD (now (tree .entry)) (7 * i) 0 ⌝ }
-{
-    let at = 7 * i;
-    tree[at]
-}
-
-// The row after the subtree of row i.
-fn next(tree: &[u32], i: usize) -> usize
-    requires { ⌜ 7 * i + 6 < length (now tree) ⌝ }
-    ensures { λ r. ⌜ r ≡ getD (now (tree .entry)) (7 * i + 6) 0 ⌝ }
-{
-    let at = 7 * i;
-    leaves::wide(tree[at + 6])
-}
-
-fn lower(n: usize) -> usize
-    ensures { λ r. ⌜ r ≡ oneLess n ⌝ }
-{
-    if n == 0 {
-        return 0;
-    }
-    n - 1
-}
-
-// The levels left inside a row of the kind k. An ending block does not count for the terms of its own argument.
-pub fn below(st: u32, k: u32, left: usize) -> usize
-    requires { ⌜ left ≤ 4294967296 ⌝ }
-    ensures { λ r. ⌜ r ≡ levels st k left ⌝ }
-{
-    if states::counts(k) {
-        return lower(left);
-    }
-    if st == 10 {
-        return left + 1;
-    }
-    left
-}
-
-// Whether a row of these words may stand in the state st where so many levels are left.
-fn fits(st: u32, left: usize, k: u32, d: u32, s: u32, l: u32, a: u32, b: u32) -> bool
-    ensures { λ r. ⌜ r ≡ rowOk st left (row k d s l a b) ⌝ }
-{
-    let good = fields::fields_ok(k, d, s, l, a, b);
-    (states::stands(st, k) & states::room(k, left)) & good
-}
-
-// The same of row i. Terms and sentences are most of the rows with children: for them the kind is known where the rules
-// are looked up, which then cost little.
-pub fn row_ok(tree: &[u32], i: usize, st: u32, left: usize) -> bool
-    requires { ⌜ 7 * i + 6 < length (now tree) ⌝ }
+// Whether row i may stand in the state st where so many levels are left.
+fn row_ok(tree: &[u32], i: usize, st: u32, left: usize) -> bool
+    requires { ⌜ HasRow (now tree) i ⌝ }
     ensures { λ r. ⌜ r ≡ rowOk st left (rowAt (now (tree .entry)) i) ⌝ }
 {
-    let at = 7 * i;
-    let k = tree[at];
-    let d = tree[at + 1];
-    let s = tree[at + 2];
-    let l = tree[at + 3];
-    let a = tree[at + 4];
-    let b = tree[at + 5];
-    if k == 6 {
-        return fits(st, left, 6, d, s, l, a, b);
-    }
-    if k == 4 {
-        return fits(st, left, 4, d, s, l, a, b);
-    }
-    fits(st, left, k, d, s, l, a, b)
+    let k = nodes::kind(tree, i);
+    let place = states::stands(st, k) & states::room(k, left);
+    let detail = fields::detail_ok(k, nodes::detail(tree, i));
+    let text = fields::text_ok(k, nodes::text_start(tree, i), nodes::text_len(tree, i));
+    let span = fields::span_ok(k, nodes::span_from(tree, i), nodes::span_to(tree, i));
+    place & (detail & (text & span))
 }
 
 // Whether the rows from .. to are children that keep the rules, from the state `start` on: each row, and below it the
-// same check of its children. Leaves among terms, which have none, are passed over in runs.
+// same check of its children.
 fn check(tree: &[u32], from: usize, to: usize, start: u32, left: usize) -> bool
-    requires { ⌜ (from ≤ to) × (7 * to ≤ length (now tree)) × (left + (to - from) ≤ 4294967296) ⌝ }
+    requires { ⌜ (from ≤ to) × (nodeWidth * to ≤ length (now tree)) ⌝ }
     ensures { λ r. ⌜ r ≡ okAt (now (tree .entry)) from to start left ⌝ }
 {
-    let mut at = from;
+    let mut i = from;
     let mut st = start;
-    while at < to {
-        let i = leaves::passed(tree, at, to, st);
-        if i == to {
-            return states::ends(st);
-        }
-        let end = next(tree, i);
+    while i < to {
+        let end = nodes::next(tree, i);
         if end <= i {
             return false;
         }
@@ -111,13 +44,19 @@ fn check(tree: &[u32], from: usize, to: usize, start: u32, left: usize) -> bool
         if !row_ok(tree, i, st, left) {
             return false;
         }
-        let k = kind(tree, i);
+        let k = nodes::kind(tree, i);
         let first = i + 1;
-        if !check(tree, first, end, states::inside(k), below(st, k, left)) {
+        if !check(
+            tree,
+            first,
+            end,
+            states::inside(k),
+            states::below(st, k, left),
+        ) {
             return false;
         }
         st = states::after(st, k);
-        at = end;
+        i = end;
     }
     states::ends(st)
 }
@@ -126,12 +65,12 @@ fn check(tree: &[u32], from: usize, to: usize, start: u32, left: usize) -> bool
 pub fn lawful(tree: &[u32]) -> bool
     ensures { λ r. ⌜ r ≡ isLawful (now (tree .entry)) ⌝ }
 {
-    if tree.len() % 7 != 0 {
+    if tree.len() % nodes::WIDTH != 0 {
         return false;
     }
-    let rows = tree.len() / 7;
-    if rows > MOST_ROWS {
+    let rows = tree.len() / nodes::WIDTH;
+    if rows > limits::MOST_ROWS {
         return false;
     }
-    check(tree, 0, rows, states::ITEMS, MOST_LEVELS)
+    check(tree, 0, rows, states::ITEMS, limits::MOST_LEVELS)
 }

@@ -1,14 +1,44 @@
-// Which rows may stand where. A state says what a node's children, from here on, may be: 0 none, 1 items, 2 a first name,
-// 3 names, 4 sentences, 5 a pattern, 6 conditions and what ends a sentence, 7 a condition's first terms, 8 what follows
-// them, 9 terms, 10 an ending block's argument, 11 nothing more.
+// Which rows may stand where. A state says what a node's children, from here on, may be.
+use refal_ast::kinds::node;
 ghost use mathlib.Core.Path.{_≡_};
-ghost use Rattle.refal_tree.specs.States.{on, termKind, after as nextState, inside as firstState, ends as mayEnd, fits as mayStand, counts as isLevel, room as hasRoom};
+ghost use Rattle.refal_ast.specs.Kinds.{nodeTerms};
+ghost use Rattle.refal_tree.specs.States.{on, lower as oneLess, termKind, atItems, atConditions, atColon, atTerms, after as nextState, inside as firstState, ends as mayEnd};
+ghost use Rattle.refal_tree.specs.States.{fits as mayStand, counts as isLevel, opens as lowers, room as hasRoom, below as levelsInside};
 
+// No tree has come this far.
 pub const WRONG: u32 = 0;
 
+// At the top: declarations and functions.
 pub const ITEMS: u32 = 1;
 
-pub const CLOSED: u32 = 11;
+// In a declaration, before its first name, and after a name.
+pub const NAME: u32 = 2;
+
+pub const NAMES: u32 = 3;
+
+// In a function or a condition's block: sentences.
+pub const SENTENCES: u32 = 4;
+
+// In a sentence, before its pattern, and after it: conditions, then terms or an ending block.
+pub const PATTERN: u32 = 5;
+
+pub const CONDITIONS: u32 = 6;
+
+// In a condition, before its first terms, and after them: terms or a block.
+pub const CONDITION: u32 = 7;
+
+pub const COLON: u32 = 8;
+
+// In terms, a bracket or a call: terms.
+pub const TERMS: u32 = 9;
+
+// In an ending block, before its argument, and after it: sentences.
+pub const ARGUMENT: u32 = 10;
+
+pub const ENDING: u32 = 11;
+
+// No more rows.
+pub const CLOSED: u32 = 12;
 
 // x where k is n, else no state.
 fn only(k: u32, n: u32, x: u32) -> u32
@@ -23,85 +53,89 @@ fn only(k: u32, n: u32, x: u32) -> u32
 fn is_term(k: u32) -> bool
     ensures { λ r. ⌜ r ≡ termKind k ⌝ }
 {
-    (((((k == 9) | (k == 10)) | (k == 11)) | (k == 12)) | (k == 13)) | (k == 14)
+    let symbol = ((k == node::IDENTIFIER) | (k == node::NUMBER)) | (k == node::CHAR);
+    ((symbol | (k == node::VARIABLE)) | (k == node::BRACKET)) | (k == node::CALL)
 }
 
 // After a term.
 fn after_term(k: u32) -> u32
-    ensures { λ r. ⌜ r ≡ nextState 9 k ⌝ }
+    ensures { λ r. ⌜ r ≡ nextState atTerms k ⌝ }
 {
     if is_term(k) {
-        return 9;
+        return TERMS;
     }
     WRONG
 }
 
 // After an item.
 fn after_item(k: u32) -> u32
-    ensures { λ r. ⌜ r ≡ nextState 1 k ⌝ }
+    ensures { λ r. ⌜ r ≡ nextState atItems k ⌝ }
 {
-    if k == 1 {
-        return 1;
+    if k == node::DECLARATION {
+        return ITEMS;
     }
-    only(k, 3, 1)
+    only(k, node::FUNCTION, ITEMS)
 }
 
 // After a condition, or what ends a sentence.
 fn after_condition(k: u32) -> u32
-    ensures { λ r. ⌜ r ≡ nextState 6 k ⌝ }
+    ensures { λ r. ⌜ r ≡ nextState atConditions k ⌝ }
 {
-    if k == 5 {
-        return 6;
+    if k == node::CONDITION {
+        return CONDITIONS;
     }
-    if k == 6 {
+    if k == node::TERMS {
         return CLOSED;
     }
-    only(k, 7, CLOSED)
+    only(k, node::ENDING_BLOCK, CLOSED)
 }
 
 // After what follows a condition's first terms.
 fn after_colon(k: u32) -> u32
-    ensures { λ r. ⌜ r ≡ nextState 8 k ⌝ }
+    ensures { λ r. ⌜ r ≡ nextState atColon k ⌝ }
 {
-    if k == 6 {
+    if k == node::TERMS {
         return CLOSED;
     }
-    only(k, 8, CLOSED)
+    only(k, node::CONDITION_BLOCK, CLOSED)
 }
 
 // The state after a child of the kind k.
 pub fn after(st: u32, k: u32) -> u32
     ensures { λ r. ⌜ r ≡ nextState st k ⌝ }
 {
-    if st == 9 {
+    if st == TERMS {
         return after_term(k);
     }
-    if st == 6 {
+    if st == CONDITIONS {
         return after_condition(k);
     }
-    if st == 4 {
-        return only(k, 4, 4);
+    if st == SENTENCES {
+        return only(k, node::SENTENCE, SENTENCES);
     }
-    if st == 5 {
-        return only(k, 6, 6);
+    if st == PATTERN {
+        return only(k, node::TERMS, CONDITIONS);
     }
-    if st == 7 {
-        return only(k, 6, 8);
+    if st == CONDITION {
+        return only(k, node::TERMS, COLON);
     }
-    if st == 8 {
+    if st == COLON {
         return after_colon(k);
     }
-    if st == 1 {
+    if st == ITEMS {
         return after_item(k);
     }
-    if st == 10 {
-        return only(k, 6, 4);
+    if st == ARGUMENT {
+        return only(k, node::TERMS, ENDING);
     }
-    if st == 2 {
-        return only(k, 2, 3);
+    if st == ENDING {
+        return only(k, node::SENTENCE, ENDING);
     }
-    if st == 3 {
-        return only(k, 2, 3);
+    if st == NAME {
+        return only(k, node::NAME, NAMES);
+    }
+    if st == NAMES {
+        return only(k, node::NAME, NAMES);
     }
     WRONG
 }
@@ -110,32 +144,32 @@ pub fn after(st: u32, k: u32) -> u32
 pub fn inside(k: u32) -> u32
     ensures { λ r. ⌜ r ≡ firstState k ⌝ }
 {
-    if k == 1 {
-        return 2;
+    if k == node::DECLARATION {
+        return NAME;
     }
-    if k == 3 {
-        return 4;
+    if k == node::FUNCTION {
+        return SENTENCES;
     }
-    if k == 4 {
-        return 5;
+    if k == node::SENTENCE {
+        return PATTERN;
     }
-    if k == 5 {
-        return 7;
+    if k == node::CONDITION {
+        return CONDITION;
     }
-    if k == 6 {
-        return 9;
+    if k == node::TERMS {
+        return TERMS;
     }
-    if k == 7 {
-        return 10;
+    if k == node::ENDING_BLOCK {
+        return ARGUMENT;
     }
-    if k == 8 {
-        return 4;
+    if k == node::CONDITION_BLOCK {
+        return SENTENCES;
     }
-    if k == 13 {
-        return 9;
+    if k == node::BRACKET {
+        return TERMS;
     }
-    if k == 14 {
-        return 9;
+    if k == node::CALL {
+        return TERMS;
     }
     CLOSED
 }
@@ -144,21 +178,23 @@ pub fn inside(k: u32) -> u32
 pub fn ends(st: u32) -> bool
     ensures { λ r. ⌜ r ≡ mayEnd st ⌝ }
 {
-    ((((st == 1) | (st == 3)) | (st == 4)) | (st == 9)) | (st == 11)
+    let list = ((st == ITEMS) | (st == NAMES)) | (st == SENTENCES);
+    ((list | (st == TERMS)) | (st == ENDING)) | (st == CLOSED)
 }
 
 // Whether a row of the kind k may stand here.
 pub fn stands(st: u32, k: u32) -> bool
     ensures { λ r. ⌜ r ≡ mayStand st k ⌝ }
 {
-    !(after(st, k) == 0)
+    !(after(st, k) == WRONG)
 }
 
 // Whether a row of the kind k counts for the depth.
-pub fn counts(k: u32) -> bool
+fn counts(k: u32) -> bool
     ensures { λ r. ⌜ r ≡ isLevel k ⌝ }
 {
-    (((k == 7) | (k == 8)) | (k == 13)) | (k == 14)
+    let block = (k == node::ENDING_BLOCK) | (k == node::CONDITION_BLOCK);
+    (block | (k == node::BRACKET)) | (k == node::CALL)
 }
 
 // Whether a row of the kind k may stand where so many levels are left.
@@ -166,4 +202,32 @@ pub fn room(k: u32, left: usize) -> bool
     ensures { λ r. ⌜ r ≡ hasRoom k left ⌝ }
 {
     !counts(k) | (1 <= left)
+}
+
+fn lower(n: usize) -> usize
+    ensures { λ r. ⌜ r ≡ oneLess n ⌝ }
+{
+    if n == 0 {
+        return 0;
+    }
+    n - 1
+}
+
+// Whether the levels fall by one below a row of the kind k in the state st. Those of an ending block fall at its
+// sentences, since its argument stands outside it.
+fn opens(st: u32, k: u32) -> bool
+    ensures { λ r. ⌜ r ≡ lowers st k ⌝ }
+{
+    let open = ((k == node::CONDITION_BLOCK) | (k == node::BRACKET)) | (k == node::CALL);
+    open | (st == ENDING)
+}
+
+// The levels left below a row of the kind k in the state st.
+pub fn below(st: u32, k: u32, left: usize) -> usize
+    ensures { λ r. ⌜ r ≡ levelsInside st k left ⌝ }
+{
+    if opens(st, k) {
+        return lower(left);
+    }
+    left
 }

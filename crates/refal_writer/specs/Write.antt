@@ -10,7 +10,8 @@ use Rattle.refal_ast.specs.Flatten.{flattenP}
 use Rattle.refal_ast.specs.Tree.{Program}
 use Rattle.refal_ast.specs.declared.Answer.{Answer}
 use Rattle.refal_ast.specs.declared.Answer.the-variants.{Done, Refused}
-use Rattle.refal_tree.specs.Lawful.{treeOf, mostLevels, lawful}
+use Rattle.refal_ast.specs.Limits.{mostLevels}
+use Rattle.refal_tree.specs.Lawful.{treeOf, lawful}
 use Rattle.refal_spelling.specs.Spell.{views, text}
 use Rattle.refal_spelling.specs.Spellings.{allSpelled}
 

@@ -10,11 +10,12 @@ use lib.ListN.{length, drop, replicate}
 use borrow.Author.Tests.{eqb-true, leb-true}
 use Rattle.refal_rows.specs.Tests.{and-left, and-right}
 use Rattle.refal_ast.specs.Tree.{Program}
-use Rattle.refal_ast.specs.Encode.{nodeWidth}
+use Rattle.refal_ast.specs.Nodes.{nodeWidth}
 use Rattle.refal_ast.specs.declared.Answer.{Answer}
 use Rattle.refal_ast.specs.declared.Answer.the-variants.{Done, Refused}
 use Rattle.refal_tree.specs.States.{atItems}
-use Rattle.refal_tree.specs.Lawful.{treeOf, found, mostRows, mostLevels, lawful}
+use Rattle.refal_ast.specs.Limits.{mostRows, mostLevels}
+use Rattle.refal_tree.specs.Lawful.{treeOf, found, lawful}
 use Rattle.refal_tree.specs.Whole.{all-rows}
 use Rattle.refal_tree.specs.Walk.{flatAt, flat-tree-rows}
 use Rattle.refal_spelling.specs.Spellings.{allSpelled}

@@ -1,85 +1,57 @@
--- `refal_spelling::spellings` meets its contract.
 use Prim.Native.Nat.{_+_, _*_, _-_, _/_, _<_, _≤_}
 use native.Mathlib.Omega.{arith}
 use mathlib.Core.Path.{_≡_, refl, sym, _∙_}
 use lib.ListN.{length, drop}
 use borrow.Author.Tests.{not-true, not-false}
-use Rattle.refal_spelling.specs.Spellings.{allSpelled}
+use Rattle.refal_ast.specs.Nodes.{nodeWidth, HasRow, nodesOf}
+use Rattle.refal_spelling.specs.Spellings.{allSpelled, nodesSpelled}
 use Rattle.refal_spelling.specs.SpellingLaws.{spelled-stop, spelled-on, spelled-end}
 use borrow.Author.Needs.{needs}
 use Rattle.refal_spelling.proofs.spellings.Statement.{statement}
 use Rattle.refal_spelling.proofs.spellings.Tie as tie
+use Rattle.refal_spelling.proofs.spellings.Reads as reads
+use Rattle.refal_spelling.proofs.spellings.Lts as lts
+use Rattle.refal_spelling.proofs.row_spelled.Reads as row-spelled-reads
 
 abbrev Inv-loop : tie.InvT-loop
-Inv-loop tree src rows i₀ i = (i ≤ rows) × (rows ≡ length tree / 7) × (allSpelled src tree ≡ allSpelled src (drop (7 * i) tree))
+Inv-loop tree src rows i₀ i = (i ≤ rows) × (rows ≡ length tree / nodeWidth) × (allSpelled src tree ≡ nodesSpelled src (drop i (nodesOf tree)))
 
 abbrev μ-loop : tie.MeasureT-loop
 μ-loop tree src rows i₀ i = rows - i
 
+-- src/lib.rt:69:5
 loop-holds : tie.Need-loop-holds Inv-loop μ-loop
+unfolding allSpelled
 loop-holds c = (omega arith, refl, refl)
 
-mul-at : tie.Need-mul-at Inv-loop μ-loop
-mul-at c = search needs
-
-mul-row-spelled : tie.Need-mul-row-spelled Inv-loop μ-loop
-mul-row-spelled c = search needs
-
-shared-slice-read-row-spelled : tie.Need-shared-slice-read-row-spelled Inv-loop μ-loop
-shared-slice-read-row-spelled c = search needs
-
-add-row-spelled : tie.Need-add-row-spelled Inv-loop μ-loop
-add-row-spelled c = search needs
-
-mul-row-spelled-2 : tie.Need-mul-row-spelled-2 Inv-loop μ-loop
-mul-row-spelled-2 c = search needs
-
-shared-slice-read-row-spelled-2 : tie.Need-shared-slice-read-row-spelled-2 Inv-loop μ-loop
-shared-slice-read-row-spelled-2 c = search needs
-
-add-row-spelled-2 : tie.Need-add-row-spelled-2 Inv-loop μ-loop
-add-row-spelled-2 c = search needs
-
-mul-row-spelled-3 : tie.Need-mul-row-spelled-3 Inv-loop μ-loop
-mul-row-spelled-3 c = search needs
-
-shared-slice-read-row-spelled-3 : tie.Need-shared-slice-read-row-spelled-3 Inv-loop μ-loop
-shared-slice-read-row-spelled-3 c = search needs
-
-add-row-spelled-3 : tie.Need-add-row-spelled-3 Inv-loop μ-loop
-add-row-spelled-3 c = search needs
-
-mul-row-spelled-4 : tie.Need-mul-row-spelled-4 Inv-loop μ-loop
-mul-row-spelled-4 c = search needs
-
-shared-slice-read-row-spelled-4 : tie.Need-shared-slice-read-row-spelled-4 Inv-loop μ-loop
-shared-slice-read-row-spelled-4 c = search needs
-
+-- src/lib.rt:70:13
 row-spelled-requires : tie.Need-row-spelled-requires Inv-loop μ-loop
 row-spelled-requires c κs = search needs
 
+-- src/lib.rt:71:13
 returns : tie.Need-returns Inv-loop μ-loop
-returns c = let a = c .before .before .before .before .before .before .before .before .before .before .args in
-    let g = c .before .before .before .before .before .before .before .loop in
-    let h : 7 * g .i + 7 ≤ length (a .tree .now) = omega arith in
+returns c = let a = c .before .before .before .before .before .before .args in let g = c .before .before .before .loop in
+    let h : HasRow (a .tree .now) (g .i) = omega arith in
     sym (g .inv .2 ∙ spelled-stop (a .src .now) (a .tree .now) (g .i) h (sym (c .before .row-spelled .ensures) ∙ not-true _ (c .if1 .taken)))
 
+-- src/lib.rt:73:9
 add-i : tie.Need-add-i Inv-loop μ-loop
 add-i c = search needs
 
+-- src/lib.rt:69:5
 loop-less : tie.Need-loop-less Inv-loop μ-loop
 loop-less c = search needs
 
+-- src/lib.rt:69:5
 loop-again : tie.Need-loop-again Inv-loop μ-loop
-loop-again c = let a = c .before .before .before .before .before .before .before .before .before .before .args in
-    let g = c .before .before .before .before .before .before .before .loop in
-    let h : 7 * g .i + 7 ≤ length (a .tree .now) = omega arith in
+loop-again c = let a = c .before .before .before .before .before .before .args in let g = c .before .before .before .loop in
+    let h : HasRow (a .tree .now) (g .i) = omega arith in
     (omega arith, refl, g .inv .2 ∙ spelled-on (a .src .now) (a .tree .now) (g .i) h (sym (c .before .row-spelled .ensures) ∙ not-false _ (c .if1 .left)))
 
+-- src/lib.rt:64:1
 returns-2 : tie.Need-returns-2 Inv-loop μ-loop
-returns-2 c = let a = c .before .before .before .before .args in
-    let g = c .before .loop in
-    let h : length (a .tree .now) < 7 * g .i + 7 = omega arith in
+returns-2 c = let a = c .before .before .before .before .args in let g = c .before .loop in
+    let h : length (a .tree .now) < nodeWidth * (g .i + 1) = omega arith in
     sym (g .inv .2 ∙ spelled-end (a .src .now) (a .tree .now) (g .i) h)
 
 pub spellings-spec : {M : Type 1} → statement M
@@ -89,18 +61,6 @@ spellings-spec =
     Inv-loop
     μ-loop
     loop-holds
-    mul-at
-    mul-row-spelled
-    shared-slice-read-row-spelled
-    add-row-spelled
-    mul-row-spelled-2
-    shared-slice-read-row-spelled-2
-    add-row-spelled-2
-    mul-row-spelled-3
-    shared-slice-read-row-spelled-3
-    add-row-spelled-3
-    mul-row-spelled-4
-    shared-slice-read-row-spelled-4
     row-spelled-requires
     returns
     add-i

@@ -2,7 +2,7 @@
 use mathlib.Core.Path.{ap, _∙_}
 use Prim.Native.Nat.{ℕ, _+_}
 use Rattle.refal_ast.specs.Kinds.{nodeVariable}
-use Rattle.refal_ast.specs.Encode.{node}
+use Rattle.refal_ast.specs.Nodes.{node}
 use Rattle.refal_parser.specs.Writers.{putNode}
 use borrow.Author.Needs.{needs}
 use Rattle.refal_parser.proofs.nodes.put_variable.Statement.{statement}

@@ -1,4 +1,4 @@
--- `refal_tree::states::after` meets its contract: one case for each state.
+-- `refal_tree::states::after` meets its contract.
 use borrow.Author.Tests.{ne-eqb}
 use borrow.Author.Needs.{needs}
 use Rattle.refal_tree.proofs.states.after.Statement.{statement}
@@ -64,19 +64,14 @@ only-requires-6 c κs = search needs
 returns-10 : tie.Need-returns-10
 returns-10 c = rw (c .before .if10 .taken) (c .only6 .ensures)
 
+only-requires-7 : tie.Need-only-requires-7
+only-requires-7 c κs = search needs
+
 returns-11 : tie.Need-returns-11
-returns-11 c = rw (
-  ne-eqb _ _ (c .before .before .before .before .before .before .before .before .before .if1 .left),
-  ne-eqb _ _ (c .before .before .before .before .before .before .before .before .if2 .left),
-  ne-eqb _ _ (c .before .before .before .before .before .before .before .if3 .left),
-  ne-eqb _ _ (c .before .before .before .before .before .before .if4 .left),
-  ne-eqb _ _ (c .before .before .before .before .before .if5 .left),
-  ne-eqb _ _ (c .before .before .before .before .if6 .left),
-  ne-eqb _ _ (c .before .before .before .if7 .left),
-  ne-eqb _ _ (c .before .before .if8 .left),
-  ne-eqb _ _ (c .before .if9 .left),
-  ne-eqb _ _ (c .if10 .left),
-)
+returns-11 c = rw (c .before .if11 .taken) (c .only7 .ensures)
+
+returns-12 : tie.Need-returns-12
+returns-12 c = rw (ne-eqb _ _ (c .before .before .before .before .before .before .before .before .before .before .if1 .left), ne-eqb _ _ (c .before .before .before .before .before .before .before .before .before .if2 .left), ne-eqb _ _ (c .before .before .before .before .before .before .before .before .if3 .left), ne-eqb _ _ (c .before .before .before .before .before .before .before .if4 .left), ne-eqb _ _ (c .before .before .before .before .before .before .if5 .left), ne-eqb _ _ (c .before .before .before .before .before .if6 .left), ne-eqb _ _ (c .before .before .before .before .if7 .left), ne-eqb _ _ (c .before .before .before .if8 .left), ne-eqb _ _ (c .before .before .if9 .left), ne-eqb _ _ (c .before .if10 .left), ne-eqb _ _ (c .if11 .left))
 
 pub after-spec : {M : Type 1} → statement M
 after-spec =
@@ -102,4 +97,6 @@ after-spec =
     returns-9
     only-requires-6
     returns-10
-    returns-11)
+    only-requires-7
+    returns-11
+    returns-12)

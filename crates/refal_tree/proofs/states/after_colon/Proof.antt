@@ -1,4 +1,4 @@
--- `refal_tree::states::after_colon` meets its contract: one case for each kind.
+-- `refal_tree::states::after_colon` meets its contract.
 use borrow.Author.Tests.{ne-eqb}
 use borrow.Author.Needs.{needs}
 use Rattle.refal_tree.proofs.states.after_colon.Statement.{statement}

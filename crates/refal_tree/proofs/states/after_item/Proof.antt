@@ -1,4 +1,4 @@
--- `refal_tree::states::after_item` meets its contract: one case for each kind of item.
+-- `refal_tree::states::after_item` meets its contract.
 use borrow.Author.Tests.{ne-eqb}
 use borrow.Author.Needs.{needs}
 use Rattle.refal_tree.proofs.states.after_item.Statement.{statement}

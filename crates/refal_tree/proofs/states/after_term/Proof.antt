@@ -1,4 +1,4 @@
--- `refal_tree::states::after_term` meets its contract: the test of the kind is `is_term`'s.
+-- `refal_tree::states::after_term` meets its contract.
 use mathlib.Core.Path.{sym, _∙_}
 use borrow.Author.Needs.{needs}
 use Rattle.refal_tree.proofs.states.after_term.Statement.{statement}

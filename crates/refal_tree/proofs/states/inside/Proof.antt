@@ -1,4 +1,4 @@
--- `refal_tree::states::inside` meets its contract: one case for each kind that has children.
+-- `refal_tree::states::inside` meets its contract.
 use borrow.Author.Tests.{ne-eqb}
 use Rattle.refal_tree.proofs.states.inside.Statement.{statement}
 use Rattle.refal_tree.proofs.states.inside.Tie as tie
@@ -31,17 +31,7 @@ returns-9 : tie.Need-returns-9
 returns-9 c = rw (c .if9 .taken)
 
 returns-10 : tie.Need-returns-10
-returns-10 c = rw (
-  ne-eqb _ _ (c .before .before .before .before .before .before .before .before .if1 .left),
-  ne-eqb _ _ (c .before .before .before .before .before .before .before .if2 .left),
-  ne-eqb _ _ (c .before .before .before .before .before .before .if3 .left),
-  ne-eqb _ _ (c .before .before .before .before .before .if4 .left),
-  ne-eqb _ _ (c .before .before .before .before .if5 .left),
-  ne-eqb _ _ (c .before .before .before .if6 .left),
-  ne-eqb _ _ (c .before .before .if7 .left),
-  ne-eqb _ _ (c .before .if8 .left),
-  ne-eqb _ _ (c .if9 .left),
-)
+returns-10 c = rw (ne-eqb _ _ (c .before .before .before .before .before .before .before .before .if1 .left), ne-eqb _ _ (c .before .before .before .before .before .before .before .if2 .left), ne-eqb _ _ (c .before .before .before .before .before .before .if3 .left), ne-eqb _ _ (c .before .before .before .before .before .if4 .left), ne-eqb _ _ (c .before .before .before .before .if5 .left), ne-eqb _ _ (c .before .before .before .if6 .left), ne-eqb _ _ (c .before .before .if7 .left), ne-eqb _ _ (c .before .if8 .left), ne-eqb _ _ (c .if9 .left))
 
 pub inside-spec : {M : Type 1} → statement M
 inside-spec =

@@ -1,4 +1,4 @@
--- `refal_tree::states::room` meets its contract: the test of the kind is `counts`'s.
+-- `refal_tree::states::room` meets its contract.
 use borrow.Author.Needs.{needs}
 use Rattle.refal_tree.proofs.states.room.Statement.{statement}
 use Rattle.refal_tree.proofs.states.room.Tie as tie

@@ -1,4 +1,4 @@
--- `refal_tree::states::stands` meets its contract: a row may stand where the state after it is not 0.
+-- `refal_tree::states::stands` meets its contract.
 use borrow.Author.Needs.{needs}
 use Rattle.refal_tree.proofs.states.stands.Statement.{statement}
 use Rattle.refal_tree.proofs.states.stands.Tie as tie

@@ -1,8 +1,8 @@
--- `refal_tree::lower` meets its contract.
+-- `refal_tree::states::lower` meets its contract.
 use Rattle.refal_tree.specs.Levels.{lower-is}
 use borrow.Author.Needs.{needs}
-use Rattle.refal_tree.proofs.lower.Statement.{statement}
-use Rattle.refal_tree.proofs.lower.Tie as tie
+use Rattle.refal_tree.proofs.states.lower.Statement.{statement}
+use Rattle.refal_tree.proofs.states.lower.Tie as tie
 
 returns : tie.Need-returns
 returns c = search needs
