@@ -8,8 +8,12 @@ use crate::words::is_number;
 use refal_ast::kinds::node;
 use refal_ast::limits;
 use refal_ast::nodes;
+use refal_rows::least;
 ghost use mathlib.Core.Path.{_≡_};
+ghost use Prim.Native.Nat.{_≤_};
+ghost use lib.ListN.{length};
 ghost use Rattle.refal_ast.specs.Nodes.{HasRow, wordAt, colKind, colDetail, colStart, colLen};
+ghost use Rattle.refal_spelling.specs.Spell.{textAt};
 ghost use Rattle.refal_spelling.specs.Spellings.{charOk, numberOk, textSpelled, rowSpelled, allSpelled};
 
 // Neither newline nor outside the scalar values.
@@ -43,6 +47,19 @@ fn text_spelled(src: &[u8], kind: u32, start: u32, len: u32) -> bool
         return is_index(&src[from..end]);
     }
     is_identifier(&src[from..end])
+}
+
+// The text of row i, as a part of the source; what lies outside the source is not there.
+pub fn text<'a>(tree: &[u32], src: &'a [u8], i: usize) -> &'a [u8]
+    requires { ⌜ HasRow (now tree) i ⌝ }
+    ensures { λ r. ⌜ (now r ≡ textAt (now (src .entry)) (wordAt (now (tree .entry)) i colStart) (wordAt (now (tree .entry)) i colLen)) × (length (now r) ≤ 4294967295) ⌝ }
+{
+    let start = nodes::text_start(tree, i) as usize;
+    let len = nodes::text_len(tree, i) as usize;
+    let from = least(start, src.len());
+    let n = least(len, src.len() - from);
+    let end = from + n;
+    &src[from..end]
 }
 
 // Row i of the tree.

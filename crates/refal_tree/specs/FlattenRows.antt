@@ -16,7 +16,7 @@ use Rattle.refal_ast.specs.Encode.{entryWord}
 use Rattle.refal_ast.specs.Flatten.{Flat, flatToken, mark, nameOf, flatLeaf, flattenT, flattenC, flattenS, flattenN, flatEntry, flatFunction, flattenP}
 use Rattle.refal_ast.specs.declared.tree.Symbol.the-variants.{Char, Identifier, Number}
 use Rattle.refal_tree.specs.Forest.{Row, row, Forest, empty, tree}
-use Rattle.refal_tree.specs.States.{atItems, atName, atNames, atSentences, atPattern, atConditions, atCondition, atColon, atTerms, atArgument, atEnding, closed, inside, after}
+use Rattle.refal_tree.specs.States.{termKind, atItems, atName, atNames, atSentences, atPattern, atConditions, atCondition, atColon, atTerms, atArgument, atEnding, closed, inside, after}
 use Rattle.refal_tree.specs.Typed.{leafR, plain, forT, forTerms, forC, forS, nameR, forN, forP, toForest}
 
 abbrev pub pickF : Bool → List Flat → List Flat → List Flat
@@ -26,22 +26,30 @@ pickF false x y = y
 abbrev pub onF : ℕ → ℕ → List Flat → List Flat → List Flat
 onF k n x y = pickF (eqb k n) x y
 
--- before a row's children; here are all tokens that have a detail or a text
-abbrev pub opening : ℕ → Row → List Flat
-opening st r =
+-- before the children of a term
+abbrev pub openTerm : Row → List Flat
+openTerm r =
+    onF (r .kind) nodeIdentifier (nameOf (r .start) (r .len) ∷ [])
+    (onF (r .kind) nodeNumber (flatToken tokNumber 0 (r .start) (r .len) ∷ [])
+    (onF (r .kind) nodeChar (flatToken tokChar (r .detail) 0 0 ∷ [])
+    (onF (r .kind) nodeVariable (flatToken tokVariable (r .detail) (r .start) (r .len) ∷ [])
+    (onF (r .kind) nodeBracket (mark tokLParen ∷ [])
+    (onF (r .kind) nodeCall (mark tokLAngle ∷ nameOf (r .start) (r .len) ∷ []) [])))))
+
+-- before the children of any other row, in the state st
+abbrev pub openRest : ℕ → Row → List Flat
+openRest st r =
     onF (r .kind) nodeDeclaration (mark tokExtern ∷ [])
     (onF (r .kind) nodeName (onF st atNames (mark tokComma ∷ nameOf (r .start) (r .len) ∷ []) (nameOf (r .start) (r .len) ∷ []))
     (onF (r .kind) nodeFunction (flatEntry (eqb (r .detail) 1) ++ (nameOf (r .start) (r .len) ∷ mark tokLBrace ∷ []))
     (onF (r .kind) nodeCondition (mark tokComma ∷ [])
     (onF (r .kind) nodeTerms (onF st atConditions (mark tokEquals ∷ []) [])
     (onF (r .kind) nodeEndingBlock (mark tokEquals ∷ mark tokComma ∷ [])
-    (onF (r .kind) nodeConditionBlock (mark tokLBrace ∷ [])
-    (onF (r .kind) nodeIdentifier (nameOf (r .start) (r .len) ∷ [])
-    (onF (r .kind) nodeNumber (flatToken tokNumber 0 (r .start) (r .len) ∷ [])
-    (onF (r .kind) nodeChar (flatToken tokChar (r .detail) 0 0 ∷ [])
-    (onF (r .kind) nodeVariable (flatToken tokVariable (r .detail) (r .start) (r .len) ∷ [])
-    (onF (r .kind) nodeBracket (mark tokLParen ∷ [])
-    (onF (r .kind) nodeCall (mark tokLAngle ∷ nameOf (r .start) (r .len) ∷ []) []))))))))))))
+    (onF (r .kind) nodeConditionBlock (mark tokLBrace ∷ []) []))))))
+
+-- before a row's children; here are all tokens that have a detail or a text
+abbrev pub opening : ℕ → Row → List Flat
+opening st r = pickF (termKind (r .kind)) (openTerm r) (openRest st r)
 
 -- after the children of a row of the kind k
 abbrev pub closing : ℕ → ℕ → List Flat

@@ -50,7 +50,8 @@ fn only(k: u32, n: u32, x: u32) -> u32
     WRONG
 }
 
-fn is_term(k: u32) -> bool
+// Whether rows of the kind k are terms.
+pub fn is_term(k: u32) -> bool
     ensures { λ r. ⌜ r ≡ termKind k ⌝ }
 {
     let symbol = ((k == node::IDENTIFIER) | (k == node::NUMBER)) | (k == node::CHAR);

@@ -1,9 +1,10 @@
--- Definitions: Write (what `write` answers and leaves).
+-- Definitions: Write (what `write` answers and leaves), Words (what a row puts before and after its children).
 -- Laws of writers of bytes: Puts. Of tokens: Token, TextPuts. Of the walk over rows: Kinds, Walk. Of `write`: WriteLaws.
 pub mod Kinds
 pub mod Write
 pub mod Puts
 pub mod Token
+pub mod Words
 pub mod TextPuts
 pub mod Walk
 pub mod WriteLaws

@@ -10,7 +10,6 @@ use mathlib.Core.Path.{_≡_, refl, ap, _∙_, sym, subst}
 use lib.ListN.{length, take, drop, getD, set, length-drop, length-append, drop-of-length-le}
 use lib.Seq.{getD-drop, drop-cons, drop-drop, set-at, take-at, drop-at, take-add, append-snoc, take-all, take-length, drop-length, length-take-le}
 use borrow.Rule.Slice.PartMut.{putMid}
-use Rattle.refal_rows.specs.Tests.{copy-turn}
 
 -- ---- bytes put at the front of a slice: r is their count, and where they fit the slice begins with them and is otherwise as it was
 pub record Puts (bs : List ℕ) (r : ℕ) (o o′ : List ℕ) : Type 0 where
@@ -45,63 +44,6 @@ pub two-set : (o : List ℕ) (a b : ℕ) → 2 ≤ length o → set (set o 0 a) 
 two-set [] a b h = absurd (omega arith)
 two-set (x ∷ []) a b h = absurd (omega arith)
 two-set (x ∷ y ∷ o) a b h = refl
-
--- one more byte behind t
-pub set-behind : (t o : List ℕ) (n a : ℕ) → length t ≡ n → n < length o → set (t ++ drop n o) n a ≡ (t ++ a ∷ []) ++ drop (n + 1) o
-set-behind t o n a e h = ap (λ (m : List ℕ). set (t ++ m) n a) (drop-cons o n 0 h) ∙ set-at t (getD o n 0) (drop (suc n) o) a n e ∙ sym (rw (add-one n) (append-snoc t a (drop (suc n) o)))
-
--- what is taken past the end is not there
-take-clip : (k : ℕ) (t : List ℕ) → take (min k (length t)) t ≡ take k t
-take-clip k t = go (decLe k (length t))
-  where
-    go : Dec (k ≤ length t) → take (min k (length t)) t ≡ take k t
-    go (yes h) =
-        let e : min k (length t) ≡ k = omega arith in
-        rw e
-    go (no h) =
-        let e : min k (length t) ≡ length t = omega arith in
-        rw e (take-length t) ∙ sym (take-all k t (omega arith))
-
-drop-clip : (k : ℕ) (t : List ℕ) → drop (min k (length t)) t ≡ drop k t
-drop-clip k t = go (decLe k (length t))
-  where
-    go : Dec (k ≤ length t) → drop (min k (length t)) t ≡ drop k t
-    go (yes h) =
-        let e : min k (length t) ≡ k = omega arith in
-        rw e
-    go (no h) =
-        let e : min k (length t) ≡ length t = omega arith in
-        let g : length t ≤ k = omega arith in
-        rw e (drop-length t) ∙ sym (drop-of-length-le t g)
-
-pub clip : (src : List ℕ) (start len from n : ℕ) → from ≡ min start (length src) → n ≡ min len (length src - from) → take n (drop from src) ≡ take len (drop start src)
-clip src start len from n e f =
-    f′ ∙ take-clip len (drop from src) ∙ ap (λ (l : List ℕ). take len l) (ap (λ (k : ℕ). drop k src) e ∙ drop-clip start src)
-  where
-    f′ : take n (drop from src) ≡ take (min len (length (drop from src))) (drop from src)
-    f′ = ap (λ (k : ℕ). take k (drop from src)) (f ∙ ap (min len) (sym (length-drop from src)))
-
-module _ (src o : List ℕ) (start len from n : ℕ) (e : from ≡ min start (length src)) (f : n ≡ min len (length src - from)) where
-  text-count : n + 1 ≡ length (take len (drop start src) ++ 32 ∷ [])
-  text-count =
-      let h : n ≤ length (drop from src) = rw length-drop (omega arith) in
-      let l = length-take-le n (drop from src) h in
-      rw (← clip src start len from n e f, length-append, l) refl
-
-  pub text-puts : (o₁ : List ℕ) → n + 1 ≤ length o → o₁ ≡ take n (drop from src) ++ drop n o → Puts (take len (drop start src) ++ 32 ∷ []) (n + 1) o (set o₁ n 32)
-  text-puts o₁ r g =
-      let h : n ≤ length (drop from src) = rw length-drop (omega arith) in
-      let p : n < length o = omega arith in
-      record { count = text-count; bytes = λ _. ap (λ (l : List ℕ). set l n 32) g ∙ set-behind (take n (drop from src)) o n 32 (length-take-le n (drop from src) h) p ∙ ap (λ (t : List ℕ). (t ++ 32 ∷ []) ++ drop (n + 1) o) (clip src start len from n e f) }
-
-  pub text-short : length o < n + 1 → Puts (take len (drop start src) ++ 32 ∷ []) (n + 1) o o
-  text-short r = record { count = text-count; bytes = λ h. absurd (omega arith) }
-
--- ---- a copy's turn, from a place of src
-pub copy-from : (l l₀ src : List ℕ) (start i : ℕ) → l ≡ take i (drop start src) ++ drop i l₀ → start + i < length src → i < length l₀ → set l i (getD src (start + i) 0) ≡ take (i + 1) (drop start src) ++ drop (i + 1) l₀
-copy-from l l₀ src start i e h h₀ =
-    let n : i < length (drop start src) = rw length-drop (omega arith) in
-    rw (← getD-drop start src i 0) (copy-turn l l₀ (drop start src) i e n h₀)
 
 -- ---- a text t that is poured part by part: at bytes are done, `rest` is still to come
 pub record Pours (t rest : List ℕ) (at : ℕ) (o o₀ : List ℕ) : Type 0 where

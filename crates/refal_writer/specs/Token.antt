@@ -1,5 +1,5 @@
 -- The text of flattened tokens, what the writers of tokens ask of a token, and the text of each kind of token.
-use Prim.Native.Nat.{ℕ, _≤_, _<_}
+use Prim.Native.Nat.{ℕ, _≤_}
 use mathlib.Core.List.{List, [], _∷_, _++_, append-assoc, append-nil}
 use mathlib.Core.Path.{_≡_, refl, sym, ap, _∙_}
 use lib.Dec.{eqb}
@@ -22,11 +22,6 @@ pub record Mark (kind : ℕ) : Type 0 where
   pub no-variable : kind ≡ 4 → ⊥
   pub no-number : kind ≡ 5 → ⊥
   pub no-char : kind ≡ 6 → ⊥
-
--- any token but Eof, a variable's letter being a byte
-pub record Writable (kind detail : ℕ) : Type 0 where
-  pub few : kind ≤ 16
-  pub letter : kind ≡ 4 → detail < 256
 
 -- ---- two lists of tokens
 pub text-append : (ts us : List Spelled) → text (ts ++ us) ≡ text ts ++ text us
@@ -78,8 +73,3 @@ module _ (k d : ℕ) (w : List ℕ) where
   pub mark-text : Mark k → (k ≡ 1 → ⊥) → (k ≡ 2 → ⊥) → markByte k ∷ 32 ∷ [] ≡ tokenText (spelled k d w)
   unfolding spelling text
   mark-text m a b = sym (rw (ne-eqb k 1 a, ne-eqb k 2 b, ne-eqb k 3 (m .no-name), ne-eqb k 5 (m .no-number), ne-eqb k 4 (m .no-variable), ne-eqb k 6 (m .no-char)) refl)
-
-  -- a mark's detail and word do not matter
-  pub bare-text : Mark k → tokenText (spelled k 0 []) ≡ tokenText (spelled k d w)
-  unfolding spelling text
-  bare-text m = rw (ne-eqb k 3 (m .no-name), ne-eqb k 5 (m .no-number), ne-eqb k 4 (m .no-variable), ne-eqb k 6 (m .no-char)) refl

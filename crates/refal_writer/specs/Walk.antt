@@ -6,9 +6,12 @@ use mathlib.Core.Path.{_≡_, refl, sym, ap, subst, _∙_}
 use native.Mathlib.Omega.{arith}
 use native.Mathlib.Decide.{decLe}
 use lib.Dec.{eqb}
-use lib.ListN.{length, getD}
+use lib.ListN.{length}
 use borrow.Author.Tests.{eqb-true}
 use Rattle.refal_rows.specs.Tests.{and-left, and-right}
+use Rattle.refal_ast.specs.Kinds.{nodeVariable}
+use Rattle.refal_ast.specs.Limits.{mostRows}
+use Rattle.refal_ast.specs.Nodes.{nodeWidth, colDetail, wordAt}
 use Rattle.refal_ast.specs.Flatten.{Flat}
 use Rattle.refal_tree.specs.Forest.{Row}
 use Rattle.refal_tree.specs.States.{wrong, pick, inside, after, below, fits, room}
@@ -19,12 +22,13 @@ use Rattle.refal_tree.specs.FlattenRows.{opening, closing}
 use Rattle.refal_tree.specs.Walk.{flatAt, Step, step, flat-step, flat-end}
 use Rattle.refal_spelling.specs.Spell.{text}
 use Rattle.refal_writer.specs.Token.{textOf, text-of-append}
+use Rattle.refal_writer.specs.Words.{closeWords, close-text}
 
 -- what is known of a row that keeps the rules: its kind is one, and a variable's letter is a byte
 pub record Standing (kind detail : ℕ) : Type 0 where
   pub low : 1 ≤ kind
   pub high : kind ≤ 14
-  pub letter : kind ≡ 12 → detail < 256
+  pub letter : kind ≡ nodeVariable → detail < 256
 
 -- rows i to j keep the rules, from the state st on
 pub record Walks (w : List ℕ) (i j st : ℕ) : Type 0 where
@@ -81,41 +85,40 @@ standing st left r h =
       letter = λ e. letter-small (r .detail) (and-left _ true (ap (λ (k : ℕ). fieldsOk k (r .detail) (r .start) (r .len) (r .from) (r .to)) (sym e) ∙ and-right (f && d) g h));
     }
 
--- ---- a turn of the walk at row i, of the kind k and with the next row x
-module _ (w : List ℕ) (i j st k x : ℕ) (kind : k ≡ kindAt w i) (next : x ≡ nextAt w i) (long : 7 * j ≤ length w) (more : i < j) (W : Walks w i j st) where
-  here : Step w i j st (W .left)
-  here = step w i j st (W .left) long more (W .ok)
-
-  pub walk-low : i < x
-  walk-low = let l = here .lo in omega arith
-
-  pub walk-high : x ≤ j
-  walk-high = let l = here .hi in omega arith
-
-  pub walk-row : Standing (kindAt w i) (getD w (7 * i + 1) 0)
-  walk-row = standing st (W .left) (rowAt w i) (here .here)
-
+-- ---- a turn of the walk at row i, of the kind k and with the next row x, among the rows to j
+pub record Turn (w : List ℕ) (i j st k x : ℕ) : Type 0 where
+  pub low : i < x
+  pub high : x ≤ j
+  pub row : Standing (kindAt w i) (wordAt w i colDetail)
   -- s is the state of the children, and u the state of what follows
-  module _ (s u : ℕ) (first : s ≡ inside k) (then : u ≡ after st k) where
-    pub walk-kids : Walks w (i + 1) x s
-    walk-kids = record { left = below st (kindAt w i) (W .left); ok = rw (first, kind, next) (here .kids) }
+  pub kids : (s : ℕ) → s ≡ inside k → Walks w (i + 1) x s
+  pub rest : (u : ℕ) → u ≡ after st k → Walks w x j u
+  -- the text of a turn, part by part
+  pub parts : (src : List ℕ) (s u : ℕ) → s ≡ inside k → u ≡ after st k
+      → textOf src (flatAt w i j st) ≡ textOf src (opening st (rowAt w i)) ++ (textOf src (flatAt w (i + 1) x s) ++ (text (closeWords st k) ++ textOf src (flatAt w x j u)))
 
-    pub walk-rest : Walks w x j u
-    walk-rest = record { left = W .left; ok = rw (then, kind, next) (here .rest) }
-
-    -- the text of a turn, part by part
-    pub turn-text : (src : List ℕ) → textOf src (flatAt w i j st) ≡ textOf src (opening st (rowAt w i)) ++ (textOf src (flatAt w (i + 1) x s) ++ (textOf src (closing st k) ++ textOf src (flatAt w x j u)))
-    turn-text src =
-        let K : ℕ = kindAt w i in
-        let z : ℕ = nextAt w i in
-        let A : List Flat = opening st (rowAt w i) in
-        let B : List Flat = flatAt w (i + 1) z (inside K) in
-        let C : List Flat = closing st K in
-        let D : List Flat = flatAt w z j (after st K) in
-        ap (textOf src) (flat-step w i j st (W .left) long here)
-        ∙ text-of-append src A (B ++ (C ++ D))
-        ∙ ap (λ (l : List ℕ). textOf src A ++ l) (text-of-append src B (C ++ D) ∙ ap (λ (l : List ℕ). textOf src B ++ l) (text-of-append src C D))
-        ∙ sym (rw (first, then, kind, next) refl)
+pub turn : (w : List ℕ) (i j st k x : ℕ) → k ≡ kindAt w i → x ≡ nextAt w i → nodeWidth * j ≤ length w → i < j → Walks w i j st → Turn w i j st k x
+turn w i j st k x kind next long more W =
+    let here : Step w i j st (W .left) = step w i j st (W .left) long more (W .ok) in
+    record {
+      low = let l = here .lo in omega arith;
+      high = let l = here .hi in omega arith;
+      row = standing st (W .left) (rowAt w i) (here .here);
+      kids = λ s first. record { left = below st (kindAt w i) (W .left); ok = rw (first, kind, next) (here .kids) };
+      rest = λ u then. record { left = W .left; ok = rw (then, kind, next) (here .rest) };
+      parts = λ src s u first then.
+          let K : ℕ = kindAt w i in
+          let z : ℕ = nextAt w i in
+          let A : List Flat = opening st (rowAt w i) in
+          let B : List Flat = flatAt w (i + 1) z (inside K) in
+          let C : List Flat = closing st K in
+          let D : List Flat = flatAt w z j (after st K) in
+          ap (textOf src) (flat-step w i j st (W .left) long here)
+          ∙ text-of-append src A (B ++ (C ++ D))
+          ∙ ap (λ (l : List ℕ). textOf src A ++ l) (text-of-append src B (C ++ D) ∙ ap (λ (l : List ℕ). textOf src B ++ l) (text-of-append src C D))
+          ∙ ap (λ (l : List ℕ). textOf src A ++ (textOf src B ++ (l ++ textOf src D))) (sym (close-text src st K))
+          ∙ sym (rw (first, then, kind, next) refl);
+    }
 
 -- the text of no rows
 pub end-text : (w src : List ℕ) (i j st : ℕ) → i ≡ j → textOf src (flatAt w i j st) ≡ []
@@ -126,7 +129,7 @@ end-text w src i j st e = ap (textOf src) (flat-end w i j st e)
 abbrev pub widest : ℕ
 widest = 17179869184
 
-module _ (from i x to at a b : ℕ) (done : at + from * widest ≤ i * widest) (own : a ≤ 8589934710) (kids : b + (i + 1) * widest ≤ x * widest) (end : x ≤ to) (few : to ≤ 33554432) where
+module _ (from i x to at a b : ℕ) (done : at + from * widest ≤ i * widest) (own : a ≤ 4294967312) (kids : b + (i + 1) * widest ≤ x * widest) (end : x ≤ to) (few : to ≤ mostRows) where
   pub filled-small : at + a + b ≤ 1152921504606846976
   filled-small = omega arith
 

@@ -1,4 +1,6 @@
 -- What `write` answers, and what it leaves in the bytes lent, for the node words w, the source src and the bytes `old` (document 01 "Writing").
+-- `lawful` is the test for 40 as a check of rows; that it holds exactly of the rows of a tree, of one tree only, is proved beside it (`lawful-is`,
+-- `tree-of` and `of-tree` of refal_tree), so the check itself need not be believed.
 use Prim.Native.Nat.{ℕ}
 use mathlib.Core.Bool.{Bool, true, false, not, _&&_}
 use mathlib.Core.List.{List, [], _++_}
@@ -10,7 +12,7 @@ use Rattle.refal_ast.specs.Flatten.{flattenP}
 use Rattle.refal_ast.specs.Tree.{Program}
 use Rattle.refal_ast.specs.declared.Answer.{Answer}
 use Rattle.refal_ast.specs.declared.Answer.the-variants.{Done, Refused}
-use Rattle.refal_ast.specs.Limits.{mostLevels}
+use Rattle.refal_ast.specs.Limits.{mostBytes, mostLevels}
 use Rattle.refal_tree.specs.Lawful.{treeOf, lawful}
 use Rattle.refal_spelling.specs.Spell.{views, text}
 use Rattle.refal_spelling.specs.Spellings.{allSpelled}
@@ -23,9 +25,6 @@ treeText src (some t) = text (views src (flattenP t))
 -- the text of the tree that the words are
 unfoldable pub written : List ℕ → List ℕ → List ℕ
 written w src = treeText src (treeOf mostLevels w)
-
-abbrev pub mostBytes : ℕ
-mostBytes = 16777216
 
 -- a text of n bytes fits into so many, and is not over 16,777,216
 abbrev pub fits : ℕ → ℕ → Bool

@@ -14,7 +14,7 @@ use Rattle.refal_ast.specs.Nodes.{nodeWidth}
 use Rattle.refal_ast.specs.declared.Answer.{Answer}
 use Rattle.refal_ast.specs.declared.Answer.the-variants.{Done, Refused}
 use Rattle.refal_tree.specs.States.{atItems}
-use Rattle.refal_ast.specs.Limits.{mostRows, mostLevels}
+use Rattle.refal_ast.specs.Limits.{mostBytes, mostRows, mostLevels}
 use Rattle.refal_tree.specs.Lawful.{treeOf, found, lawful}
 use Rattle.refal_tree.specs.Whole.{all-rows}
 use Rattle.refal_tree.specs.Walk.{flatAt, flat-tree-rows}
@@ -28,8 +28,8 @@ use Rattle.refal_writer.specs.Walk.{Walks}
 record Known (w : List ℕ) : Type 0 where
   tree : Program
   is : treeOf mostLevels w ≡ some tree
-  whole : length w ≡ 7 * (length w / 7)
-  few : length w / 7 ≤ mostRows
+  whole : length w ≡ nodeWidth * (length w / nodeWidth)
+  few : length w / nodeWidth ≤ mostRows
 
 known : (w : List ℕ) → lawful w ≡ true → Known w
 unfolding lawful
@@ -44,20 +44,20 @@ known w h = go (treeOf mostLevels w) refl
     go : (o : Option Program) → treeOf mostLevels w ≡ o → Known w
     go none e = absurd (true≢false (sym (and-right (x && y) (found (treeOf mostLevels w)) h) ∙ ap found e))
     go (some t) e =
-        let a : length w % 7 ≡ 0 = eqb-true _ _ (and-left x y (and-left (x && y) (found (treeOf mostLevels w)) h)) in
-        let b : length w ≤ 7 * mostRows = leb-true _ _ (and-right x y (and-left (x && y) (found (treeOf mostLevels w)) h)) in
+        let a : length w % nodeWidth ≡ 0 = eqb-true _ _ (and-left x y (and-left (x && y) (found (treeOf mostLevels w)) h)) in
+        let b : length w ≤ nodeWidth * mostRows = leb-true _ _ (and-right x y (and-left (x && y) (found (treeOf mostLevels w)) h)) in
         record { tree = t; is = e; whole = omega arith; few = omega arith }
 
 module _ (w src : List ℕ) (h : lawful w ≡ true) where
-  pub lawful-few : length w / 7 ≤ 33554432
+  pub lawful-few : length w / nodeWidth ≤ mostRows
   lawful-few = known w h .few
 
-  pub lawful-walks : Walks w 0 (length w / 7) atItems
-  lawful-walks = let k = known w h in record { left = mostLevels; ok = sym (all-rows w (length w / 7) (k .whole) (k .few)) ∙ h }
+  pub lawful-walks : Walks w 0 (length w / nodeWidth) atItems
+  lawful-walks = let k = known w h in record { left = mostLevels; ok = sym (all-rows w (length w / nodeWidth) (k .whole) (k .few)) ∙ h }
 
-  pub written-is : textOf src (flatAt w 0 (length w / 7) atItems) ≡ written w src
+  pub written-is : textOf src (flatAt w 0 (length w / nodeWidth) atItems) ≡ written w src
   unfolding written
-  written-is = let k = known w h in ap (textOf src) (flat-tree-rows mostLevels w (k .tree) (length w / 7) (k .is) (k .whole)) ∙ sym (ap (treeText src) (k .is))
+  written-is = let k = known w h in ap (textOf src) (flat-tree-rows mostLevels w (k .tree) (length w / nodeWidth) (k .is) (k .whole)) ∙ sym (ap (treeText src) (k .is))
 
 -- ---- the ways out
 pub record Answers (a : Answer) (w src old new : List ℕ) : Type 0 where
@@ -78,10 +78,10 @@ module _ (w src old new : List ℕ) where
   misspelled h s f = decided (refuse 41 0) (rw (h, s) refl) f
 
   module _ (n : ℕ) (h : lawful w ≡ true) (s : allSpelled src w ≡ true) (c : n ≡ length (written w src)) where
-    pub too-long : leb n (length old) && leb n 16777216 ≡ false → new ≡ replicate (length old) 0 → Answers (refuse 42 n) w src old new
+    pub too-long : leb n (length old) && leb n mostBytes ≡ false → new ≡ replicate (length old) 0 → Answers (refuse 42 n) w src old new
     unfolding writeAnswer
     too-long t f = decided (refuse 42 n) (rw (h, s, ← c, t) refl) f
 
-    pub done : leb n (length old) && leb n 16777216 ≡ true → Puts (written w src) n old new → Answers (Done n) w src old new
+    pub done : leb n (length old) && leb n mostBytes ≡ true → Puts (written w src) n old new → Answers (Done n) w src old new
     unfolding writeAnswer
-    done t p = decided (Done n) (rw (h, s, ← c, t) refl) (p .bytes (leb-true _ _ (and-left (leb n (length old)) (leb n 16777216) t)))
+    done t p = decided (Done n) (rw (h, s, ← c, t) refl) (p .bytes (leb-true _ _ (and-left (leb n (length old)) (leb n mostBytes) t)))

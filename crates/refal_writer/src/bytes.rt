@@ -1,18 +1,18 @@
 // Bytes at the front of a slice: put where they all fit, their count in any case.
 ghost use mathlib.Core.Path.{_≡_};
 ghost use mathlib.Core.List.{[], _∷_, _++_};
-ghost use Prim.Native.Nat.{_+_, _≤_};
-ghost use lib.ListN.{length, take, drop};
+ghost use Prim.Native.Nat.{_≤_};
+ghost use lib.ListN.{length, drop};
 ghost use Rattle.refal_writer.specs.Puts.{Puts};
 
-// The n bytes of src from start, copied to the front of out.
-pub fn copy(src: &[u8], start: usize, n: usize, out: &mut [u8])
-    requires { ⌜ (start + n ≤ length (now src)) × (n ≤ length (now out)) ⌝ }
-    ensures { λ _. ⌜ now (out .exit) ≡ take n (drop start (now (src .entry))) ++ drop n (now (out .entry)) ⌝ }
+// A word that fits, copied to the front of out.
+fn copy(word: &[u8], out: &mut [u8])
+    requires { ⌜ length (now word) ≤ length (now out) ⌝ }
+    ensures { λ _. ⌜ now (out .exit) ≡ now (word .entry) ++ drop (length (now (word .entry))) (now (out .entry)) ⌝ }
 {
     let mut i = 0;
-    while i < n {
-        out[i] = src[start + i];
+    while i < word.len() {
+        out[i] = word[i];
         i += 1;
     }
 }
@@ -23,7 +23,7 @@ pub fn put_word(word: &[u8], out: &mut [u8]) -> usize
 {
     let n = word.len();
     if n <= out.len() {
-        copy(word, 0, n, out);
+        copy(word, out);
     }
     n
 }

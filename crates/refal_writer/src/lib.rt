@@ -6,6 +6,9 @@ mod walk;
 
 use refal_ast::Answer;
 use refal_ast::Refusal;
+use refal_ast::limits;
+use refal_ast::nodes;
+use refal_tree::states;
 ghost use mathlib.Core.Path.{_≡_};
 ghost use Rattle.refal_ast.specs.Answers.{refusal};
 ghost use Rattle.refal_writer.specs.Write.{writeAnswer, writeBytes};
@@ -38,9 +41,9 @@ pub fn write(tree: &[u32], src: &[u8], out: &mut [u8]) -> Answer
         return refused(41, 0);
     }
     let room = out.len();
-    let rows = tree.len() / 7;
-    let n = walk::write_rows(tree, src, 0, rows, 1, out);
-    let fits = (n <= room) & (n <= 16777216);
+    let rows = tree.len() / nodes::WIDTH;
+    let n = walk::write_rows(tree, src, 0, rows, states::ITEMS, out);
+    let fits = (n <= room) & (n <= limits::MOST_BYTES);
     if fits {
         return Answer::Done(n);
     }

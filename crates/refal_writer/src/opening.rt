@@ -1,196 +1,180 @@
 // What stands before a row's children, and after them, by the row's kind and the state in which it stands.
+use crate::token::write_char;
 use crate::token::write_mark;
-use crate::token::write_token;
+use crate::token::write_variable;
+use crate::token::write_word;
+use refal_ast::kinds::node;
+use refal_ast::kinds::token;
 use refal_rows::least;
+use refal_tree::states;
 ghost use mathlib.Core.Path.{_≡_};
-ghost use mathlib.Core.List.{[], _∷_, _++_};
-ghost use Prim.Native.Nat.{_+_, _≤_, _<_};
+ghost use mathlib.Core.Bool.{false};
+ghost use mathlib.Core.List.{[], _∷_};
+ghost use Prim.Native.Nat.{_≤_, _<_};
 ghost use lib.Dec.{eqb};
-ghost use Rattle.refal_ast.specs.Kinds.{tokComma, tokLBrace};
-ghost use Rattle.refal_ast.specs.Flatten.{flatToken, mark, nameOf, flatEntry};
-ghost use Rattle.refal_tree.specs.Forest.{row};
-ghost use Rattle.refal_tree.specs.States.{atNames};
-ghost use Rattle.refal_tree.specs.FlattenRows.{onF, opening, closing};
+ghost use lib.ListN.{length};
+ghost use Rattle.refal_ast.specs.Kinds.{nodeName, nodeTerms, nodeVariable};
+ghost use Rattle.refal_spelling.specs.Spell.{text};
 ghost use Rattle.refal_writer.specs.Puts.{Puts};
-ghost use Rattle.refal_writer.specs.Token.{textOf};
-ghost use Rattle.refal_writer.specs.Walk.{Standing};
+ghost use Rattle.refal_writer.specs.Token.{Mark};
+ghost use Rattle.refal_writer.specs.Words.{markWord, nameWord, termWords, headWords, restWords, closeWords};
 
-// Two tokens with no detail: the kind, text start and text length of each.
-fn write_two(
-    src: &[u8],
-    a: u32,
-    sa: u32,
-    la: u32,
-    b: u32,
-    sb: u32,
-    lb: u32,
-    out: &mut [u8],
-) -> usize
-    requires { ⌜ (a ≤ 16) × (b ≤ 16) ⌝ }
-    ensures { λ r. ⌜ Puts (textOf (now (src .entry)) (flatToken a 0 sa la ∷ flatToken b 0 sb lb ∷ [])) r (now (out .entry)) (now (out .exit)) × (r ≤ 8589934700) ⌝ }
+// Two marks.
+fn write_marks(a: u32, b: u32, out: &mut [u8]) -> usize
+    requires { ⌜ Mark a × Mark b ⌝ }
+    ensures { λ r. ⌜ Puts (text (markWord a ∷ markWord b ∷ [])) r (now (out .entry)) (now (out .exit)) × (r ≤ 16) ⌝ }
 {
-    let n = write_token(src, a, 0, sa, la, out);
+    let n = write_mark(a, out);
     let from = least(n, out.len());
-    let m = write_token(src, b, 0, sb, lb, &mut out[from..]);
+    let m = write_mark(b, &mut out[from..]);
     n + m
 }
 
-// A name of a declaration: a comma before all but the first.
-fn write_name(src: &[u8], st: u32, start: u32, len: u32, out: &mut [u8]) -> usize
-    ensures { λ r. ⌜ Puts (textOf (now (src .entry)) (onF st atNames (mark tokComma ∷ nameOf start len ∷ []) (nameOf start len ∷ []))) r (now (out .entry)) (now (out .exit)) × (r ≤ 8589934700) ⌝ }
+// A mark and a name.
+fn write_named(mark: u32, word: &[u8], out: &mut [u8]) -> usize
+    requires { ⌜ Mark mark × (length (now word) ≤ 4294967295) ⌝ }
+    ensures { λ r. ⌜ Puts (text (markWord mark ∷ nameWord (now (word .entry)) ∷ [])) r (now (out .entry)) (now (out .exit)) × (r ≤ 4294967304) ⌝ }
 {
-    if st == 3 {
-        return write_two(src, 13, 0, 0, 3, start, len, out);
-    }
-    write_token(src, 3, 0, start, len, out)
+    let n = write_mark(mark, out);
+    let from = least(n, out.len());
+    let m = write_word(word, &mut out[from..]);
+    n + m
+}
+
+// A name and `{`.
+fn write_body(word: &[u8], out: &mut [u8]) -> usize
+    requires { ⌜ length (now word) ≤ 4294967295 ⌝ }
+    ensures { λ r. ⌜ Puts (text (headWords false (now (word .entry)))) r (now (out .entry)) (now (out .exit)) × (r ≤ 4294967304) ⌝ }
+{
+    let n = write_word(word, out);
+    let from = least(n, out.len());
+    let m = write_mark(token::LBRACE, &mut out[from..]);
+    n + m
 }
 
 // What a function begins with: $ENTRY where it is an entry, its name, `{`.
-fn write_head(src: &[u8], entry: u32, start: u32, len: u32, out: &mut [u8]) -> usize
-    ensures { λ r. ⌜ Puts (textOf (now (src .entry)) (flatEntry (eqb entry 1) ++ (nameOf start len ∷ mark tokLBrace ∷ []))) r (now (out .entry)) (now (out .exit)) × (r ≤ 8589934710) ⌝ }
+fn write_head(entry: u32, word: &[u8], out: &mut [u8]) -> usize
+    requires { ⌜ length (now word) ≤ 4294967295 ⌝ }
+    ensures { λ r. ⌜ Puts (text (headWords (eqb entry 1) (now (word .entry)))) r (now (out .entry)) (now (out .exit)) × (r ≤ 4294967312) ⌝ }
 {
     if entry == 1 {
-        let n = write_mark(1, out);
+        let n = write_mark(token::ENTRY, out);
         let from = least(n, out.len());
-        let m = write_two(src, 3, start, len, 7, 0, 0, &mut out[from..]);
+        let m = write_body(word, &mut out[from..]);
         return n + m;
     }
-    write_two(src, 3, start, len, 7, 0, 0, out)
+    write_body(word, out)
 }
 
-// Before the children of a row that is no term.
-fn write_lead(
-    src: &[u8],
-    st: u32,
-    kind: u32,
-    detail: u32,
-    start: u32,
-    len: u32,
-    out: &mut [u8],
-) -> usize
-    requires { ⌜ (1 ≤ kind) × (kind < 9) ⌝ }
-    ensures { λ r. ⌜ Puts (textOf (now (src .entry)) (opening st (row kind detail start len 0 0))) r (now (out .entry)) (now (out .exit)) × (r ≤ 8589934710) ⌝ }
+// A name of a declaration: a comma before all but the first.
+fn write_name(st: u32, word: &[u8], out: &mut [u8]) -> usize
+    requires { ⌜ length (now word) ≤ 4294967295 ⌝ }
+    ensures { λ r. ⌜ Puts (text (restWords st nodeName 0 (now (word .entry)))) r (now (out .entry)) (now (out .exit)) × (r ≤ 4294967304) ⌝ }
 {
-    if kind == 1 {
-        return write_mark(2, out);
+    if st == states::NAMES {
+        return write_named(token::COMMA, word, out);
     }
-    if kind == 2 {
-        return write_name(src, st, start, len, out);
+    write_word(word, out)
+}
+
+// Before the children of a row that is a term: a leaf whole, `(`, or `<` and the name.
+pub fn write_term(kind: u32, detail: u32, word: &[u8], out: &mut [u8]) -> usize
+    requires { ⌜ (length (now word) ≤ 4294967295) × (kind ≡ nodeVariable → detail < 256) ⌝ }
+    ensures { λ r. ⌜ Puts (text (termWords kind detail (now (word .entry)))) r (now (out .entry)) (now (out .exit)) × (r ≤ 4294967312) ⌝ }
+{
+    if kind == node::IDENTIFIER {
+        return write_word(word, out);
     }
-    if kind == 3 {
-        return write_head(src, detail, start, len, out);
+    if kind == node::NUMBER {
+        return write_word(word, out);
     }
-    if kind == 4 {
-        return 0;
+    if kind == node::CHAR {
+        return write_char(detail, out);
     }
-    if kind == 5 {
-        return write_mark(13, out);
+    if kind == node::VARIABLE {
+        return write_variable(detail, word, out);
     }
-    if kind == 7 {
-        return write_two(src, 15, 0, 0, 13, 0, 0, out);
+    if kind == node::BRACKET {
+        return write_mark(token::LPAREN, out);
     }
-    if kind == 8 {
-        return write_mark(7, out);
-    }
-    if st == 6 {
-        return write_mark(15, out);
+    if kind == node::CALL {
+        return write_named(token::LANGLE, word, out);
     }
     0
 }
 
-// Before the children of a row that is a term: a leaf whole, `(`, or `<` and the name.
-fn write_term(
-    src: &[u8],
-    st: u32,
-    kind: u32,
-    detail: u32,
-    start: u32,
-    len: u32,
-    out: &mut [u8],
-) -> usize
-    requires { ⌜ (9 ≤ kind) × Standing kind detail ⌝ }
-    ensures { λ r. ⌜ Puts (textOf (now (src .entry)) (opening st (row kind detail start len 0 0))) r (now (out .entry)) (now (out .exit)) × (r ≤ 8589934710) ⌝ }
+// Before the children of any other row, in the state st.
+pub fn write_rest(st: u32, kind: u32, detail: u32, word: &[u8], out: &mut [u8]) -> usize
+    requires { ⌜ length (now word) ≤ 4294967295 ⌝ }
+    ensures { λ r. ⌜ Puts (text (restWords st kind detail (now (word .entry)))) r (now (out .entry)) (now (out .exit)) × (r ≤ 4294967312) ⌝ }
 {
-    if kind == 9 {
-        return write_token(src, 3, 0, start, len, out);
+    if kind == node::DECLARATION {
+        return write_mark(token::EXTERN, out);
     }
-    if kind == 10 {
-        return write_token(src, 5, 0, start, len, out);
+    if kind == node::NAME {
+        return write_name(st, word, out);
     }
-    if kind == 11 {
-        return write_token(src, 6, detail, 0, 0, out);
+    if kind == node::FUNCTION {
+        return write_head(detail, word, out);
     }
-    if kind == 12 {
-        return write_token(src, 4, detail, start, len, out);
+    if kind == node::CONDITION {
+        return write_mark(token::COMMA, out);
     }
-    if kind == 13 {
-        return write_mark(9, out);
+    if kind == node::TERMS {
+        if st == states::CONDITIONS {
+            return write_mark(token::EQUALS, out);
+        }
+        return 0;
     }
-    write_two(src, 11, 0, 0, 3, start, len, out)
-}
-
-// Before the children of a row.
-pub fn write_opening(
-    src: &[u8],
-    st: u32,
-    kind: u32,
-    detail: u32,
-    start: u32,
-    len: u32,
-    out: &mut [u8],
-) -> usize
-    requires { ⌜ Standing kind detail ⌝ }
-    ensures { λ r. ⌜ Puts (textOf (now (src .entry)) (opening st (row kind detail start len 0 0))) r (now (out .entry)) (now (out .exit)) × (r ≤ 8589934710) ⌝ }
-{
-    if kind < 9 {
-        return write_lead(src, st, kind, detail, start, len, out);
+    if kind == node::ENDING_BLOCK {
+        return write_marks(token::EQUALS, token::COMMA, out);
     }
-    write_term(src, st, kind, detail, start, len, out)
+    if kind == node::CONDITION_BLOCK {
+        return write_mark(token::LBRACE, out);
+    }
+    0
 }
 
 // After a Terms row: `:` in a condition, `:` and `{` in an ending block.
-fn write_colon(src: &[u8], st: u32, out: &mut [u8]) -> usize
-    ensures { λ r. ⌜ Puts (textOf (now (src .entry)) (closing st 6)) r (now (out .entry)) (now (out .exit)) × (r ≤ 16) ⌝ }
+fn write_colon(st: u32, out: &mut [u8]) -> usize
+    ensures { λ r. ⌜ Puts (text (closeWords st nodeTerms)) r (now (out .entry)) (now (out .exit)) × (r ≤ 16) ⌝ }
 {
-    if st == 7 {
-        return write_mark(14, out);
+    if st == states::CONDITION {
+        return write_mark(token::COLON, out);
     }
-    if st == 10 {
-        let n = write_mark(14, out);
-        let from = least(n, out.len());
-        let m = write_mark(7, &mut out[from..]);
-        return n + m;
+    if st == states::ARGUMENT {
+        return write_marks(token::COLON, token::LBRACE, out);
     }
     0
 }
 
 // After the children of a row of the kind.
-pub fn write_closing(src: &[u8], st: u32, kind: u32, out: &mut [u8]) -> usize
-    ensures { λ r. ⌜ Puts (textOf (now (src .entry)) (closing st kind)) r (now (out .entry)) (now (out .exit)) × (r ≤ 16) ⌝ }
+pub fn write_closing(st: u32, kind: u32, out: &mut [u8]) -> usize
+    ensures { λ r. ⌜ Puts (text (closeWords st kind)) r (now (out .entry)) (now (out .exit)) × (r ≤ 16) ⌝ }
 {
-    if kind == 6 {
-        return write_colon(src, st, out);
+    if kind == node::TERMS {
+        return write_colon(st, out);
     }
-    if kind == 13 {
-        return write_mark(10, out);
+    if kind == node::BRACKET {
+        return write_mark(token::RPAREN, out);
     }
-    if kind == 14 {
-        return write_mark(12, out);
+    if kind == node::CALL {
+        return write_mark(token::RANGLE, out);
     }
-    if kind == 4 {
-        return write_mark(16, out);
+    if kind == node::SENTENCE {
+        return write_mark(token::SEMICOLON, out);
     }
-    if kind == 1 {
-        return write_mark(16, out);
+    if kind == node::DECLARATION {
+        return write_mark(token::SEMICOLON, out);
     }
-    if kind == 3 {
-        return write_mark(8, out);
+    if kind == node::FUNCTION {
+        return write_mark(token::RBRACE, out);
     }
-    if kind == 7 {
-        return write_mark(8, out);
+    if kind == node::ENDING_BLOCK {
+        return write_mark(token::RBRACE, out);
     }
-    if kind == 8 {
-        return write_mark(8, out);
+    if kind == node::CONDITION_BLOCK {
+        return write_mark(token::RBRACE, out);
     }
     0
 }

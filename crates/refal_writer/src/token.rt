@@ -1,19 +1,21 @@
-// The writers of tokens: a token's spelling and one space at the front of out if they fit; their length in any case. Each
-// lends the rest of out, after the bytes written, to the writer of what comes next.
-use crate::bytes::copy;
+// The writers of tokens: a token's spelling and one space at the front of out if they fit; their length in any case. A
+// token's text is lent as the word to be written. Each lends the rest of out, after the bytes written, to the writer of
+// what comes next.
 use crate::bytes::put_word;
 use crate::bytes::put1;
 use crate::bytes::put2;
 use crate::bytes::put3;
 use crate::bytes::put4;
+use refal_ast::kinds::token;
 use refal_rows::least;
 ghost use mathlib.Core.Path.{_≡_};
 ghost use mathlib.Core.List.{[], _∷_, _++_};
 ghost use Prim.Native.Nat.{_+_, _≤_, _<_};
-ghost use Rattle.refal_ast.specs.Flatten.{flatToken};
-ghost use Rattle.refal_spelling.specs.Spell.{body, quoted, dotted, textAt, markByte, spelled, view};
+ghost use lib.ListN.{length};
+ghost use Rattle.refal_spelling.specs.Spell.{body, quoted, dotted, markByte};
 ghost use Rattle.refal_writer.specs.Puts.{Puts};
-ghost use Rattle.refal_writer.specs.Token.{tokenText, Mark, Writable};
+ghost use Rattle.refal_writer.specs.Token.{tokenText, Mark};
+ghost use Rattle.refal_writer.specs.Words.{markWord};
 
 // The bytes of the marks, by kind: { } ( ) < > , : = ;
 const MARK: [u8; 17] = [
@@ -43,28 +45,25 @@ fn mark_byte(kind: u32) -> u8
     MARK[kind as usize]
 }
 
-// A text of the source and a space. What lies outside the source is not there.
-fn write_text(src: &[u8], start: u32, len: u32, out: &mut [u8]) -> usize
-    ensures { λ r. ⌜ Puts (textAt (now (src .entry)) start len ++ 32 ∷ []) r (now (out .entry)) (now (out .exit)) × (r ≤ 4294967296) ⌝ }
+// A name or a number, and a space.
+pub fn write_word(word: &[u8], out: &mut [u8]) -> usize
+    requires { ⌜ length (now word) ≤ 4294967295 ⌝ }
+    ensures { λ r. ⌜ Puts (now (word .entry) ++ 32 ∷ []) r (now (out .entry)) (now (out .exit)) × (r ≤ 4294967296) ⌝ }
 {
-    let from = least(start as usize, src.len());
-    let n = least(len as usize, src.len() - from);
-    let k = n + 1;
-    if k <= out.len() {
-        copy(src, from, n, out);
-        out[n] = 32;
-    }
-    k
+    let n = put_word(word, out);
+    let from = least(n, out.len());
+    let s = put1(32, &mut out[from..]);
+    n + s
 }
 
 // A variable: its letter, a point, its index, a space.
-fn write_variable(src: &[u8], letter: u32, start: u32, len: u32, out: &mut [u8]) -> usize
-    requires { ⌜ letter < 256 ⌝ }
-    ensures { λ r. ⌜ Puts (dotted letter (textAt (now (src .entry)) start len) ++ 32 ∷ []) r (now (out .entry)) (now (out .exit)) × (r ≤ 4294967300) ⌝ }
+pub fn write_variable(letter: u32, index: &[u8], out: &mut [u8]) -> usize
+    requires { ⌜ (letter < 256) × (length (now index) ≤ 4294967295) ⌝ }
+    ensures { λ r. ⌜ Puts (dotted letter (now (index .entry)) ++ 32 ∷ []) r (now (out .entry)) (now (out .exit)) × (r ≤ 4294967300) ⌝ }
 {
     let a = put2(letter as u8, 46, out);
     let from = least(a, out.len());
-    let b = write_text(src, start, len, &mut out[from..]);
+    let b = write_word(index, &mut out[from..]);
     a + b
 }
 
@@ -99,7 +98,7 @@ fn put_code(x: u32, out: &mut [u8]) -> usize
 }
 
 // A character in apostrophes, and a space.
-fn write_char(x: u32, out: &mut [u8]) -> usize
+pub fn write_char(x: u32, out: &mut [u8]) -> usize
     ensures { λ r. ⌜ Puts (quoted x ++ 32 ∷ []) r (now (out .entry)) (now (out .exit)) × (r ≤ 8) ⌝ }
 {
     let a = put1(39, out);
@@ -114,40 +113,13 @@ fn write_char(x: u32, out: &mut [u8]) -> usize
 // A token that is its kind alone, $ENTRY, $EXTRN or a mark; and a space.
 pub fn write_mark(kind: u32, out: &mut [u8]) -> usize
     requires { ⌜ Mark kind ⌝ }
-    ensures { λ r. ⌜ Puts (tokenText (spelled kind 0 [])) r (now (out .entry)) (now (out .exit)) × (r ≤ 8) ⌝ }
+    ensures { λ r. ⌜ Puts (tokenText (markWord kind)) r (now (out .entry)) (now (out .exit)) × (r ≤ 8) ⌝ }
 {
-    if kind == 1 {
+    if kind == token::ENTRY {
         return put_word(b"$ENTRY ", out);
     }
-    if kind == 2 {
+    if kind == token::EXTERN {
         return put_word(b"$EXTRN ", out);
     }
     put2(mark_byte(kind), 32, out)
-}
-
-// Any token but Eof.
-pub fn write_token(
-    src: &[u8],
-    kind: u32,
-    detail: u32,
-    start: u32,
-    len: u32,
-    out: &mut [u8],
-) -> usize
-    requires { ⌜ Writable kind detail ⌝ }
-    ensures { λ r. ⌜ Puts (tokenText (view (now (src .entry)) (flatToken kind detail start len))) r (now (out .entry)) (now (out .exit)) × (r ≤ 4294967300) ⌝ }
-{
-    if kind == 3 {
-        return write_text(src, start, len, out);
-    }
-    if kind == 4 {
-        return write_variable(src, detail, start, len, out);
-    }
-    if kind == 5 {
-        return write_text(src, start, len, out);
-    }
-    if kind == 6 {
-        return write_char(detail, out);
-    }
-    write_mark(kind, out)
 }

@@ -1,3 +1,4 @@
+-- `refal_spelling::spellings` meets its contract.
 use Prim.Native.Nat.{_+_, _*_, _-_, _/_, _<_, _≤_}
 use native.Mathlib.Omega.{arith}
 use mathlib.Core.Path.{_≡_, refl, sym, _∙_}
@@ -9,9 +10,6 @@ use Rattle.refal_spelling.specs.SpellingLaws.{spelled-stop, spelled-on, 
 use borrow.Author.Needs.{needs}
 use Rattle.refal_spelling.proofs.spellings.Statement.{statement}
 use Rattle.refal_spelling.proofs.spellings.Tie as tie
-use Rattle.refal_spelling.proofs.spellings.Reads as reads
-use Rattle.refal_spelling.proofs.spellings.Lts as lts
-use Rattle.refal_spelling.proofs.row_spelled.Reads as row-spelled-reads
 
 abbrev Inv-loop : tie.InvT-loop
 Inv-loop tree src rows i₀ i = (i ≤ rows) × (rows ≡ length tree / nodeWidth) × (allSpelled src tree ≡ nodesSpelled src (drop i (nodesOf tree)))
@@ -19,36 +17,29 @@ Inv-loop tree src rows i₀ i = (i ≤ rows) × (rows ≡ length tree / nodeWidt
 abbrev μ-loop : tie.MeasureT-loop
 μ-loop tree src rows i₀ i = rows - i
 
--- src/lib.rt:69:5
 loop-holds : tie.Need-loop-holds Inv-loop μ-loop
 unfolding allSpelled
 loop-holds c = (omega arith, refl, refl)
 
--- src/lib.rt:70:13
 row-spelled-requires : tie.Need-row-spelled-requires Inv-loop μ-loop
 row-spelled-requires c κs = search needs
 
--- src/lib.rt:71:13
 returns : tie.Need-returns Inv-loop μ-loop
 returns c = let a = c .before .before .before .before .before .before .args in let g = c .before .before .before .loop in
     let h : HasRow (a .tree .now) (g .i) = omega arith in
     sym (g .inv .2 ∙ spelled-stop (a .src .now) (a .tree .now) (g .i) h (sym (c .before .row-spelled .ensures) ∙ not-true _ (c .if1 .taken)))
 
--- src/lib.rt:73:9
 add-i : tie.Need-add-i Inv-loop μ-loop
 add-i c = search needs
 
--- src/lib.rt:69:5
 loop-less : tie.Need-loop-less Inv-loop μ-loop
 loop-less c = search needs
 
--- src/lib.rt:69:5
 loop-again : tie.Need-loop-again Inv-loop μ-loop
 loop-again c = let a = c .before .before .before .before .before .before .args in let g = c .before .before .before .loop in
     let h : HasRow (a .tree .now) (g .i) = omega arith in
     (omega arith, refl, g .inv .2 ∙ spelled-on (a .src .now) (a .tree .now) (g .i) h (sym (c .before .row-spelled .ensures) ∙ not-false _ (c .if1 .left)))
 
--- src/lib.rt:64:1
 returns-2 : tie.Need-returns-2 Inv-loop μ-loop
 returns-2 c = let a = c .before .before .before .before .args in let g = c .before .loop in
     let h : length (a .tree .now) < nodeWidth * (g .i + 1) = omega arith in

@@ -1,12 +1,11 @@
 -- `refal_writer::write` meets its contract.
 use native.Mathlib.Omega.{arith}
-use Prim.Native.Nat.{ℕ, _≤_}
-use mathlib.Core.List.{List}
-use mathlib.Core.Path.{_≡_, refl, ap, sym, subst, _∙_}
-use lib.ListN.{length, replicate}
+use Prim.Native.Nat.{ℕ}
+use mathlib.Core.Path.{ap, sym, _∙_}
+use lib.ListN.{replicate}
 use borrow.Author.Tests.{not-true, not-false}
-use Rattle.refal_writer.specs.Puts.{Puts, puts-as}
-use Rattle.refal_writer.specs.WriteLaws.{Answers, lawful-few, lawful-walks, written-is, unlawful, misspelled, too-long, done}
+use Rattle.refal_writer.specs.Puts.{puts-as}
+use Rattle.refal_writer.specs.WriteLaws.{lawful-few, lawful-walks, written-is, unlawful, misspelled, too-long, done}
 use borrow.Author.Needs.{needs}
 use Rattle.refal_writer.proofs.write.Statement.{statement}
 use Rattle.refal_writer.proofs.write.Tie as tie

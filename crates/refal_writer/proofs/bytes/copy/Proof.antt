@@ -1,25 +1,23 @@
 -- `refal_writer::bytes::copy` meets its contract.
-use Rattle.refal_writer.specs.Puts.{copy-from}
 use Prim.Native.Nat.{ℕ, _+_, _-_, _≤_, _<_}
 use native.Mathlib.Omega.{arith}
 use mathlib.Core.List.{List, _++_}
-use mathlib.Core.Path.{_≡_, refl, ap, sym, _∙_}
-use lib.ListN.{length, take, drop, set, length-set}
+use mathlib.Core.Path.{_≡_, refl, ap, _∙_}
+use lib.ListN.{length, take, drop, length-set}
+use lib.Seq.{take-length}
+use Rattle.refal_rows.specs.Tests.{copy-turn}
 use borrow.Author.Needs.{needs}
 use Rattle.refal_writer.proofs.bytes.copy.Statement.{statement}
 use Rattle.refal_writer.proofs.bytes.copy.Tie as tie
 
 abbrev Inv-loop : tie.InvT-loop
-Inv-loop src start n out₀ i₀ out i = (i ≤ n) × (length out ≡ length out₀) × (out ≡ take i (drop start src) ++ drop i out₀)
+Inv-loop word out₀ i₀ out i = (i ≤ length word) × (length out ≡ length out₀) × (out ≡ take i word ++ drop i out₀)
 
 abbrev μ-loop : tie.MeasureT-loop
-μ-loop src start n out₀ i₀ out i = n - i
+μ-loop word out₀ i₀ out i = length word - i
 
 loop-holds : tie.Need-loop-holds Inv-loop μ-loop
-loop-holds c = (search needs, refl, refl)
-
-add-out : tie.Need-add-out Inv-loop μ-loop
-add-out c = search needs
+loop-holds c = (omega arith, refl, refl)
 
 shared-slice-read-out : tie.Need-shared-slice-read-out Inv-loop μ-loop
 shared-slice-read-out c = search needs
@@ -35,17 +33,17 @@ loop-less c = search needs
 
 loop-again : tie.Need-loop-again Inv-loop μ-loop
 loop-again c = let a = c .before .before .before .args in
-    let h : a .start + c .before .before .loop .i < length (a .src .now) = omega arith in
+    let h : c .before .before .loop .i < length (a .word .now) = omega arith in
     let h₀ : c .before .before .loop .i < length (a .out .now) = omega arith in
-    (omega arith, simp length-set (c .before .before .loop .inv .1), copy-from _ _ (a .src .now) _ _ (c .before .before .loop .inv .2) h h₀)
+    (omega arith, simp length-set (c .before .before .loop .inv .1), copy-turn _ _ (a .word .now) _ (c .before .before .loop .inv .2) h h₀)
 
 same-length : tie.Need-same-length Inv-loop μ-loop
 same-length c = search needs
 
 returns : tie.Need-returns Inv-loop μ-loop
 returns c = let a = c .before .before .args in
-    let e : c .before .loop .i ≡ a .n = omega arith in
-    c .before .loop .inv .2 ∙ ap (λ (k : ℕ). take k (drop (a .start) (a .src .now)) ++ drop k (a .out .now)) e
+    let e : c .before .loop .i ≡ length (a .word .now) = omega arith in
+    c .before .loop .inv .2 ∙ ap (λ (k : ℕ). take k (a .word .now) ++ drop k (a .out .now)) e ∙ ap (λ (l : List ℕ). l ++ drop (length (a .word .now)) (a .out .now)) (take-length (a .word .now))
 
 pub copy-spec : {M : Type 1} → statement M
 copy-spec =
@@ -54,7 +52,6 @@ copy-spec =
     Inv-loop
     μ-loop
     loop-holds
-    add-out
     shared-slice-read-out
     slice-write-out
     add-i

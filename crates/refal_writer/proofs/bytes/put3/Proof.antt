@@ -2,7 +2,7 @@
 use native.Mathlib.Omega.{arith}
 use lib.ListN.{length-set}
 use mathlib.Core.Path.{refl}
-use Rattle.refal_writer.specs.Puts.{Puts, three-set}
+use Rattle.refal_writer.specs.Puts.{three-set}
 use borrow.Author.Needs.{needs}
 use Rattle.refal_writer.proofs.bytes.put3.Statement.{statement}
 use Rattle.refal_writer.proofs.bytes.put3.Tie as tie

@@ -2,7 +2,7 @@
 use native.Mathlib.Omega.{arith}
 use lib.ListN.{length-set}
 use mathlib.Core.Path.{refl}
-use Rattle.refal_writer.specs.Puts.{Puts, four-set}
+use Rattle.refal_writer.specs.Puts.{four-set}
 use borrow.Author.Needs.{needs}
 use Rattle.refal_writer.proofs.bytes.put4.Statement.{statement}
 use Rattle.refal_writer.proofs.bytes.put4.Tie as tie

@@ -1,11 +1,6 @@
 -- `refal_writer::bytes::put_word` meets its contract.
 use native.Mathlib.Omega.{arith}
-use native.Mathlib.Nat.{le-refl}
-use mathlib.Core.List.{List, _++_}
-use mathlib.Core.Path.{_≡_, refl, ap, _∙_}
-use lib.ListN.{length, take, drop}
-use lib.Seq.{take-length}
-use Rattle.refal_writer.specs.Puts.{Puts}
+use mathlib.Core.Path.{refl}
 use borrow.Author.Needs.{needs}
 use Rattle.refal_writer.proofs.bytes.put_word.Statement.{statement}
 use Rattle.refal_writer.proofs.bytes.put_word.Tie as tie
@@ -17,8 +12,7 @@ same-length : tie.Need-same-length
 same-length c = search needs
 
 returns : tie.Need-returns
-returns c = let a = c .before .before .before .before .before .before .before .args in
-    record { count = refl; bytes = λ h. c .before .before .copy .ensures ∙ ap (λ (l : List _). l ++ drop (length (a .word .now)) (a .out .now)) (take-length (a .word .now)) }
+returns c = record { count = refl; bytes = λ h. c .before .before .copy .ensures }
 
 returns-2 : tie.Need-returns-2
 returns-2 c = record { count = refl; bytes = λ h. absurd (omega arith) }

@@ -1,9 +1,11 @@
 -- `refal_writer::opening::write_head` meets its contract.
 use native.Mathlib.Omega.{arith}
+use mathlib.Core.Bool.{false}
 use mathlib.Core.List.{[], _∷_}
 use borrow.Author.Tests.{eq-eqb, ne-eqb}
-use Rattle.refal_ast.specs.Flatten.{flatToken, mark, nameOf}
 use Rattle.refal_writer.specs.TextPuts.{text-two}
+use Rattle.refal_ast.specs.Kinds.{tokEntry}
+use Rattle.refal_writer.specs.Words.{markWord, headWords}
 use borrow.Author.Needs.{needs}
 use Rattle.refal_writer.proofs.opening.write_head.Statement.{statement}
 use Rattle.refal_writer.proofs.opening.write_head.Tie as tie
@@ -14,17 +16,17 @@ write-mark-requires c κs = search needs
 least-requires : tie.Need-least-requires
 least-requires c κs = search needs
 
-sub-write-two : tie.Need-sub-write-two
-sub-write-two c = search needs
+sub-write-body : tie.Need-sub-write-body
+sub-write-body c = search needs
 
-part-write-two-start : tie.Need-part-write-two-start
-part-write-two-start c = search needs
+part-write-body-start : tie.Need-part-write-body-start
+part-write-body-start c = search needs
 
-part-write-two-end : tie.Need-part-write-two-end
-part-write-two-end c = search needs
+part-write-body-end : tie.Need-part-write-body-end
+part-write-body-end c = search needs
 
-write-two-requires : tie.Need-write-two-requires
-write-two-requires c κs = search needs
+write-body-requires : tie.Need-write-body-requires
+write-body-requires c κs = search needs
 
 add-result : tie.Need-add-result
 add-result c = search needs
@@ -34,16 +36,16 @@ same-length c = search needs
 
 returns : tie.Need-returns
 returns c = let a = c .before .before .before .before .before .before .before .before .before .before .before .before .args in
-    (simp (eq-eqb _ _ (c .before .before .before .before .before .before .before .before .before .if1 .taken)) (text-two (a .src .now) (mark 1 ∷ []) (nameOf (a .start) (a .len) ∷ mark 7 ∷ []) _ _ _ _ _ _ (c .before .before .before .before .before .before .before .write-mark .ensures .0) (c .before .before .before .before .before .before .before .write-mark .kept .1 .0) (c .before .before .before .before .least .ensures) (c .before .before .write-two .ensures .0)), omega arith)
+    (simp (eq-eqb _ _ (c .before .before .before .before .before .before .before .before .before .if1 .taken)) (text-two (markWord tokEntry ∷ []) (headWords false (a .word .now)) _ _ _ _ _ _ (c .before .before .before .before .before .before .before .write-mark .ensures .0) (c .before .before .before .before .before .before .before .write-mark .kept .1 .0) (c .before .before .before .before .least .ensures) (c .before .before .write-body .ensures .0)), omega arith)
 
-write-two-requires-2 : tie.Need-write-two-requires-2
-write-two-requires-2 c κs = search needs
+write-body-requires-2 : tie.Need-write-body-requires-2
+write-body-requires-2 c κs = search needs
 
 same-length-2 : tie.Need-same-length-2
 same-length-2 c = search needs
 
 returns-2 : tie.Need-returns-2
-returns-2 c = (simp (ne-eqb _ _ (c .before .before .before .before .if1 .left)) (c .before .before .write-two2 .ensures .0), omega arith)
+returns-2 c = (simp (ne-eqb _ _ (c .before .before .before .before .if1 .left)) (c .before .before .write-body2 .ensures .0), omega arith)
 
 pub write-head-spec : {M : Type 1} → statement M
 write-head-spec =
@@ -51,13 +53,13 @@ write-head-spec =
     (tie.spec
     write-mark-requires
     least-requires
-    sub-write-two
-    part-write-two-start
-    part-write-two-end
-    write-two-requires
+    sub-write-body
+    part-write-body-start
+    part-write-body-end
+    write-body-requires
     add-result
     same-length
     returns
-    write-two-requires-2
+    write-body-requires-2
     same-length-2
     returns-2)

@@ -1,7 +1,6 @@
 -- `refal_writer::token::put_code` meets its contract.
 use native.Mathlib.Omega.{arith}
 use borrow.Author.Tests.{eq-eqb, ne-eqb, lt-ltb, le-ltb}
-use Rattle.refal_writer.specs.Puts.{Puts}
 use Rattle.refal_spelling.specs.Spell.{body}
 use borrow.Author.Needs.{needs}
 use Rattle.refal_writer.proofs.token.put_code.Statement.{statement}

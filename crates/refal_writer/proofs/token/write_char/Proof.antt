@@ -1,10 +1,10 @@
 -- `refal_writer::token::write_char` meets its contract.
 use native.Mathlib.Omega.{arith}
-use mathlib.Core.List.{List, [], _∷_, _++_}
-use mathlib.Core.Path.{_≡_, _∙_}
-use Rattle.refal_writer.specs.Puts.{Puts, Pours, puts-as, pours-first, pours-on, pours-end}
+use mathlib.Core.List.{[], _∷_, _++_}
+use mathlib.Core.Path.{_∙_}
+use Rattle.refal_writer.specs.Puts.{puts-as, pours-first, pours-on, pours-end}
 use Rattle.refal_writer.specs.Token.{quoted-text}
-use Rattle.refal_spelling.specs.Spell.{body, quoted}
+use Rattle.refal_spelling.specs.Spell.{body}
 use borrow.Author.Needs.{needs}
 use Rattle.refal_writer.proofs.token.write_char.Statement.{statement}
 use Rattle.refal_writer.proofs.token.write_char.Tie as tie

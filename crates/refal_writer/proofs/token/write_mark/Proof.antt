@@ -1,9 +1,9 @@
 -- `refal_writer::token::write_mark` meets its contract.
 use native.Mathlib.Omega.{arith}
-use mathlib.Core.List.{List, [], _∷_, _++_}
-use mathlib.Core.Path.{_≡_, ap, _∙_}
-use Rattle.refal_writer.specs.Puts.{Puts, puts-as}
-use Rattle.refal_writer.specs.Token.{tokenText, entry-text, extern-text, mark-text}
+use mathlib.Core.List.{[], _∷_}
+use mathlib.Core.Path.{ap, _∙_}
+use Rattle.refal_writer.specs.Puts.{puts-as}
+use Rattle.refal_writer.specs.Token.{entry-text, extern-text, mark-text}
 use borrow.Author.Needs.{needs}
 use Rattle.refal_writer.proofs.token.write_mark.Statement.{statement}
 use Rattle.refal_writer.proofs.token.write_mark.Tie as tie
@@ -42,8 +42,7 @@ same-length-3 : tie.Need-same-length-3
 same-length-3 c = search needs
 
 returns-3 : tie.Need-returns-3
-returns-3 c = let k = c .before .before .before .before .before .before .before .before .args .kind in
-    (puts-as _ _ (ap (λ b. b ∷ 32 ∷ []) (c .before .before .before .before .mark-byte .ensures) ∙ mark-text k 0 [] (c .before .before .before .before .before .before .before .before .pre) (c .before .before .before .before .before .before .if1 .left) (c .before .before .before .before .before .if2 .left)) (c .before .before .put2 .ensures .0), omega arith)
+returns-3 c = (puts-as _ _ (ap (λ b. b ∷ 32 ∷ []) (c .before .before .before .before .mark-byte .ensures) ∙ mark-text (c .before .before .before .before .before .before .before .before .args .kind) 0 [] (c .before .before .before .before .before .before .before .before .pre) (c .before .before .before .before .before .before .if1 .left) (c .before .before .before .before .before .if2 .left)) (c .before .before .put2 .ensures .0), omega arith)
 
 pub write-mark-spec : {M : Type 1} → statement M
 write-mark-spec =

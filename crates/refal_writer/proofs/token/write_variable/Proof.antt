@@ -1,9 +1,7 @@
 -- `refal_writer::token::write_variable` meets its contract.
 use native.Mathlib.Omega.{arith}
-use mathlib.Core.List.{List, [], _∷_, _++_}
-use mathlib.Core.Path.{_≡_, _∙_}
-use Rattle.refal_writer.specs.Puts.{Puts, Pours, puts-two}
-use Rattle.refal_spelling.specs.Spell.{textAt}
+use mathlib.Core.List.{[], _∷_, _++_}
+use Rattle.refal_writer.specs.Puts.{puts-two}
 use borrow.Author.Needs.{needs}
 use Rattle.refal_writer.proofs.token.write_variable.Statement.{statement}
 use Rattle.refal_writer.proofs.token.write_variable.Tie as tie
@@ -17,17 +15,17 @@ put2-requires c κs = search needs
 least-requires : tie.Need-least-requires
 least-requires c κs = search needs
 
-sub-write-text : tie.Need-sub-write-text
-sub-write-text c = search needs
+sub-write-word : tie.Need-sub-write-word
+sub-write-word c = search needs
 
-part-write-text-start : tie.Need-part-write-text-start
-part-write-text-start c = search needs
+part-write-word-start : tie.Need-part-write-word-start
+part-write-word-start c = search needs
 
-part-write-text-end : tie.Need-part-write-text-end
-part-write-text-end c = search needs
+part-write-word-end : tie.Need-part-write-word-end
+part-write-word-end c = search needs
 
-write-text-requires : tie.Need-write-text-requires
-write-text-requires c κs = search needs
+write-word-requires : tie.Need-write-word-requires
+write-word-requires c κs = search needs
 
 add-result : tie.Need-add-result
 add-result c = search needs
@@ -37,7 +35,7 @@ same-length c = search needs
 
 returns : tie.Need-returns
 returns c = let a = c .before .before .before .before .before .before .before .before .before .before .before .args in
-    (puts-two (a .letter ∷ 46 ∷ []) (textAt (a .src .now) (a .start) (a .len) ++ 32 ∷ []) _ _ _ _ _ _ (c .before .before .before .before .before .before .before .put2 .ensures .0) (c .before .before .before .before .before .before .before .put2 .kept .1 .1 .0) (c .before .before .before .before .least .ensures) (c .before .before .write-text .ensures .0), omega arith)
+    (puts-two (a .letter ∷ 46 ∷ []) (a .index .now ++ 32 ∷ []) _ _ _ _ _ _ (c .before .before .before .before .before .before .before .put2 .ensures .0) (c .before .before .before .before .before .before .before .put2 .kept .1 .1 .0) (c .before .before .before .before .least .ensures) (c .before .before .write-word .ensures .0), omega arith)
 
 pub write-variable-spec : {M : Type 1} → statement M
 write-variable-spec =
@@ -46,10 +44,10 @@ write-variable-spec =
     cast-put2
     put2-requires
     least-requires
-    sub-write-text
-    part-write-text-start
-    part-write-text-end
-    write-text-requires
+    sub-write-word
+    part-write-word-start
+    part-write-word-end
+    write-word-requires
     add-result
     same-length
     returns)

@@ -1,27 +1,25 @@
--- `refal_writer::walk::write_rows` meet their contracts, as one cycle of calls.
+-- `refal_writer::walk::write_rows` meets its contract.
 use Prim.Native.Nat.{ℕ, _+_, _*_, _-_, _≤_, _<_}
-use mathlib.Core.List.{List, []}
-use mathlib.Core.Path.{_≡_, refl, sym, subst, _∙_}
+use mathlib.Core.List.{List}
+use mathlib.Core.Path.{_≡_, refl, subst, _∙_}
 use native.Mathlib.Omega.{arith}
-use lib.ListN.{length}
-use Rattle.refal_tree.specs.States.{after}
-use Rattle.refal_tree.specs.Walk.{flatAt}
-use Rattle.refal_writer.specs.Puts.{Puts, Pours, pours-start, pours-on, pours-end}
-use Rattle.refal_writer.specs.Token.{textOf}
-use Rattle.refal_writer.specs.Walk.{Walks, Standing, walk-low, walk-high, walk-row, walk-kids, walk-rest, turn-text, end-text, widest, filled-small, turn-small, rows-fall, left-falls}
 use borrow.Author.Needs.{needs}
-use Prim.Native.Nat.{ℕ, _<_}
+use lib.ListN.{length}
+use Rattle.refal_tree.specs.Walk.{flatAt}
+use Rattle.refal_writer.specs.Puts.{Pours, pours-start, pours-on, pours-end}
+use Rattle.refal_writer.specs.Token.{textOf}
+use Rattle.refal_writer.specs.Walk.{Walks, turn, end-text, widest, filled-small, turn-small, rows-fall, left-falls}
 use borrow.Fn.Kinds.{In}
 use borrow.Fn.PlainCycle.{Measures, is, falls, and}
 use Rattle.refal_writer.proofs.walk.write_rows.Reads as write-rows
 use Rattle.refal_writer.proofs.walk.write_rows.Kinds as write-rows-kinds
 use Rattle.refal_writer.proofs.walk.+write_rows.Lts-write_rows as write-rows-lts
+use Rattle.refal_ast.proofs.nodes.kind.Reads as kind-reads
+use Rattle.refal_ast.proofs.nodes.next.Reads as next-reads
 use Rattle.refal_rows.proofs.least.Reads as least-reads
 use Rattle.refal_tree.proofs.states.after.Reads as after-reads
 use Rattle.refal_tree.proofs.states.inside.Reads as inside-reads
 use Rattle.refal_writer.proofs.opening.write_closing.Reads as write-closing-reads
-use Rattle.refal_writer.proofs.walk.kind.Reads as kind-reads
-use Rattle.refal_writer.proofs.walk.next.Reads as next-reads
 use Rattle.refal_writer.proofs.walk.open_row.Reads as open-row-reads
 use Rattle.refal_writer.proofs.walk.+write_rows.{statement}
 use Rattle.refal_writer.proofs.walk.+write_rows.Tie.{close}
@@ -37,635 +35,130 @@ abbrev write-rows-below : ℕ → In 3 write-rows-kinds.ps
 write-rows-below t =
     and 3 write-rows-kinds.ps (falls 3 write-rows-kinds.ps _<_ μ-write-rows t) write-rows.Pre
 
+abbrev write-rows-claims : ℕ → write-rows-lts.Claims
+write-rows-claims t = (kind-reads.Asked, kind-reads.Learnt, next-reads.Asked, next-reads.Learnt, least-reads.Asked, least-reads.Learnt, open-row-reads.Asked, open-row-reads.Learnt, inside-reads.Asked, inside-reads.Learnt, write-rows-below t, write-rows.Post, write-closing-reads.Asked, write-closing-reads.Learnt, after-reads.Asked, after-reads.Learnt)
+
 abbrev write-rows-Inv-loop : write-rows-lts.InvT-loop
 write-rows-Inv-loop tree src from to start out₀ i₀ st₀ at₀ out i st at = (from ≤ i) × (i ≤ to) × (length out ≡ length out₀) × (at + from * widest ≤ i * widest) × Walks tree i to st × Pours (textOf src (flatAt tree from to start)) (textOf src (flatAt tree i to st)) at out out₀
 
 abbrev write-rows-μ-loop : write-rows-lts.MeasureT-loop
 write-rows-μ-loop tree src from to start out₀ i₀ st₀ at₀ out i st at = to - i
 
-write-rows-loop-holds : (t : ℕ) → write-rows-lts.Need-loop-holds (
-  kind-reads.Asked,
-  kind-reads.Learnt,
-  next-reads.Asked,
-  next-reads.Learnt,
-  least-reads.Asked,
-  least-reads.Learnt,
-  open-row-reads.Asked,
-  open-row-reads.Learnt,
-  inside-reads.Asked,
-  inside-reads.Learnt,
-  write-rows-below t,
-  write-rows.Post,
-  write-closing-reads.Asked,
-  write-closing-reads.Learnt,
-  after-reads.Asked,
-  after-reads.Learnt,
-) (write-rows-at t) write-rows.Post write-rows-Inv-loop write-rows-μ-loop
+write-rows-loop-holds : (t : ℕ) → write-rows-lts.Need-loop-holds (write-rows-claims t) (write-rows-at t) write-rows.Post write-rows-Inv-loop write-rows-μ-loop
 write-rows-loop-holds t c = (omega arith, c .before .before .before .pre .1 .0, refl, omega arith, c .before .before .before .pre .1 .3, pours-start _ _)
 
-write-rows-kind-requires : (t : ℕ) → write-rows-lts.Need-kind-requires (
-  kind-reads.Asked,
-  kind-reads.Learnt,
-  next-reads.Asked,
-  next-reads.Learnt,
-  least-reads.Asked,
-  least-reads.Learnt,
-  open-row-reads.Asked,
-  open-row-reads.Learnt,
-  inside-reads.Asked,
-  inside-reads.Learnt,
-  write-rows-below t,
-  write-rows.Post,
-  write-closing-reads.Asked,
-  write-closing-reads.Learnt,
-  after-reads.Asked,
-  after-reads.Learnt,
-) (write-rows-at t) write-rows.Post write-rows-Inv-loop write-rows-μ-loop
+write-rows-kind-requires : (t : ℕ) → write-rows-lts.Need-kind-requires (write-rows-claims t) (write-rows-at t) write-rows.Post write-rows-Inv-loop write-rows-μ-loop
 write-rows-kind-requires t c κs = search needs
 
-write-rows-next-requires : (t : ℕ) → write-rows-lts.Need-next-requires (
-  kind-reads.Asked,
-  kind-reads.Learnt,
-  next-reads.Asked,
-  next-reads.Learnt,
-  least-reads.Asked,
-  least-reads.Learnt,
-  open-row-reads.Asked,
-  open-row-reads.Learnt,
-  inside-reads.Asked,
-  inside-reads.Learnt,
-  write-rows-below t,
-  write-rows.Post,
-  write-closing-reads.Asked,
-  write-closing-reads.Learnt,
-  after-reads.Asked,
-  after-reads.Learnt,
-) (write-rows-at t) write-rows.Post write-rows-Inv-loop write-rows-μ-loop
+write-rows-next-requires : (t : ℕ) → write-rows-lts.Need-next-requires (write-rows-claims t) (write-rows-at t) write-rows.Post write-rows-Inv-loop write-rows-μ-loop
 write-rows-next-requires t c κs = search needs
 
-write-rows-add-first : (t : ℕ) → write-rows-lts.Need-add-first (
-  kind-reads.Asked,
-  kind-reads.Learnt,
-  next-reads.Asked,
-  next-reads.Learnt,
-  least-reads.Asked,
-  least-reads.Learnt,
-  open-row-reads.Asked,
-  open-row-reads.Learnt,
-  inside-reads.Asked,
-  inside-reads.Learnt,
-  write-rows-below t,
-  write-rows.Post,
-  write-closing-reads.Asked,
-  write-closing-reads.Learnt,
-  after-reads.Asked,
-  after-reads.Learnt,
-) (write-rows-at t) write-rows.Post write-rows-Inv-loop write-rows-μ-loop
+write-rows-add-first : (t : ℕ) → write-rows-lts.Need-add-first (write-rows-claims t) (write-rows-at t) write-rows.Post write-rows-Inv-loop write-rows-μ-loop
 write-rows-add-first t c = search needs
 
-write-rows-least-requires : (t : ℕ) → write-rows-lts.Need-least-requires (
-  kind-reads.Asked,
-  kind-reads.Learnt,
-  next-reads.Asked,
-  next-reads.Learnt,
-  least-reads.Asked,
-  least-reads.Learnt,
-  open-row-reads.Asked,
-  open-row-reads.Learnt,
-  inside-reads.Asked,
-  inside-reads.Learnt,
-  write-rows-below t,
-  write-rows.Post,
-  write-closing-reads.Asked,
-  write-closing-reads.Learnt,
-  after-reads.Asked,
-  after-reads.Learnt,
-) (write-rows-at t) write-rows.Post write-rows-Inv-loop write-rows-μ-loop
+write-rows-least-requires : (t : ℕ) → write-rows-lts.Need-least-requires (write-rows-claims t) (write-rows-at t) write-rows.Post write-rows-Inv-loop write-rows-μ-loop
 write-rows-least-requires t c κs = search needs
 
-write-rows-sub-open-row : (t : ℕ) → write-rows-lts.Need-sub-open-row (
-  kind-reads.Asked,
-  kind-reads.Learnt,
-  next-reads.Asked,
-  next-reads.Learnt,
-  least-reads.Asked,
-  least-reads.Learnt,
-  open-row-reads.Asked,
-  open-row-reads.Learnt,
-  inside-reads.Asked,
-  inside-reads.Learnt,
-  write-rows-below t,
-  write-rows.Post,
-  write-closing-reads.Asked,
-  write-closing-reads.Learnt,
-  after-reads.Asked,
-  after-reads.Learnt,
-) (write-rows-at t) write-rows.Post write-rows-Inv-loop write-rows-μ-loop
+write-rows-sub-open-row : (t : ℕ) → write-rows-lts.Need-sub-open-row (write-rows-claims t) (write-rows-at t) write-rows.Post write-rows-Inv-loop write-rows-μ-loop
 write-rows-sub-open-row t c = search needs
 
-write-rows-part-open-row-start : (t : ℕ) → write-rows-lts.Need-part-open-row-start (
-  kind-reads.Asked,
-  kind-reads.Learnt,
-  next-reads.Asked,
-  next-reads.Learnt,
-  least-reads.Asked,
-  least-reads.Learnt,
-  open-row-reads.Asked,
-  open-row-reads.Learnt,
-  inside-reads.Asked,
-  inside-reads.Learnt,
-  write-rows-below t,
-  write-rows.Post,
-  write-closing-reads.Asked,
-  write-closing-reads.Learnt,
-  after-reads.Asked,
-  after-reads.Learnt,
-) (write-rows-at t) write-rows.Post write-rows-Inv-loop write-rows-μ-loop
+write-rows-part-open-row-start : (t : ℕ) → write-rows-lts.Need-part-open-row-start (write-rows-claims t) (write-rows-at t) write-rows.Post write-rows-Inv-loop write-rows-μ-loop
 write-rows-part-open-row-start t c = search needs
 
-write-rows-part-open-row-end : (t : ℕ) → write-rows-lts.Need-part-open-row-end (
-  kind-reads.Asked,
-  kind-reads.Learnt,
-  next-reads.Asked,
-  next-reads.Learnt,
-  least-reads.Asked,
-  least-reads.Learnt,
-  open-row-reads.Asked,
-  open-row-reads.Learnt,
-  inside-reads.Asked,
-  inside-reads.Learnt,
-  write-rows-below t,
-  write-rows.Post,
-  write-closing-reads.Asked,
-  write-closing-reads.Learnt,
-  after-reads.Asked,
-  after-reads.Learnt,
-) (write-rows-at t) write-rows.Post write-rows-Inv-loop write-rows-μ-loop
+write-rows-part-open-row-end : (t : ℕ) → write-rows-lts.Need-part-open-row-end (write-rows-claims t) (write-rows-at t) write-rows.Post write-rows-Inv-loop write-rows-μ-loop
 write-rows-part-open-row-end t c = search needs
 
-write-rows-open-row-requires : (t : ℕ) → write-rows-lts.Need-open-row-requires (
-  kind-reads.Asked,
-  kind-reads.Learnt,
-  next-reads.Asked,
-  next-reads.Learnt,
-  least-reads.Asked,
-  least-reads.Learnt,
-  open-row-reads.Asked,
-  open-row-reads.Learnt,
-  inside-reads.Asked,
-  inside-reads.Learnt,
-  write-rows-below t,
-  write-rows.Post,
-  write-closing-reads.Asked,
-  write-closing-reads.Learnt,
-  after-reads.Asked,
-  after-reads.Learnt,
-) (write-rows-at t) write-rows.Post write-rows-Inv-loop write-rows-μ-loop
-write-rows-open-row-requires t c κs = let a = c .before .before .before .before .before .before .before .before .before .args in
-    let g = c .before .before .before .before .before .loop in
-    let m : g .i < a .to = c .before .before .before .before .loop-test .taken in
-    (omega arith, walk-row (a .tree .now) (g .i) (a .to) (g .st) (c .before .before .before .kind .result) (c .before .before .next .result) (c .before .before .before .kind .ensures) (c .before .before .next .ensures) (c .before .before .before .before .before .before .before .before .before .pre .1 .1) m (g .inv .4))
+write-rows-open-row-requires : (t : ℕ) → write-rows-lts.Need-open-row-requires (write-rows-claims t) (write-rows-at t) write-rows.Post write-rows-Inv-loop write-rows-μ-loop
+write-rows-open-row-requires t c κs = let a = c .before .before .before .before .before .before .before .before .before .args in let g = c .before .before .before .before .before .loop in
+    let T = turn (a .tree .now) (g .i) (a .to) (g .st) (c .before .before .before .kind .result) (c .before .before .next .result) (c .before .before .before .kind .ensures) (c .before .before .next .ensures) (c .before .before .before .before .before .before .before .before .before .pre .1 .1) (c .before .before .before .before .loop-test .taken) (g .inv .4) in
+    (omega arith, T .row)
 
-write-rows-add-opened : (t : ℕ) → write-rows-lts.Need-add-opened (
-  kind-reads.Asked,
-  kind-reads.Learnt,
-  next-reads.Asked,
-  next-reads.Learnt,
-  least-reads.Asked,
-  least-reads.Learnt,
-  open-row-reads.Asked,
-  open-row-reads.Learnt,
-  inside-reads.Asked,
-  inside-reads.Learnt,
-  write-rows-below t,
-  write-rows.Post,
-  write-closing-reads.Asked,
-  write-closing-reads.Learnt,
-  after-reads.Asked,
-  after-reads.Learnt,
-) (write-rows-at t) write-rows.Post write-rows-Inv-loop write-rows-μ-loop
+write-rows-add-opened : (t : ℕ) → write-rows-lts.Need-add-opened (write-rows-claims t) (write-rows-at t) write-rows.Post write-rows-Inv-loop write-rows-μ-loop
 write-rows-add-opened t c = search needs
 
-write-rows-least-requires-2 : (t : ℕ) → write-rows-lts.Need-least-requires-2 (
-  kind-reads.Asked,
-  kind-reads.Learnt,
-  next-reads.Asked,
-  next-reads.Learnt,
-  least-reads.Asked,
-  least-reads.Learnt,
-  open-row-reads.Asked,
-  open-row-reads.Learnt,
-  inside-reads.Asked,
-  inside-reads.Learnt,
-  write-rows-below t,
-  write-rows.Post,
-  write-closing-reads.Asked,
-  write-closing-reads.Learnt,
-  after-reads.Asked,
-  after-reads.Learnt,
-) (write-rows-at t) write-rows.Post write-rows-Inv-loop write-rows-μ-loop
+write-rows-least-requires-2 : (t : ℕ) → write-rows-lts.Need-least-requires-2 (write-rows-claims t) (write-rows-at t) write-rows.Post write-rows-Inv-loop write-rows-μ-loop
 write-rows-least-requires-2 t c κs = search needs
 
-write-rows-inside-requires : (t : ℕ) → write-rows-lts.Need-inside-requires (
-  kind-reads.Asked,
-  kind-reads.Learnt,
-  next-reads.Asked,
-  next-reads.Learnt,
-  least-reads.Asked,
-  least-reads.Learnt,
-  open-row-reads.Asked,
-  open-row-reads.Learnt,
-  inside-reads.Asked,
-  inside-reads.Learnt,
-  write-rows-below t,
-  write-rows.Post,
-  write-closing-reads.Asked,
-  write-closing-reads.Learnt,
-  after-reads.Asked,
-  after-reads.Learnt,
-) (write-rows-at t) write-rows.Post write-rows-Inv-loop write-rows-μ-loop
+write-rows-inside-requires : (t : ℕ) → write-rows-lts.Need-inside-requires (write-rows-claims t) (write-rows-at t) write-rows.Post write-rows-Inv-loop write-rows-μ-loop
 write-rows-inside-requires t c κs = search needs
 
-write-rows-sub-write-rows : (t : ℕ) → write-rows-lts.Need-sub-write-rows (
-  kind-reads.Asked,
-  kind-reads.Learnt,
-  next-reads.Asked,
-  next-reads.Learnt,
-  least-reads.Asked,
-  least-reads.Learnt,
-  open-row-reads.Asked,
-  open-row-reads.Learnt,
-  inside-reads.Asked,
-  inside-reads.Learnt,
-  write-rows-below t,
-  write-rows.Post,
-  write-closing-reads.Asked,
-  write-closing-reads.Learnt,
-  after-reads.Asked,
-  after-reads.Learnt,
-) (write-rows-at t) write-rows.Post write-rows-Inv-loop write-rows-μ-loop
+write-rows-sub-write-rows : (t : ℕ) → write-rows-lts.Need-sub-write-rows (write-rows-claims t) (write-rows-at t) write-rows.Post write-rows-Inv-loop write-rows-μ-loop
 write-rows-sub-write-rows t c = search needs
 
-write-rows-part-write-rows-start : (t : ℕ) → write-rows-lts.Need-part-write-rows-start (
-  kind-reads.Asked,
-  kind-reads.Learnt,
-  next-reads.Asked,
-  next-reads.Learnt,
-  least-reads.Asked,
-  least-reads.Learnt,
-  open-row-reads.Asked,
-  open-row-reads.Learnt,
-  inside-reads.Asked,
-  inside-reads.Learnt,
-  write-rows-below t,
-  write-rows.Post,
-  write-closing-reads.Asked,
-  write-closing-reads.Learnt,
-  after-reads.Asked,
-  after-reads.Learnt,
-) (write-rows-at t) write-rows.Post write-rows-Inv-loop write-rows-μ-loop
+write-rows-part-write-rows-start : (t : ℕ) → write-rows-lts.Need-part-write-rows-start (write-rows-claims t) (write-rows-at t) write-rows.Post write-rows-Inv-loop write-rows-μ-loop
 write-rows-part-write-rows-start t c = search needs
 
-write-rows-part-write-rows-end : (t : ℕ) → write-rows-lts.Need-part-write-rows-end (
-  kind-reads.Asked,
-  kind-reads.Learnt,
-  next-reads.Asked,
-  next-reads.Learnt,
-  least-reads.Asked,
-  least-reads.Learnt,
-  open-row-reads.Asked,
-  open-row-reads.Learnt,
-  inside-reads.Asked,
-  inside-reads.Learnt,
-  write-rows-below t,
-  write-rows.Post,
-  write-closing-reads.Asked,
-  write-closing-reads.Learnt,
-  after-reads.Asked,
-  after-reads.Learnt,
-) (write-rows-at t) write-rows.Post write-rows-Inv-loop write-rows-μ-loop
+write-rows-part-write-rows-end : (t : ℕ) → write-rows-lts.Need-part-write-rows-end (write-rows-claims t) (write-rows-at t) write-rows.Post write-rows-Inv-loop write-rows-μ-loop
 write-rows-part-write-rows-end t c = search needs
 
-write-rows-write-rows-requires : (t : ℕ) → write-rows-lts.Need-write-rows-requires (
-  kind-reads.Asked,
-  kind-reads.Learnt,
-  next-reads.Asked,
-  next-reads.Learnt,
-  least-reads.Asked,
-  least-reads.Learnt,
-  open-row-reads.Asked,
-  open-row-reads.Learnt,
-  inside-reads.Asked,
-  inside-reads.Learnt,
-  write-rows-below t,
-  write-rows.Post,
-  write-closing-reads.Asked,
-  write-closing-reads.Learnt,
-  after-reads.Asked,
-  after-reads.Learnt,
-) (write-rows-at t) write-rows.Post write-rows-Inv-loop write-rows-μ-loop
-write-rows-write-rows-requires t c κs = let a = c .before .before .before .before .before .before .before .before .before .before .before .before .before .before .before .args in
-    let g = c .before .before .before .before .before .before .before .before .before .before .before .loop in
-    let m : g .i < a .to = c .before .before .before .before .before .before .before .before .before .before .loop-test .taken in
-    let lo = walk-low (a .tree .now) (g .i) (a .to) (g .st) (c .before .before .before .before .before .before .before .before .before .kind .result) (c .before .before .before .before .before .before .before .before .next .result) (c .before .before .before .before .before .before .before .before .before .kind .ensures) (c .before .before .before .before .before .before .before .before .next .ensures) (c .before .before .before .before .before .before .before .before .before .before .before .before .before .before .before .pre .1 .1) m (g .inv .4) in
-    let hi = walk-high (a .tree .now) (g .i) (a .to) (g .st) (c .before .before .before .before .before .before .before .before .before .kind .result) (c .before .before .before .before .before .before .before .before .next .result) (c .before .before .before .before .before .before .before .before .before .kind .ensures) (c .before .before .before .before .before .before .before .before .next .ensures) (c .before .before .before .before .before .before .before .before .before .before .before .before .before .before .before .pre .1 .1) m (g .inv .4) in
-    let s = walk-kids (a .tree .now) (g .i) (a .to) (g .st) (c .before .before .before .before .before .before .before .before .before .kind .result) (c .before .before .before .before .before .before .before .before .next .result) (c .before .before .before .before .before .before .before .before .before .kind .ensures) (c .before .before .before .before .before .before .before .before .next .ensures) (c .before .before .before .before .before .before .before .before .before .before .before .before .before .before .before .pre .1 .1) m (g .inv .4) (c .before .inside .result) (after (g .st) (c .before .before .before .before .before .before .before .before .before .kind .result)) (c .before .inside .ensures) refl in
-    let d : c .before .before .before .before .before .before .before .before .next .result - (g .i + 1) < a .to - a .from = rows-fall (a .from) (g .i) (c .before .before .before .before .before .before .before .before .next .result) (a .to) (g .inv .0) lo hi in
+write-rows-write-rows-requires : (t : ℕ) → write-rows-lts.Need-write-rows-requires (write-rows-claims t) (write-rows-at t) write-rows.Post write-rows-Inv-loop write-rows-μ-loop
+write-rows-write-rows-requires t c κs = let a = c .before .before .before .before .before .before .before .before .before .before .before .before .before .before .before .args in let g = c .before .before .before .before .before .before .before .before .before .before .before .loop in
+    let T = turn (a .tree .now) (g .i) (a .to) (g .st) (c .before .before .before .before .before .before .before .before .before .kind .result) (c .before .before .before .before .before .before .before .before .next .result) (c .before .before .before .before .before .before .before .before .before .kind .ensures) (c .before .before .before .before .before .before .before .before .next .ensures) (c .before .before .before .before .before .before .before .before .before .before .before .before .before .before .before .pre .1 .1) (c .before .before .before .before .before .before .before .before .before .before .loop-test .taken) (g .inv .4) in
+    let d : c .before .before .before .before .before .before .before .before .next .result - (g .i + 1) < a .to - a .from = rows-fall (a .from) (g .i) (c .before .before .before .before .before .before .before .before .next .result) (a .to) (g .inv .0) (T .low) (T .high) in
     let e = c .before .before .before .before .before .before .before .before .before .before .before .before .before .before .before .pre .0 in
-    (omega arith, (omega arith, omega arith, omega arith, s))
+    (omega arith, (omega (arith, T .low), omega (arith, T .high), omega (arith, T .high), T .kids (c .before .inside .result) (c .before .inside .ensures)))
 
-write-rows-add-filled : (t : ℕ) → write-rows-lts.Need-add-filled (
-  kind-reads.Asked,
-  kind-reads.Learnt,
-  next-reads.Asked,
-  next-reads.Learnt,
-  least-reads.Asked,
-  least-reads.Learnt,
-  open-row-reads.Asked,
-  open-row-reads.Learnt,
-  inside-reads.Asked,
-  inside-reads.Learnt,
-  write-rows-below t,
-  write-rows.Post,
-  write-closing-reads.Asked,
-  write-closing-reads.Learnt,
-  after-reads.Asked,
-  after-reads.Learnt,
-) (write-rows-at t) write-rows.Post write-rows-Inv-loop write-rows-μ-loop
-write-rows-add-filled t c = let a = c .before .before .before .before .before .before .before .before .before .before .before .before .before .before .before .before .before .before .args in
-    let g = c .before .before .before .before .before .before .before .before .before .before .before .before .before .before .loop in
-    let m : g .i < a .to = c .before .before .before .before .before .before .before .before .before .before .before .before .before .loop-test .taken in
-    let hi = walk-high (a .tree .now) (g .i) (a .to) (g .st) (c .before .before .before .before .before .before .before .before .before .before .before .before .kind .result) (c .before .before .before .before .before .before .before .before .before .before .before .next .result) (c .before .before .before .before .before .before .before .before .before .before .before .before .kind .ensures) (c .before .before .before .before .before .before .before .before .before .before .before .next .ensures) (c .before .before .before .before .before .before .before .before .before .before .before .before .before .before .before .before .before .before .pre .1 .1) m (g .inv .4) in
-    let f = filled-small (a .from) (g .i) (c .before .before .before .before .before .before .before .before .before .before .before .next .result) (a .to) (g .at) (c .before .before .before .before .before .before .before .before .open-row .result) (c .before .before .write-rows .result) (g .inv .3) (c .before .before .before .before .before .before .before .before .open-row .ensures .1) (c .before .before .write-rows .ensures .1) hi (c .before .before .before .before .before .before .before .before .before .before .before .before .before .before .before .before .before .before .pre .1 .2) in
+write-rows-add-filled : (t : ℕ) → write-rows-lts.Need-add-filled (write-rows-claims t) (write-rows-at t) write-rows.Post write-rows-Inv-loop write-rows-μ-loop
+write-rows-add-filled t c = let a = c .before .before .before .before .before .before .before .before .before .before .before .before .before .before .before .before .before .before .args in let g = c .before .before .before .before .before .before .before .before .before .before .before .before .before .before .loop in
+    let T = turn (a .tree .now) (g .i) (a .to) (g .st) (c .before .before .before .before .before .before .before .before .before .before .before .before .kind .result) (c .before .before .before .before .before .before .before .before .before .before .before .next .result) (c .before .before .before .before .before .before .before .before .before .before .before .before .kind .ensures) (c .before .before .before .before .before .before .before .before .before .before .before .next .ensures) (c .before .before .before .before .before .before .before .before .before .before .before .before .before .before .before .before .before .before .pre .1 .1) (c .before .before .before .before .before .before .before .before .before .before .before .before .before .loop-test .taken) (g .inv .4) in
+    let f = filled-small (a .from) (g .i) (c .before .before .before .before .before .before .before .before .before .before .before .next .result) (a .to) (g .at) (c .before .before .before .before .before .before .before .before .open-row .result) (c .before .before .write-rows .result) (g .inv .3) (c .before .before .before .before .before .before .before .before .open-row .ensures .1) (c .before .before .write-rows .ensures .1) (T .high) (c .before .before .before .before .before .before .before .before .before .before .before .before .before .before .before .before .before .before .pre .1 .2) in
     search needs
 
-write-rows-least-requires-3 : (t : ℕ) → write-rows-lts.Need-least-requires-3 (
-  kind-reads.Asked,
-  kind-reads.Learnt,
-  next-reads.Asked,
-  next-reads.Learnt,
-  least-reads.Asked,
-  least-reads.Learnt,
-  open-row-reads.Asked,
-  open-row-reads.Learnt,
-  inside-reads.Asked,
-  inside-reads.Learnt,
-  write-rows-below t,
-  write-rows.Post,
-  write-closing-reads.Asked,
-  write-closing-reads.Learnt,
-  after-reads.Asked,
-  after-reads.Learnt,
-) (write-rows-at t) write-rows.Post write-rows-Inv-loop write-rows-μ-loop
+write-rows-least-requires-3 : (t : ℕ) → write-rows-lts.Need-least-requires-3 (write-rows-claims t) (write-rows-at t) write-rows.Post write-rows-Inv-loop write-rows-μ-loop
 write-rows-least-requires-3 t c κs = search needs
 
-write-rows-sub-write-closing : (t : ℕ) → write-rows-lts.Need-sub-write-closing (
-  kind-reads.Asked,
-  kind-reads.Learnt,
-  next-reads.Asked,
-  next-reads.Learnt,
-  least-reads.Asked,
-  least-reads.Learnt,
-  open-row-reads.Asked,
-  open-row-reads.Learnt,
-  inside-reads.Asked,
-  inside-reads.Learnt,
-  write-rows-below t,
-  write-rows.Post,
-  write-closing-reads.Asked,
-  write-closing-reads.Learnt,
-  after-reads.Asked,
-  after-reads.Learnt,
-) (write-rows-at t) write-rows.Post write-rows-Inv-loop write-rows-μ-loop
+write-rows-sub-write-closing : (t : ℕ) → write-rows-lts.Need-sub-write-closing (write-rows-claims t) (write-rows-at t) write-rows.Post write-rows-Inv-loop write-rows-μ-loop
 write-rows-sub-write-closing t c = search needs
 
-write-rows-part-write-closing-start : (t : ℕ) → write-rows-lts.Need-part-write-closing-start (
-  kind-reads.Asked,
-  kind-reads.Learnt,
-  next-reads.Asked,
-  next-reads.Learnt,
-  least-reads.Asked,
-  least-reads.Learnt,
-  open-row-reads.Asked,
-  open-row-reads.Learnt,
-  inside-reads.Asked,
-  inside-reads.Learnt,
-  write-rows-below t,
-  write-rows.Post,
-  write-closing-reads.Asked,
-  write-closing-reads.Learnt,
-  after-reads.Asked,
-  after-reads.Learnt,
-) (write-rows-at t) write-rows.Post write-rows-Inv-loop write-rows-μ-loop
+write-rows-part-write-closing-start : (t : ℕ) → write-rows-lts.Need-part-write-closing-start (write-rows-claims t) (write-rows-at t) write-rows.Post write-rows-Inv-loop write-rows-μ-loop
 write-rows-part-write-closing-start t c = search needs
 
-write-rows-part-write-closing-end : (t : ℕ) → write-rows-lts.Need-part-write-closing-end (
-  kind-reads.Asked,
-  kind-reads.Learnt,
-  next-reads.Asked,
-  next-reads.Learnt,
-  least-reads.Asked,
-  least-reads.Learnt,
-  open-row-reads.Asked,
-  open-row-reads.Learnt,
-  inside-reads.Asked,
-  inside-reads.Learnt,
-  write-rows-below t,
-  write-rows.Post,
-  write-closing-reads.Asked,
-  write-closing-reads.Learnt,
-  after-reads.Asked,
-  after-reads.Learnt,
-) (write-rows-at t) write-rows.Post write-rows-Inv-loop write-rows-μ-loop
+write-rows-part-write-closing-end : (t : ℕ) → write-rows-lts.Need-part-write-closing-end (write-rows-claims t) (write-rows-at t) write-rows.Post write-rows-Inv-loop write-rows-μ-loop
 write-rows-part-write-closing-end t c = search needs
 
-write-rows-write-closing-requires : (t : ℕ) → write-rows-lts.Need-write-closing-requires (
-  kind-reads.Asked,
-  kind-reads.Learnt,
-  next-reads.Asked,
-  next-reads.Learnt,
-  least-reads.Asked,
-  least-reads.Learnt,
-  open-row-reads.Asked,
-  open-row-reads.Learnt,
-  inside-reads.Asked,
-  inside-reads.Learnt,
-  write-rows-below t,
-  write-rows.Post,
-  write-closing-reads.Asked,
-  write-closing-reads.Learnt,
-  after-reads.Asked,
-  after-reads.Learnt,
-) (write-rows-at t) write-rows.Post write-rows-Inv-loop write-rows-μ-loop
+write-rows-write-closing-requires : (t : ℕ) → write-rows-lts.Need-write-closing-requires (write-rows-claims t) (write-rows-at t) write-rows.Post write-rows-Inv-loop write-rows-μ-loop
 write-rows-write-closing-requires t c κs = search needs
 
-write-rows-add-at : (t : ℕ) → write-rows-lts.Need-add-at (
-  kind-reads.Asked,
-  kind-reads.Learnt,
-  next-reads.Asked,
-  next-reads.Learnt,
-  least-reads.Asked,
-  least-reads.Learnt,
-  open-row-reads.Asked,
-  open-row-reads.Learnt,
-  inside-reads.Asked,
-  inside-reads.Learnt,
-  write-rows-below t,
-  write-rows.Post,
-  write-closing-reads.Asked,
-  write-closing-reads.Learnt,
-  after-reads.Asked,
-  after-reads.Learnt,
-) (write-rows-at t) write-rows.Post write-rows-Inv-loop write-rows-μ-loop
-write-rows-add-at t c = let a = c .before .before .before .before .before .before .before .before .before .before .before .before .before .before .before .before .before .before .before .before .before .before .before .args in
-    let g = c .before .before .before .before .before .before .before .before .before .before .before .before .before .before .before .before .before .before .before .loop in
-    let m : g .i < a .to = c .before .before .before .before .before .before .before .before .before .before .before .before .before .before .before .before .before .before .loop-test .taken in
-    let hi = walk-high (a .tree .now) (g .i) (a .to) (g .st) (c .before .before .before .before .before .before .before .before .before .before .before .before .before .before .before .before .before .kind .result) (c .before .before .before .before .before .before .before .before .before .before .before .before .before .before .before .before .next .result) (c .before .before .before .before .before .before .before .before .before .before .before .before .before .before .before .before .before .kind .ensures) (c .before .before .before .before .before .before .before .before .before .before .before .before .before .before .before .before .next .ensures) (c .before .before .before .before .before .before .before .before .before .before .before .before .before .before .before .before .before .before .before .before .before .before .before .pre .1 .1) m (g .inv .4) in
-    let f = filled-small (a .from) (g .i) (c .before .before .before .before .before .before .before .before .before .before .before .before .before .before .before .before .next .result) (a .to) (g .at) (c .before .before .before .before .before .before .before .before .before .before .before .before .before .open-row .result) (c .before .before .before .before .before .before .before .write-rows .result) (g .inv .3) (c .before .before .before .before .before .before .before .before .before .before .before .before .before .open-row .ensures .1) (c .before .before .before .before .before .before .before .write-rows .ensures .1) hi (c .before .before .before .before .before .before .before .before .before .before .before .before .before .before .before .before .before .before .before .before .before .before .before .pre .1 .2) in
+write-rows-add-at : (t : ℕ) → write-rows-lts.Need-add-at (write-rows-claims t) (write-rows-at t) write-rows.Post write-rows-Inv-loop write-rows-μ-loop
+write-rows-add-at t c = let a = c .before .before .before .before .before .before .before .before .before .before .before .before .before .before .before .before .before .before .before .before .before .before .before .args in let g = c .before .before .before .before .before .before .before .before .before .before .before .before .before .before .before .before .before .before .before .loop in
+    let T = turn (a .tree .now) (g .i) (a .to) (g .st) (c .before .before .before .before .before .before .before .before .before .before .before .before .before .before .before .before .before .kind .result) (c .before .before .before .before .before .before .before .before .before .before .before .before .before .before .before .before .next .result) (c .before .before .before .before .before .before .before .before .before .before .before .before .before .before .before .before .before .kind .ensures) (c .before .before .before .before .before .before .before .before .before .before .before .before .before .before .before .before .next .ensures) (c .before .before .before .before .before .before .before .before .before .before .before .before .before .before .before .before .before .before .before .before .before .before .before .pre .1 .1) (c .before .before .before .before .before .before .before .before .before .before .before .before .before .before .before .before .before .before .loop-test .taken) (g .inv .4) in
+    let f = filled-small (a .from) (g .i) (c .before .before .before .before .before .before .before .before .before .before .before .before .before .before .before .before .next .result) (a .to) (g .at) (c .before .before .before .before .before .before .before .before .before .before .before .before .before .open-row .result) (c .before .before .before .before .before .before .before .write-rows .result) (g .inv .3) (c .before .before .before .before .before .before .before .before .before .before .before .before .before .open-row .ensures .1) (c .before .before .before .before .before .before .before .write-rows .ensures .1) (T .high) (c .before .before .before .before .before .before .before .before .before .before .before .before .before .before .before .before .before .before .before .before .before .before .before .pre .1 .2) in
     let l = c .before .before .write-closing .ensures .1 in
     search needs
 
-write-rows-after-requires : (t : ℕ) → write-rows-lts.Need-after-requires (
-  kind-reads.Asked,
-  kind-reads.Learnt,
-  next-reads.Asked,
-  next-reads.Learnt,
-  least-reads.Asked,
-  least-reads.Learnt,
-  open-row-reads.Asked,
-  open-row-reads.Learnt,
-  inside-reads.Asked,
-  inside-reads.Learnt,
-  write-rows-below t,
-  write-rows.Post,
-  write-closing-reads.Asked,
-  write-closing-reads.Learnt,
-  after-reads.Asked,
-  after-reads.Learnt,
-) (write-rows-at t) write-rows.Post write-rows-Inv-loop write-rows-μ-loop
+write-rows-after-requires : (t : ℕ) → write-rows-lts.Need-after-requires (write-rows-claims t) (write-rows-at t) write-rows.Post write-rows-Inv-loop write-rows-μ-loop
 write-rows-after-requires t c κs = search needs
 
-write-rows-loop-less : (t : ℕ) → write-rows-lts.Need-loop-less (
-  kind-reads.Asked,
-  kind-reads.Learnt,
-  next-reads.Asked,
-  next-reads.Learnt,
-  least-reads.Asked,
-  least-reads.Learnt,
-  open-row-reads.Asked,
-  open-row-reads.Learnt,
-  inside-reads.Asked,
-  inside-reads.Learnt,
-  write-rows-below t,
-  write-rows.Post,
-  write-closing-reads.Asked,
-  write-closing-reads.Learnt,
-  after-reads.Asked,
-  after-reads.Learnt,
-) (write-rows-at t) write-rows.Post write-rows-Inv-loop write-rows-μ-loop
-write-rows-loop-less t c = let a = c .before .before .before .before .before .before .before .before .before .before .before .before .before .before .before .before .before .before .before .before .before .before .before .before .args in
-    let g = c .before .before .before .before .before .before .before .before .before .before .before .before .before .before .before .before .before .before .before .before .loop in
-    let m : g .i < a .to = c .before .before .before .before .before .before .before .before .before .before .before .before .before .before .before .before .before .before .before .loop-test .taken in
-    left-falls (g .i) (c .before .before .before .before .before .before .before .before .before .before .before .before .before .before .before .before .before .next .result) (a .to) (walk-low (a .tree .now) (g .i) (a .to) (g .st) (c .before .before .before .before .before .before .before .before .before .before .before .before .before .before .before .before .before .before .kind .result) (c .before .before .before .before .before .before .before .before .before .before .before .before .before .before .before .before .before .next .result) (c .before .before .before .before .before .before .before .before .before .before .before .before .before .before .before .before .before .before .kind .ensures) (c .before .before .before .before .before .before .before .before .before .before .before .before .before .before .before .before .before .next .ensures) (c .before .before .before .before .before .before .before .before .before .before .before .before .before .before .before .before .before .before .before .before .before .before .before .before .pre .1 .1) m (g .inv .4)) (walk-high (a .tree .now) (g .i) (a .to) (g .st) (c .before .before .before .before .before .before .before .before .before .before .before .before .before .before .before .before .before .before .kind .result) (c .before .before .before .before .before .before .before .before .before .before .before .before .before .before .before .before .before .next .result) (c .before .before .before .before .before .before .before .before .before .before .before .before .before .before .before .before .before .before .kind .ensures) (c .before .before .before .before .before .before .before .before .before .before .before .before .before .before .before .before .before .next .ensures) (c .before .before .before .before .before .before .before .before .before .before .before .before .before .before .before .before .before .before .before .before .before .before .before .before .pre .1 .1) m (g .inv .4))
+write-rows-loop-less : (t : ℕ) → write-rows-lts.Need-loop-less (write-rows-claims t) (write-rows-at t) write-rows.Post write-rows-Inv-loop write-rows-μ-loop
+write-rows-loop-less t c = let a = c .before .before .before .before .before .before .before .before .before .before .before .before .before .before .before .before .before .before .before .before .before .before .before .before .args in let g = c .before .before .before .before .before .before .before .before .before .before .before .before .before .before .before .before .before .before .before .before .loop in
+    let T = turn (a .tree .now) (g .i) (a .to) (g .st) (c .before .before .before .before .before .before .before .before .before .before .before .before .before .before .before .before .before .before .kind .result) (c .before .before .before .before .before .before .before .before .before .before .before .before .before .before .before .before .before .next .result) (c .before .before .before .before .before .before .before .before .before .before .before .before .before .before .before .before .before .before .kind .ensures) (c .before .before .before .before .before .before .before .before .before .before .before .before .before .before .before .before .before .next .ensures) (c .before .before .before .before .before .before .before .before .before .before .before .before .before .before .before .before .before .before .before .before .before .before .before .before .pre .1 .1) (c .before .before .before .before .before .before .before .before .before .before .before .before .before .before .before .before .before .before .before .loop-test .taken) (g .inv .4) in
+    left-falls (g .i) (c .before .before .before .before .before .before .before .before .before .before .before .before .before .before .before .before .before .next .result) (a .to) (T .low) (T .high)
 
-write-rows-loop-again : (t : ℕ) → write-rows-lts.Need-loop-again (
-  kind-reads.Asked,
-  kind-reads.Learnt,
-  next-reads.Asked,
-  next-reads.Learnt,
-  least-reads.Asked,
-  least-reads.Learnt,
-  open-row-reads.Asked,
-  open-row-reads.Learnt,
-  inside-reads.Asked,
-  inside-reads.Learnt,
-  write-rows-below t,
-  write-rows.Post,
-  write-closing-reads.Asked,
-  write-closing-reads.Learnt,
-  after-reads.Asked,
-  after-reads.Learnt,
-) (write-rows-at t) write-rows.Post write-rows-Inv-loop write-rows-μ-loop
-write-rows-loop-again t c = let a = c .before .before .before .before .before .before .before .before .before .before .before .before .before .before .before .before .before .before .before .before .before .before .before .before .args in
-    let g = c .before .before .before .before .before .before .before .before .before .before .before .before .before .before .before .before .before .before .before .before .loop in
-    let m : g .i < a .to = c .before .before .before .before .before .before .before .before .before .before .before .before .before .before .before .before .before .before .before .loop-test .taken in
-    let lo = walk-low (a .tree .now) (g .i) (a .to) (g .st) (c .before .before .before .before .before .before .before .before .before .before .before .before .before .before .before .before .before .before .kind .result) (c .before .before .before .before .before .before .before .before .before .before .before .before .before .before .before .before .before .next .result) (c .before .before .before .before .before .before .before .before .before .before .before .before .before .before .before .before .before .before .kind .ensures) (c .before .before .before .before .before .before .before .before .before .before .before .before .before .before .before .before .before .next .ensures) (c .before .before .before .before .before .before .before .before .before .before .before .before .before .before .before .before .before .before .before .before .before .before .before .before .pre .1 .1) m (g .inv .4) in
-    let hi = walk-high (a .tree .now) (g .i) (a .to) (g .st) (c .before .before .before .before .before .before .before .before .before .before .before .before .before .before .before .before .before .before .kind .result) (c .before .before .before .before .before .before .before .before .before .before .before .before .before .before .before .before .before .next .result) (c .before .before .before .before .before .before .before .before .before .before .before .before .before .before .before .before .before .before .kind .ensures) (c .before .before .before .before .before .before .before .before .before .before .before .before .before .before .before .before .before .next .ensures) (c .before .before .before .before .before .before .before .before .before .before .before .before .before .before .before .before .before .before .before .before .before .before .before .before .pre .1 .1) m (g .inv .4) in
-    let b = turn-small (a .from) (g .i) (c .before .before .before .before .before .before .before .before .before .before .before .before .before .before .before .before .before .next .result) (a .to) (g .at) (c .before .before .before .before .before .before .before .before .before .before .before .before .before .before .open-row .result) (c .before .before .before .before .before .before .before .before .write-rows .result) (g .inv .3) (c .before .before .before .before .before .before .before .before .before .before .before .before .before .before .open-row .ensures .1) (c .before .before .before .before .before .before .before .before .write-rows .ensures .1) hi (c .before .before .before .before .before .before .before .before .before .before .before .before .before .before .before .before .before .before .before .before .before .before .before .before .pre .1 .2) (c .before .before .before .write-closing .result) (c .before .before .before .write-closing .ensures .1) in
-    let rest = walk-rest (a .tree .now) (g .i) (a .to) (g .st) (c .before .before .before .before .before .before .before .before .before .before .before .before .before .before .before .before .before .before .kind .result) (c .before .before .before .before .before .before .before .before .before .before .before .before .before .before .before .before .before .next .result) (c .before .before .before .before .before .before .before .before .before .before .before .before .before .before .before .before .before .before .kind .ensures) (c .before .before .before .before .before .before .before .before .before .before .before .before .before .before .before .before .before .next .ensures) (c .before .before .before .before .before .before .before .before .before .before .before .before .before .before .before .before .before .before .before .before .before .before .before .before .pre .1 .1) m (g .inv .4) (c .before .before .before .before .before .before .before .before .before .before .inside .result) (c .after .result) (c .before .before .before .before .before .before .before .before .before .before .inside .ensures) (c .after .ensures) in
-    let e = turn-text (a .tree .now) (g .i) (a .to) (g .st) (c .before .before .before .before .before .before .before .before .before .before .before .before .before .before .before .before .before .before .kind .result) (c .before .before .before .before .before .before .before .before .before .before .before .before .before .before .before .before .before .next .result) (c .before .before .before .before .before .before .before .before .before .before .before .before .before .before .before .before .before .before .kind .ensures) (c .before .before .before .before .before .before .before .before .before .before .before .before .before .before .before .before .before .next .ensures) (c .before .before .before .before .before .before .before .before .before .before .before .before .before .before .before .before .before .before .before .before .before .before .before .before .pre .1 .1) m (g .inv .4) (c .before .before .before .before .before .before .before .before .before .before .inside .result) (c .after .result) (c .before .before .before .before .before .before .before .before .before .before .inside .ensures) (c .after .ensures) (a .src .now) in
-    let T : List ℕ = textOf (a .src .now) (flatAt (a .tree .now) (a .from) (a .to) (a .start)) in
-    let p = subst (λ (r : List ℕ). Pours T r (g .at) (g .out) (a .out .now)) e (g .inv .5) in
+write-rows-loop-again : (t : ℕ) → write-rows-lts.Need-loop-again (write-rows-claims t) (write-rows-at t) write-rows.Post write-rows-Inv-loop write-rows-μ-loop
+write-rows-loop-again t c = let a = c .before .before .before .before .before .before .before .before .before .before .before .before .before .before .before .before .before .before .before .before .before .before .before .before .args in let g = c .before .before .before .before .before .before .before .before .before .before .before .before .before .before .before .before .before .before .before .before .loop in
+    let T = turn (a .tree .now) (g .i) (a .to) (g .st) (c .before .before .before .before .before .before .before .before .before .before .before .before .before .before .before .before .before .before .kind .result) (c .before .before .before .before .before .before .before .before .before .before .before .before .before .before .before .before .before .next .result) (c .before .before .before .before .before .before .before .before .before .before .before .before .before .before .before .before .before .before .kind .ensures) (c .before .before .before .before .before .before .before .before .before .before .before .before .before .before .before .before .before .next .ensures) (c .before .before .before .before .before .before .before .before .before .before .before .before .before .before .before .before .before .before .before .before .before .before .before .before .pre .1 .1) (c .before .before .before .before .before .before .before .before .before .before .before .before .before .before .before .before .before .before .before .loop-test .taken) (g .inv .4) in
+    let b = turn-small (a .from) (g .i) (c .before .before .before .before .before .before .before .before .before .before .before .before .before .before .before .before .before .next .result) (a .to) (g .at) (c .before .before .before .before .before .before .before .before .before .before .before .before .before .before .open-row .result) (c .before .before .before .before .before .before .before .before .write-rows .result) (g .inv .3) (c .before .before .before .before .before .before .before .before .before .before .before .before .before .before .open-row .ensures .1) (c .before .before .before .before .before .before .before .before .write-rows .ensures .1) (T .high) (c .before .before .before .before .before .before .before .before .before .before .before .before .before .before .before .before .before .before .before .before .before .before .before .before .pre .1 .2) (c .before .before .before .write-closing .result) (c .before .before .before .write-closing .ensures .1) in
+    let e = T .parts (a .src .now) (c .before .before .before .before .before .before .before .before .before .before .inside .result) (c .after .result) (c .before .before .before .before .before .before .before .before .before .before .inside .ensures) (c .after .ensures) in
+    let X : List ℕ = textOf (a .src .now) (flatAt (a .tree .now) (a .from) (a .to) (a .start)) in
+    let p = subst (λ (r : List ℕ). Pours X r (g .at) (g .out) (a .out .now)) e (g .inv .5) in
     let p1 = pours-on _ _ _ _ _ _ _ _ _ p (g .inv .2) (c .before .before .before .before .before .before .before .before .before .before .before .before .before .before .before .before .least .ensures) (c .before .before .before .before .before .before .before .before .before .before .before .before .before .before .open-row .ensures .0) in
     let p2 = pours-on _ _ _ _ _ _ _ _ _ p1 (c .before .before .before .before .before .before .before .before .before .before .before .before .before .out .given .1 ∙ g .inv .2) (c .before .before .before .before .before .before .before .before .before .before .before .least2 .ensures) (c .before .before .before .before .before .before .before .before .write-rows .ensures .0) in
     let p3 = pours-on _ _ _ _ _ _ _ _ _ p2 (c .before .before .before .before .before .before .before .out2 .given .1 ∙ c .before .before .before .before .before .before .before .before .before .before .before .before .before .out .given .1 ∙ g .inv .2) (c .before .before .before .before .before .least3 .ensures) (c .before .before .before .write-closing .ensures .0) in
-    let f : a .from ≤ c .before .before .before .before .before .before .before .before .before .before .before .before .before .before .before .before .before .next .result = let i = g .inv .0 in omega arith in
-    (f, hi, c .before .before .out3 .given .1 ∙ c .before .before .before .before .before .before .before .out2 .given .1 ∙ c .before .before .before .before .before .before .before .before .before .before .before .before .before .out .given .1 ∙ g .inv .2, b, rest, p3)
+    let f : a .from ≤ c .before .before .before .before .before .before .before .before .before .before .before .before .before .before .before .before .before .next .result = let i = g .inv .0 in let l = T .low in omega arith in
+    (f, T .high, c .before .before .out3 .given .1 ∙ c .before .before .before .before .before .before .before .out2 .given .1 ∙ c .before .before .before .before .before .before .before .before .before .before .before .before .before .out .given .1 ∙ g .inv .2, b, T .rest (c .after .result) (c .after .ensures), p3)
 
-write-rows-same-length : (t : ℕ) → write-rows-lts.Need-same-length (
-  kind-reads.Asked,
-  kind-reads.Learnt,
-  next-reads.Asked,
-  next-reads.Learnt,
-  least-reads.Asked,
-  least-reads.Learnt,
-  open-row-reads.Asked,
-  open-row-reads.Learnt,
-  inside-reads.Asked,
-  inside-reads.Learnt,
-  write-rows-below t,
-  write-rows.Post,
-  write-closing-reads.Asked,
-  write-closing-reads.Learnt,
-  after-reads.Asked,
-  after-reads.Learnt,
-) (write-rows-at t) write-rows.Post write-rows-Inv-loop write-rows-μ-loop
+write-rows-same-length : (t : ℕ) → write-rows-lts.Need-same-length (write-rows-claims t) (write-rows-at t) write-rows.Post write-rows-Inv-loop write-rows-μ-loop
 write-rows-same-length t c = c .before .loop .inv .2
 
-write-rows-returns : (t : ℕ) → write-rows-lts.Need-returns (
-  kind-reads.Asked,
-  kind-reads.Learnt,
-  next-reads.Asked,
-  next-reads.Learnt,
-  least-reads.Asked,
-  least-reads.Learnt,
-  open-row-reads.Asked,
-  open-row-reads.Learnt,
-  inside-reads.Asked,
-  inside-reads.Learnt,
-  write-rows-below t,
-  write-rows.Post,
-  write-closing-reads.Asked,
-  write-closing-reads.Learnt,
-  after-reads.Asked,
-  after-reads.Learnt,
-) (write-rows-at t) write-rows.Post write-rows-Inv-loop write-rows-μ-loop
-write-rows-returns t c = let a = c .before .before .before .before .before .args in
-    let g = c .before .loop in
+write-rows-returns : (t : ℕ) → write-rows-lts.Need-returns (write-rows-claims t) (write-rows-at t) write-rows.Post write-rows-Inv-loop write-rows-μ-loop
+write-rows-returns t c = let a = c .before .before .before .before .before .args in let g = c .before .loop in
     let e : g .i ≡ a .to = omega arith in
-    let T : List ℕ = textOf (a .src .now) (flatAt (a .tree .now) (a .from) (a .to) (a .start)) in
-    let p = subst (λ (r : List ℕ). Pours T r (g .at) (g .out) (a .out .now)) (end-text (a .tree .now) (a .src .now) (g .i) (a .to) (g .st) e) (g .inv .5) in
+    let X : List ℕ = textOf (a .src .now) (flatAt (a .tree .now) (a .from) (a .to) (a .start)) in
+    let p = subst (λ (r : List ℕ). Pours X r (g .at) (g .out) (a .out .now)) (end-text (a .tree .now) (a .src .now) (g .i) (a .to) (g .st) e) (g .inv .5) in
     (pours-end _ _ _ _ p, omega arith)
 
 pub +write-rows-spec : {M : Type 1} → statement M
-+write-rows-spec = close μ-write-rows λ t. write-rows-lts.spec (
-  kind-reads.Asked,
-  kind-reads.Learnt,
-  next-reads.Asked,
-  next-reads.Learnt,
-  least-reads.Asked,
-  least-reads.Learnt,
-  open-row-reads.Asked,
-  open-row-reads.Learnt,
-  inside-reads.Asked,
-  inside-reads.Learnt,
-  write-rows-below t,
-  write-rows.Post,
-  write-closing-reads.Asked,
-  write-closing-reads.Learnt,
-  after-reads.Asked,
-  after-reads.Learnt,
-)
++write-rows-spec = close μ-write-rows λ t. write-rows-lts.spec (write-rows-claims t)
     (write-rows-at t)
     write-rows.Post
     write-rows-Inv-loop
