@@ -6,13 +6,13 @@ use borrow.Author.Tests.{ne-eqb}
 use Rattle.refal_ast.specs.Kinds.{tokIdentifier, tokVariable, tokNumber, tokChar, tokLBrace, tokRBrace, tokLParen, tokRParen}
 use Rattle.refal_ast.specs.Kinds.{tokLAngle, tokRAngle, tokComma, tokColon, tokEof}
 use Rattle.refal_ast.specs.Tokens.{Token, token}
-use Rattle.refal_ast.specs.Tree.{Leaf, symbol, variable, Terms, t0, tLeaf, tBracket, tCall, Conditions, c0, cTerms, cBlock, Sentences}
+use Rattle.refal_ast.specs.Tree.{Leaf, symbol, variable, Term, leaf, bracket, call, Terms, t0, tMore, condition, Conditions, c0, cMore, Sentences}
 use Rattle.refal_ast.specs.Flatten.{Flat, mark, nameOf, flatsOf, flatLeaf}
 use Rattle.refal_ast.specs.declared.tree.Symbol.the-variants.{Char, Identifier, Number}
 use Rattle.refal_parser.specs.Machine.{Block, Place, pattern, matching, result}
 use Rattle.refal_parser.specs.Machine.{State, between, within}
 use Rattle.refal_parser.specs.Machine.{matched, equated, Step, nextFrom, nextTo}
-use Rattle.refal_demands.proofs.Flats.{flatT, flatC, flatS}
+use Rattle.refal_demands.proofs.Flats.{flatTerm, flatT, flatRight, flatC}
 use Rattle.refal_demands.proofs.Levels.{stepAt, runAt}
 use Rattle.refal_demands.proofs.Eat.{afterwards, first, made}
 
@@ -36,20 +36,29 @@ begins-leaf n m (symbol (Identifier s l)) u = u .0
 begins-leaf n m (symbol (Number s l)) u = u .2
 begins-leaf n m (variable v s l) u = u .1
 
-pub begins : (f : Terms) (n m : ℕ) (c : Flat) (r : List Flat) → NoTerms n m → Not n m (c .kind) → Begins n m (flatT f (c ∷ r))
+begins-term : (x : Term) (n m : ℕ) (r : List Flat) → NoTerms n m → Begins n m (flatTerm x r)
 unfolding flatT
-begins t0 n m c r u h = record { c = c; r = r; is = refl; starts = h }
-begins (tLeaf f z a b) n m c r u h = begins f n m (flatLeaf z) (c ∷ r) u (begins-leaf n m z u)
-begins (tBracket f a g b) n m c r u h = begins f n m (mark tokLParen) (flatT g (mark tokRParen ∷ c ∷ r)) u (u .4)
-begins (tCall f a s l g b) n m c r u h = begins f n m (mark tokLAngle) (nameOf s l ∷ flatT g (mark tokRAngle ∷ c ∷ r)) u (u .5)
+begins-term (leaf z a b) n m r u = record { c = flatLeaf z; r = r; is = refl; starts = begins-leaf n m z u }
+begins-term (bracket a f b) n m r u = record { c = mark tokLParen; r = flatT f (mark tokRParen ∷ r); is = refl; starts = u .4 }
+begins-term (call a s l f b) n m r u = record { c = mark tokLAngle; r = nameOf s l ∷ flatT f (mark tokRAngle ∷ r); is = refl; starts = u .5 }
+
+-- terms before a list
+pub begins : (f : Terms) (n m : ℕ) (l : List Flat) → NoTerms n m → Begins n m l → Begins n m (flatT f l)
+unfolding flatT
+begins t0 n m l u B = B
+begins (tMore f x) n m l u B = begins f n m (flatTerm x l) u (begins-term x n m l u)
+
+pub begins-with : (n m : ℕ) (c : Flat) (r : List Flat) → Not n m (c .kind) → Begins n m (c ∷ r)
+begins-with n m c r h = record { c = c; r = r; is = refl; starts = h }
+
+begins-conditions : (cs : Conditions) (n m : ℕ) (c : Flat) (r : List Flat) → Not n m tokComma → Not n m (c .kind) → Begins n m (flatC cs (c ∷ r))
+unfolding flatC
+begins-conditions c0 n m c r v h = begins-with n m c r h
+begins-conditions (cMore cs (condition a f x b)) n m c r v h = begins-conditions cs n m (mark tokComma) (flatT f (mark tokColon ∷ flatRight x (c ∷ r))) v v
 
 -- a pattern and conditions
 pub begins-head : (cs : Conditions) (f : Terms) (n m : ℕ) (c : Flat) (r : List Flat) → NoTerms n m → Not n m tokComma → Not n m (c .kind) → Begins n m (flatT f (flatC cs (c ∷ r)))
-unfolding flatC
-begins-head c0 f n m c r u v h = begins f n m c r u h
-begins-head (cTerms cs a g i b) f n m c r u v h = begins-head cs f n m (mark tokComma) (flatT g (mark tokColon ∷ flatT i (c ∷ r))) u v v
-begins-head (cBlock cs a g o w e b) f n m c r u v h =
-    begins-head cs f n m (mark tokComma) (flatT g (mark tokColon ∷ mark tokLBrace ∷ flatS w (mark tokRBrace ∷ c ∷ r))) u v v
+begins-head cs f n m c r u v h = begins f n m (flatC cs (c ∷ r)) u (begins-conditions cs n m c r v h)
 
 -- a state that does as terms in the place `at a` do, at a token that starts at a and is of neither of two kinds
 pub enter : (L : ℕ) (n m : ℕ) (ts : List Token) (l : List Flat) (d : ℕ) (st : State) (at : ℕ → Place)

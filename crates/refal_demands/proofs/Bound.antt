@@ -11,47 +11,68 @@ use Rattle.refal_rows.specs.Tests.{and-left, and-right}
 use Rattle.refal_ast.specs.Kinds.{tokEof}
 use Rattle.refal_ast.specs.Tokens.{Token, tokensOf}
 use Rattle.refal_ast.specs.Check.{okTokens, wellFormed}
-use Rattle.refal_ast.specs.Tree.{Terms, t0, tLeaf, tBracket, tCall, Conditions, c0, cTerms, cBlock, Sentences, s0, sTerms, sBlock}
-use Rattle.refal_ast.specs.Tree.{Names, nOne, nMore, Program, sizeT, sizeC, sizeS, sizeN, sizeP}
-use Rattle.refal_ast.specs.Flatten.{Flat, mark, flatsOf, flattenT, flattenC, flattenS, flattenN}
-use Rattle.refal_ast.specs.Flatten.{Loose, loose-none, loose-semicolon, loose-declaration, loose-function}
+use Rattle.refal_ast.specs.Tree.{Term, leaf, bracket, call, Terms, t0, tMore, Right, rTerms, rBlock, Condition, condition, Conditions, c0, cMore}
+use Rattle.refal_ast.specs.Tree.{End, eTerms, eBlock, Sentence, sentence, Sentences, s0, sMore, Names, nOne, nMore, Item, declaration, function, Program}
+use Rattle.refal_ast.specs.Tree.{sizeTerm, sizeT, sizeRight, sizeCondition, sizeC, sizeEnd, sizeSentence, sizeS, sizeN, sizeItem, sizeP}
+use Rattle.refal_ast.specs.Flatten.{Flat, mark, flatsOf, flattenTerm, flattenT, flattenRight, flattenCondition, flattenC, flattenEnd, flattenSentence, flattenS, flattenN, flattenItem}
+use Rattle.refal_ast.specs.Flatten.{Loose, loose-none, loose-semicolon, loose-item}
 use Rattle.refal_parser.specs.Machine.{tree}
 use Rattle.refal_parser.specs.Parse.{parsed}
 use Rattle.refal_demands.proofs.Theorems.{good, soundness}
 
-boundT : (f : Terms) → sizeT f ≤ length (flattenT f)
-unfolding sizeT flattenT
-boundT t0 = omega arith
-boundT (tLeaf f x a b) = let h = boundT f in simp length-append (omega arith)
-boundT (tBracket f a g b) = let h = boundT f in let i = boundT g in simp length-append (omega arith)
-boundT (tCall f a s l g b) = let h = boundT f in let i = boundT g in simp length-append (omega arith)
+mutual
+  unfolding sizeT flattenT
 
+  boundTerm : (x : Term) → sizeTerm x ≤ length (flattenTerm x)
+  boundTerm (leaf x a b) = omega arith
+  boundTerm (bracket a f b) = let h = boundT f in simp length-append (omega arith)
+  boundTerm (call a s l f b) = let h = boundT f in simp length-append (omega arith)
+
+  boundT : (f : Terms) → sizeT f ≤ length (flattenT f)
+  boundT t0 = omega arith
+  boundT (tMore f x) = let h = boundT f in let i = boundTerm x in simp length-append (omega arith)
+
+-- what stands after `:` and after `=` has a row more than these bounds; the `:` and the `=` make it good
 mutual
   unfolding sizeC flattenC
 
+  boundRight : (x : Right) → sizeRight x ≤ 1 + 2 * length (flattenRight x)
+  boundRight (rTerms f) = let h = boundT f in omega arith
+  boundRight (rBlock a v b) = let h = boundS v in simp length-append (omega arith)
+
+  boundCondition : (x : Condition) → sizeCondition x ≤ 2 * length (flattenCondition x)
+  boundCondition (condition a f x b) = let h = boundT f in let i = boundRight x in simp length-append (omega arith)
+
   boundC : (cs : Conditions) → sizeC cs ≤ 2 * length (flattenC cs)
   boundC c0 = omega arith
-  boundC (cTerms cs a f g b) = let h = boundC cs in let i = boundT f in let j = boundT g in simp length-append (omega arith)
-  boundC (cBlock cs a f o v e b) = let h = boundC cs in let i = boundT f in let j = boundS v in simp length-append (omega arith)
+  boundC (cMore cs x) = let h = boundC cs in let i = boundCondition x in simp length-append (omega arith)
+
+  boundEnd : (x : End) → sizeEnd x ≤ 1 + 2 * length (flattenEnd x)
+  boundEnd (eTerms f) = let h = boundT f in omega arith
+  boundEnd (eBlock a f v b) = let h = boundT f in let i = boundS v in simp length-append (omega arith)
+
+  boundSentence : (x : Sentence) → sizeSentence x ≤ 2 * length (flattenSentence x)
+  boundSentence (sentence a f cs x b) = let h = boundT f in let i = boundC cs in let j = boundEnd x in simp length-append (omega arith)
 
   boundS : (s : Sentences) → sizeS s ≤ 2 * length (flattenS s)
   boundS s0 = omega arith
-  boundS (sTerms s a f cs g b) = let h = boundS s in let i = boundT f in let j = boundC cs in let k = boundT g in simp length-append (omega arith)
-  boundS (sBlock s a f cs o g v e b) =
-      let h = boundS s in let i = boundT f in let j = boundC cs in let k = boundT g in let l = boundS v in simp length-append (omega arith)
+  boundS (sMore s x) = let h = boundS s in let i = boundSentence x in simp length-append (omega arith)
 
 boundN : (ns : Names) → sizeN ns ≤ length (flattenN ns)
 unfolding sizeN flattenN
 boundN (nOne s l) = omega arith
 boundN (nMore ns s l) = let h = boundN ns in simp length-append (omega arith)
 
+boundItem : (x : Item) → sizeItem x ≤ 2 * length (flattenItem x)
+boundItem (declaration a ns b) = let h = boundN ns in simp length-append (omega arith)
+boundItem (function a x s l v b) = let h = boundS v in simp length-append (omega arith)
+
 -- a tree has at most twice as many rows as the tokens that it flattens to
 pub bound : {p : Program} {l : List Flat} → Loose p l → sizeP p ≤ 2 * length l
 unfolding sizeP
 bound loose-none = omega arith
 bound (loose-semicolon h) = let i = bound h in simp length-append (omega arith)
-bound (loose-declaration {ns = ns} h) = let i = bound h in let j = boundN ns in simp length-append (omega arith)
-bound (loose-function {x = x} {v = v} h) = let i = bound h in let j = boundS v in simp length-append (omega arith)
+bound (loose-item {x = x} h) = let i = bound h in let j = boundItem x in simp length-append (omega arith)
 
 length-flats : (ts : List Token) → length (flatsOf ts) ≡ length ts
 length-flats [] = refl

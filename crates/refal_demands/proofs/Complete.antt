@@ -1,5 +1,5 @@
 -- Where some tree flattens to the tokens and is no deeper than the levels, the machine accepts with that tree, spans aside.
-use mathlib.Core.Path.{_≡_, refl, ap, _∙_}
+use mathlib.Core.Path.{_≡_, refl, sym, ap, _∙_}
 use Prim.Native.Nat.{ℕ, _≤_}
 use mathlib.Core.List.{List, [], _∷_, _++_, append-assoc}
 use mathlib.Core.Bool.{Bool, true, false}
@@ -8,15 +8,15 @@ use Rattle.refal_ast.specs.Kinds.{tokEntry, tokExtern, tokLBrace, tokRBrace}
 use Rattle.refal_ast.specs.Kinds.{tokComma, tokSemicolon, tokEof}
 use Rattle.refal_ast.specs.Tokens.{Token}
 use Rattle.refal_ast.specs.Tree.{Sentences}
-use Rattle.refal_ast.specs.Tree.{Names, nOne, nMore, Program, p0, pDeclaration, pFunction, depthS, depthP}
-use Rattle.refal_ast.specs.Flatten.{Flat, mark, nameOf, flatsOf, flatEntry, flatDeclaration, flatFunction}
-use Rattle.refal_ast.specs.Flatten.{Loose, loose-none, loose-semicolon, loose-declaration, loose-function}
+use Rattle.refal_ast.specs.Tree.{Names, nOne, nMore, Item, declaration, function, Program, p0, pMore, depthItem, depthP}
+use Rattle.refal_ast.specs.Flatten.{Flat, mark, nameOf, flatsOf, flatEntry, flattenItem}
+use Rattle.refal_ast.specs.Flatten.{Loose, loose-none, loose-semicolon, loose-item}
 use Rattle.refal_parser.specs.Machine.{body}
 use Rattle.refal_parser.specs.Machine.{items, wantsName, wantsMore, named, entered, headed, between}
 use Rattle.refal_parser.specs.Machine.{tree}
-use Rattle.refal_demands.proofs.Flats.{flatS, flatN, flatS-is, flatN-is}
+use Rattle.refal_demands.proofs.Flats.{flatS, flatN, flatItem, flatItem-is}
 use Rattle.refal_demands.proofs.Levels.{runAt}
-use Rattle.refal_demands.proofs.Respan.{respanP, eraseS, eraseP}
+use Rattle.refal_demands.proofs.Respan.{respanP, eraseItem, eraseP}
 use Rattle.refal_demands.proofs.Eat.{eat}
 use Rattle.refal_demands.proofs.ReadsSentences.{readsS, useS}
 
@@ -52,16 +52,6 @@ useP : {L : ℕ} {ts : List Token} {s : Program} {r : List Flat} {A : Type 0} �
     → ((t : Program) (rest : List Token) → eraseP t ≡ eraseP s → flatsOf rest ≡ r → runAt L ts (items p0) ≡ runAt L rest (items t) → A) → A
 useP R k = k (R .t) (R .rest) (R .same) (R .after) (R .means)
 
--- a declaration after the items p
-reads-declaration : {A : Type 0} (L : ℕ) (ts : List Token) (p : Program) (ns : Names) (r : List Flat) → flatsOf ts ≡ flatDeclaration ns ++ r
-    → ((a b : ℕ) (rest : List Token) → flatsOf rest ≡ r → runAt L ts (items p) ≡ runAt L rest (items (pDeclaration p a ns b)) → A)
-    → A
-reads-declaration L ts p ns r e k =
-    let e' : flatsOf ts ≡ mark tokExtern ∷ flatN ns (mark tokSemicolon ∷ r) = e ∙ rw flatN-is (simp append-assoc) in
-    eat L ts (mark tokExtern) (flatN ns (mark tokSemicolon ∷ r)) (items p) e' (λ a₁ b₁ ts₁ k₁ e₁.
-    useN (readsN ns L ts₁ p a₁ (mark tokSemicolon ∷ r) k₁) (λ ts₂ k₂ e₂.
-    eat L ts₂ (mark tokSemicolon) r (named p a₁ ns) k₂ (λ a₃ b₃ ts₃ k₃ e₃. k a₁ b₃ ts₃ k₃ (e₁ ∙ e₂ ∙ e₃))))
-
 -- a function's head after the items p: Entry where it is an entry, and its name
 reads-head : {A : Type 0} (x : Bool) (L : ℕ) (ts : List Token) (p : Program) (m n : ℕ) (r : List Flat) → flatsOf ts ≡ flatEntry x ++ (nameOf m n ∷ r)
     → ((a : ℕ) (rest : List Token) → flatsOf rest ≡ r → runAt L ts (items p) ≡ runAt L rest (headed p a x m n) → A)
@@ -71,19 +61,26 @@ reads-head true L ts p m n r e k =
     eat L ts₁ (nameOf m n) r (entered p a₁) k₁ (λ a₂ b₂ ts₂ k₂ e₂. k a₁ ts₂ k₂ (e₁ ∙ e₂)))
 reads-head false L ts p m n r e k = eat L ts (nameOf m n) r (items p) e (λ a₁ b₁ ts₁ k₁ e₁. k a₁ ts₁ k₁ e₁)
 
--- a function after the items p
-reads-function : {A : Type 0} (L : ℕ) (ts : List Token) (p : Program) (x : Bool) (m n : ℕ) (v : Sentences) (r : List Flat) → depthS v ≤ L
-    → flatsOf ts ≡ flatFunction x m n v ++ r
-    → ((a : ℕ) (u : Sentences) (b : ℕ) (rest : List Token) → eraseS u ≡ eraseS v → flatsOf rest ≡ r
-    → runAt L ts (items p) ≡ runAt L rest (items (pFunction p a x m n u b)) → A)
-    → A
-reads-function L ts p x m n v r l e k =
-    let e' : flatsOf ts ≡ flatEntry x ++ (nameOf m n ∷ mark tokLBrace ∷ flatS v (mark tokRBrace ∷ r)) = e ∙ rw flatS-is (simp append-assoc) in
-    reads-head x L ts p m n (mark tokLBrace ∷ flatS v (mark tokRBrace ∷ r)) e' (λ a₀ ts₀ k₀ e₀.
+-- an item after the items p
+record ReadsI (L : ℕ) (ts : List Token) (p : Program) (x : Item) (r : List Flat) : Type 0 where
+  y : Item
+  rest : List Token
+  same : eraseItem y ≡ eraseItem x
+  after : flatsOf rest ≡ r
+  means : runAt L ts (items p) ≡ runAt L rest (items (pMore p y))
+
+readsI : (x : Item) (L : ℕ) (ts : List Token) (p : Program) (r : List Flat) → depthItem x ≤ L → flatsOf ts ≡ flatItem x r → ReadsI L ts p x r
+readsI (declaration a ns b) L ts p r l e =
+    eat L ts (mark tokExtern) (flatN ns (mark tokSemicolon ∷ r)) (items p) e (λ a₁ b₁ ts₁ k₁ e₁.
+    useN (readsN ns L ts₁ p a₁ (mark tokSemicolon ∷ r) k₁) (λ ts₂ k₂ e₂.
+    eat L ts₂ (mark tokSemicolon) r (named p a₁ ns) k₂ (λ a₃ b₃ ts₃ k₃ e₃.
+    record { y = declaration a₁ ns b₃; rest = ts₃; same = refl; after = k₃; means = e₁ ∙ e₂ ∙ e₃ })))
+readsI (function a x m n v b) L ts p r l e =
+    reads-head x L ts p m n (mark tokLBrace ∷ flatS v (mark tokRBrace ∷ r)) e (λ a₀ ts₀ k₀ e₀.
     eat L ts₀ (mark tokLBrace) (flatS v (mark tokRBrace ∷ r)) (headed p a₀ x m n) k₀ (λ a₁ b₁ ts₁ k₁ e₁.
     useS (readsS v L ts₁ L (body p a₀ x m n) (mark tokRBrace ∷ r) l k₁) (λ v₂ ts₂ m₂ k₂ e₂.
     eat L ts₂ (mark tokRBrace) r (between L (body p a₀ x m n) v₂) k₂ (λ a₃ b₃ ts₃ k₃ e₃.
-    k a₀ v₂ b₃ ts₃ m₂ k₃ (e₀ ∙ e₁ ∙ e₂ ∙ e₃)))))
+    record { y = function a₀ x m n v₂ b₃; rest = ts₃; same = ap (λ (y : Sentences). function 0 x m n y 0) m₂; after = k₃; means = e₀ ∙ e₁ ∙ e₂ ∙ e₃ }))))
 
 readsP : {s : Program} {l : List Flat} → Loose s l → (L : ℕ) (ts : List Token) (r : List Flat) → depthP s ≤ L → flatsOf ts ≡ l ++ r → ReadsP L ts s r
 unfolding depthP respanP
@@ -92,20 +89,16 @@ readsP (loose-semicolon {l = l} q) L ts r d e =
     useP (readsP q L ts (mark tokSemicolon ∷ r) d (e ∙ append-assoc l (mark tokSemicolon ∷ []) r)) (λ t₁ ts₁ m₁ k₁ e₁.
     eat L ts₁ (mark tokSemicolon) r (items t₁) k₁ (λ a₂ b₂ ts₂ k₂ e₂.
     record { t = t₁; rest = ts₂; same = m₁; after = k₂; means = e₁ ∙ e₂ }))
-readsP (loose-declaration {p = p} {l = l} {ns = ns} q) L ts r d e =
-    useP (readsP q L ts (flatDeclaration ns ++ r) d (e ∙ append-assoc l (flatDeclaration ns) r)) (λ t₁ ts₁ m₁ k₁ e₁.
-    reads-declaration L ts₁ t₁ ns r k₁ (λ a₂ b₂ ts₂ k₂ e₂.
-    record { t = pDeclaration t₁ a₂ ns b₂; rest = ts₂; same = ap (λ (y : Program). pDeclaration y 0 ns 0) m₁; after = k₂; means = e₁ ∙ e₂ }))
-readsP (loose-function {p = p} {l = l} {s = s} {n = n} {x = x} {v = v} q) L ts r d e =
-    useP (readsP q L ts (flatFunction x s n v ++ r) (omega arith) (e ∙ append-assoc l (flatFunction x s n v) r)) (λ t₁ ts₁ m₁ k₁ e₁.
-    reads-function L ts₁ t₁ x s n v r (omega arith) k₁ (λ a₂ v₂ b₂ ts₂ m₂ k₂ e₂.
+readsP (loose-item {p = p} {l = l} {x = x} q) L ts r d e =
+    useP (readsP q L ts (flattenItem x ++ r) (omega arith) (e ∙ append-assoc l (flattenItem x) r)) (λ t₁ ts₁ m₁ k₁ e₁.
+    let R = readsI x L ts₁ t₁ r (omega arith) (k₁ ∙ sym (flatItem-is x r)) in
     record {
-      t = pFunction t₁ a₂ x s n v₂ b₂;
-      rest = ts₂;
-      same = ap (λ (y : Program). pFunction y 0 x s n (eraseS v₂) 0) m₁ ∙ ap (λ (y : Sentences). pFunction (eraseP p) 0 x s n y 0) m₂;
-      after = k₂;
-      means = e₁ ∙ e₂;
-    }))
+      t = pMore t₁ (R .y);
+      rest = R .rest;
+      same = ap (λ (y : Program). pMore y (eraseItem (R .y))) m₁ ∙ ap (λ (y : Item). pMore (eraseP p) y) (R .same);
+      after = R .after;
+      means = e₁ ∙ R .means;
+    })
 
 pub record Accepts (L : ℕ) (ts : List Token) (s : Program) : Type 0 where
   pub t : Program

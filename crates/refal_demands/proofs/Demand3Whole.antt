@@ -16,9 +16,11 @@ use Rattle.refal_ast.specs.declared.Refusal.{Refusal}
 use Rattle.refal_ast.specs.declared.Answer.the-variants.{Done, Refused}
 use Rattle.refal_ast.specs.Limits.{mostLevels}
 use Rattle.refal_tree.specs.Lawful.{treeOf, tree-of, lawful}
+use Rattle.refal_spelling.specs.Answered.{answered}
 use Rattle.refal_spelling.specs.Spell.{views, text}
 use Rattle.refal_spelling.specs.Spellings.{allSpelled}
-use Rattle.refal_writer.specs.Write.{treeText, written, mostBytes, fits, refuse, writeAnswer, left, writeBytes}
+use Rattle.refal_ast.specs.Limits.{mostBytes}
+use Rattle.refal_writer.specs.Write.{treeText, written, fits, refuse, writeAnswer, left, writeBytes}
 use Rattle.refal_demands.specs.RoundTrip.{Accepted, treeRows, RowsSuffice, Again}
 use Rattle.refal_demands.specs.Demand3Whole.{Exactly, Gives, Only, Back, NeverRefused, Demand3Whole}
 use Rattle.refal_demands.proofs.Demand3 as first
@@ -65,7 +67,7 @@ module _ (s M B : List ℕ) (a : Accepted s M B) where
   read-tree = of-reading s M B a
 
   read-spelled : allSpelled s (treeRows a) ≡ true
-  read-spelled = ap (allSpelled s) (read-tree .rows) ∙ rows-spelled s (read-tree .t) (read-tree .sound)
+  read-spelled = ap (allSpelled s) (read-tree .rows) ∙ rows-spelled s (answered s (length M) (a .n) (a .reads) .short) (read-tree .t) (read-tree .sound)
 
   read-written : written (treeRows a) s ≡ text (views s (flattenP (read-tree .t)))
   unfolding written

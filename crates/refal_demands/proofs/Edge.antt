@@ -4,14 +4,12 @@ use Prim.Native.Nat.{ℕ, zero, suc, _+_}
 use mathlib.Core.List.{List, [], _∷_, _++_, append-assoc, append-nil}
 use mathlib.Core.Bool.{Bool, true, false}
 use native.Mathlib.Omega.{arith}
-use Rattle.refal_ast.specs.Kinds.{nodeDeclaration, nodeFunction}
 use Rattle.refal_ast.specs.Tokens.{Token}
-use Rattle.refal_ast.specs.Tree.{Terms, Sentences, Program, p0, pDeclaration, pFunction, sizeN, sizeS, sizeP}
-use Rattle.refal_ast.specs.Nodes.{node}
-use Rattle.refal_ast.specs.Encode.{entryWord, encN, encS, encP}
+use Rattle.refal_ast.specs.Tree.{Terms, Sentences, Program, p0, pMore, sizeP}
+use Rattle.refal_ast.specs.Encode.{encItem, encP}
 use Rattle.refal_ast.specs.declared.tree.Term.{Term}
 use Rattle.refal_ast.specs.declared.tree.Term.the-variants.{Symbol as theSymbol, Variable, Bracket, Call, UnknownVariable, NoTerm}
-use Rattle.refal_parser.specs.Machine.{termOf, Block, body, inCondition, inEnding, Place, pattern, argument, matching, result, ending, bracket, call}
+use Rattle.refal_parser.specs.Machine.{termOf, Block, body, inCondition, inEnding, Place, pattern, argument, matching, result, ending, inBracket, inCall}
 use Rattle.refal_parser.specs.Machine.{State, items, wantsName, wantsMore, named, entered, headed, between, within, calling}
 use Rattle.refal_parser.specs.Machine.{matched, conditioned, equated, blocked, ended, Step, go, stop, pick}
 use Rattle.refal_parser.specs.Machine.{opens, endOf, inTerms, leave, step, follow, nextFrom, nextTo, run}
@@ -30,8 +28,8 @@ afterX p (argument b s st f cs o) = argument (afterB p b) s st f cs o
 afterX p (matching b s st f cs o g e) = matching (afterB p b) s st f cs o g e
 afterX p (result b s st f cs) = result (afterB p b) s st f cs
 afterX p (ending b s st f cs o) = ending (afterB p b) s st f cs o
-afterX p (bracket c f a) = bracket (afterX p c) f a
-afterX p (call c f a s l) = call (afterX p c) f a s l
+afterX p (inBracket c f a) = inBracket (afterX p c) f a
+afterX p (inCall c f a s l) = inCall (afterX p c) f a s l
 
 abbrev after : Program → State → State
 after p (items q) = items (joinP p q)
@@ -67,13 +65,13 @@ end-after p d (argument b s st h cs o) f t x y = simp pick-after
 end-after p d (matching b s st h cs o g e) f t x y = simp pick-after
 end-after p d (result b s st h cs) f t x y = simp pick-after
 end-after p d (ending b s st h cs o) f t x y = simp pick-after
-end-after p d (bracket c g a) f t x y = simp pick-after
-end-after p d (call c g a s l) f t x y = simp pick-after
+end-after p d (inBracket c g a) f t x y = simp pick-after
+end-after p d (inCall c g a s l) f t x y = simp pick-after
 
 in-after : (p : Program) (d : ℕ) (c : Place) (f : Terms) (t : Token) (x y : ℕ) (z : Term) → inTerms d (afterX p c) f t x y z ≡ afterStep p (inTerms d c f t x y z)
 in-after p d c f t x y (theSymbol z) = refl
 in-after p d c f t x y (Variable v s l) = refl
-in-after p d c f t x y Bracket = sym (opens-after p d t (λ (d' : ℕ). within d' (bracket c f (t .from)) _))
+in-after p d c f t x y Bracket = sym (opens-after p d t (λ (d' : ℕ). within d' (inBracket c f (t .from)) _))
 in-after p d c f t x y Call = sym (opens-after p d t (λ (d' : ℕ). calling d' c f (t .from)))
 in-after p d c f t x y UnknownVariable = refl
 in-after p d c f t x y NoTerm = end-after p d c f t x y
@@ -121,23 +119,17 @@ edge ts p = run-after p ts (items p0)
 pub size-join : (p q : Program) → sizeP (joinP p q) ≡ sizeP p + sizeP q
 unfolding sizeP joinP
 size-join p p0 = omega arith
-size-join p (pDeclaration q a ns b) = let h = size-join p q in omega arith
-size-join p (pFunction q a x s l v b) = let h = size-join p q in omega arith
+size-join p (pMore q x) = let h = size-join p q in omega arith
 
 -- And its rows are the rows of p, then the rows that are its own, numbered from there.
 pub rows-join : (p q : Program) (n : ℕ) → encP (joinP p q) n ≡ encP p n ++ encP q (n + sizeP p)
 unfolding sizeP joinP encP
 rows-join p p0 n = sym (append-nil (encP p n))
-rows-join p (pDeclaration q a ns b) n =
+rows-join p (pMore q x) n =
     let e : n + sizeP (joinP p q) ≡ n + sizeP p + sizeP q = let h = size-join p q in omega arith in
-    ap (λ (l : List ℕ). l ++ (node nodeDeclaration 0 0 0 a b (n + sizeP (joinP p q) + 1 + sizeN ns) ++ encN ns (n + sizeP (joinP p q) + 1))) (rows-join p q n)
-    ∙ ap (λ (k : ℕ). (encP p n ++ encP q (n + sizeP p)) ++ (node nodeDeclaration 0 0 0 a b (k + 1 + sizeN ns) ++ encN ns (k + 1))) e
-    ∙ append-assoc (encP p n) (encP q (n + sizeP p)) (node nodeDeclaration 0 0 0 a b (n + sizeP p + sizeP q + 1 + sizeN ns) ++ encN ns (n + sizeP p + sizeP q + 1))
-rows-join p (pFunction q a x s l v b) n =
-    let e : n + sizeP (joinP p q) ≡ n + sizeP p + sizeP q = let h = size-join p q in omega arith in
-    ap (λ (z : List ℕ). z ++ (node nodeFunction (entryWord x) s l a b (n + sizeP (joinP p q) + 1 + sizeS v) ++ encS v (n + sizeP (joinP p q) + 1))) (rows-join p q n)
-    ∙ ap (λ (k : ℕ). (encP p n ++ encP q (n + sizeP p)) ++ (node nodeFunction (entryWord x) s l a b (k + 1 + sizeS v) ++ encS v (k + 1))) e
-    ∙ append-assoc (encP p n) (encP q (n + sizeP p)) (node nodeFunction (entryWord x) s l a b (n + sizeP p + sizeP q + 1 + sizeS v) ++ encS v (n + sizeP p + sizeP q + 1))
+    ap (λ (l : List ℕ). l ++ encItem x (n + sizeP (joinP p q))) (rows-join p q n)
+    ∙ ap (λ (k : ℕ). (encP p n ++ encP q (n + sizeP p)) ++ encItem x k) e
+    ∙ append-assoc (encP p n) (encP q (n + sizeP p)) (encItem x (n + sizeP p + sizeP q))
 
 -- In all: the rows of the items before, then the rows of what stands from there on as a list of its own, shifted.
 pub edge-rows : (p q : Program) → encP (joinP p q) 0 ≡ encP p 0 ++ shift (sizeP p) (encP q 0)

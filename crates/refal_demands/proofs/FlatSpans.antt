@@ -1,40 +1,58 @@
 -- A tree's flattening has no spans, and is one of the lists that the tree flattens to but for semicolons outside items.
 use mathlib.Core.Path.{_≡_, refl, sym, ap, _∙_}
 use Prim.Native.Nat.{ℕ}
-use mathlib.Core.List.{List, _++_}
-use Rattle.refal_ast.specs.Tree.{Terms, t0, tLeaf, tBracket, tCall, Conditions, c0, cTerms, cBlock, Sentences, s0, sTerms, sBlock}
-use Rattle.refal_ast.specs.Tree.{Program, p0, pDeclaration, pFunction}
-use Rattle.refal_ast.specs.Flatten.{Flat, flatDeclaration, flattenT, flattenC, flattenS, flattenP}
-use Rattle.refal_ast.specs.Flatten.{Loose, loose-none, loose-declaration, loose-function}
-use Rattle.refal_demands.proofs.Respan.{respanT, respanC, respanS, respanP, eraseP}
+use Rattle.refal_ast.specs.Tree.{Term, leaf, bracket, call, Terms, t0, tMore, Right, rTerms, rBlock, Condition, condition, Conditions, c0, cMore}
+use Rattle.refal_ast.specs.Tree.{End, eTerms, eBlock, Sentence, sentence, Sentences, s0, sMore, Names, nOne, nMore, Item, declaration, function, Program, p0, pMore}
+use Rattle.refal_ast.specs.Flatten.{flattenTerm, flattenT, flattenRight, flattenCondition, flattenC, flattenEnd, flattenSentence, flattenS, flattenItem, flattenP}
+use Rattle.refal_ast.specs.Flatten.{Loose, loose-none, loose-item}
+use Rattle.refal_demands.proofs.Respan.{respanTerm, respanT, respanRight, respanCondition, respanC, respanEnd, respanSentence, respanS, respanItem, respanP, eraseP}
 
 module _ (h : ℕ → ℕ) where
-  flat-respanT : (f : Terms) → flattenT (respanT f h) ≡ flattenT f
-  unfolding flattenT respanT
-  flat-respanT t0 = refl
-  flat-respanT (tLeaf f x a b) = rw (flat-respanT f) refl
-  flat-respanT (tBracket f a g b) = rw (flat-respanT f, flat-respanT g) refl
-  flat-respanT (tCall f a s l g b) = rw (flat-respanT f, flat-respanT g) refl
+  mutual
+    unfolding flattenT respanT
+
+    flat-respanTerm : (x : Term) → flattenTerm (respanTerm x h) ≡ flattenTerm x
+    flat-respanTerm (leaf x a b) = refl
+    flat-respanTerm (bracket a f b) = let i = flat-respanT f in cc
+    flat-respanTerm (call a s l f b) = let i = flat-respanT f in cc
+
+    flat-respanT : (f : Terms) → flattenT (respanT f h) ≡ flattenT f
+    flat-respanT t0 = refl
+    flat-respanT (tMore f x) = let i = flat-respanT f in let j = flat-respanTerm x in cc
 
   mutual
     unfolding flattenC respanC
 
+    flat-respanRight : (x : Right) → flattenRight (respanRight x h) ≡ flattenRight x
+    flat-respanRight (rTerms f) = flat-respanT f
+    flat-respanRight (rBlock a v b) = let i = flat-respanS v in cc
+
+    flat-respanCondition : (x : Condition) → flattenCondition (respanCondition x h) ≡ flattenCondition x
+    flat-respanCondition (condition a f x b) = let i = flat-respanT f in let j = flat-respanRight x in cc
+
     flat-respanC : (cs : Conditions) → flattenC (respanC cs h) ≡ flattenC cs
     flat-respanC c0 = refl
-    flat-respanC (cTerms cs a f g b) = let i = flat-respanC cs in let j = flat-respanT f in let k = flat-respanT g in cc
-    flat-respanC (cBlock cs a f o v e b) = let i = flat-respanC cs in let j = flat-respanT f in let k = flat-respanS v in cc
+    flat-respanC (cMore cs x) = let i = flat-respanC cs in let j = flat-respanCondition x in cc
+
+    flat-respanEnd : (x : End) → flattenEnd (respanEnd x h) ≡ flattenEnd x
+    flat-respanEnd (eTerms f) = flat-respanT f
+    flat-respanEnd (eBlock a f v b) = let i = flat-respanT f in let j = flat-respanS v in cc
+
+    flat-respanSentence : (x : Sentence) → flattenSentence (respanSentence x h) ≡ flattenSentence x
+    flat-respanSentence (sentence a f cs x b) = let i = flat-respanT f in let j = flat-respanC cs in let k = flat-respanEnd x in cc
 
     flat-respanS : (s : Sentences) → flattenS (respanS s h) ≡ flattenS s
     flat-respanS s0 = refl
-    flat-respanS (sTerms s a f cs g b) = let i = flat-respanS s in let j = flat-respanT f in let k = flat-respanC cs in let l = flat-respanT g in cc
-    flat-respanS (sBlock s a f cs o g v e b) =
-        let i = flat-respanS s in let j = flat-respanT f in let k = flat-respanC cs in let l = flat-respanT g in let m = flat-respanS v in cc
+    flat-respanS (sMore s x) = let i = flat-respanS s in let j = flat-respanSentence x in cc
+
+  flat-respanItem : (x : Item) → flattenItem (respanItem x h) ≡ flattenItem x
+  flat-respanItem (declaration a ns b) = refl
+  flat-respanItem (function a x s l v b) = let i = flat-respanS v in cc
 
   flat-respanP : (p : Program) → flattenP (respanP p h) ≡ flattenP p
   unfolding flattenP respanP
   flat-respanP p0 = refl
-  flat-respanP (pDeclaration p a ns b) = ap (λ (l : List Flat). l ++ flatDeclaration ns) (flat-respanP p)
-  flat-respanP (pFunction p a x s l v b) = let i = flat-respanP p in let j = flat-respanS v in cc
+  flat-respanP (pMore p x) = let i = flat-respanP p in let j = flat-respanItem x in cc
 
 -- trees that are the same, spans aside, flatten to the same
 pub same-flat : (p q : Program) → eraseP p ≡ eraseP q → flattenP p ≡ flattenP q
@@ -43,5 +61,4 @@ same-flat p q e = sym (flat-respanP (λ (x : ℕ). 0) p) ∙ ap flattenP e ∙ f
 pub loose-own : (p : Program) → Loose p (flattenP p)
 unfolding flattenP
 loose-own p0 = loose-none
-loose-own (pDeclaration p a ns b) = loose-declaration (loose-own p)
-loose-own (pFunction p a x s l v b) = loose-function (loose-own p)
+loose-own (pMore p x) = loose-item (loose-own p)

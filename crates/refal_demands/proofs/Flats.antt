@@ -1,99 +1,110 @@
 -- Flattening before a list: `flatT f r` is the flattening of f with r after it, which a proof by parts follows without associativity.
 use mathlib.Core.Path.{_≡_, refl, sym, ap, _∙_}
-use Prim.Native.Nat.{ℕ}
-use mathlib.Core.Bool.{Bool}
 use mathlib.Core.List.{List, [], _∷_, _++_, append-assoc}
 use Rattle.refal_ast.specs.Kinds.{tokExtern, tokLBrace, tokRBrace, tokLParen, tokRParen, tokLAngle, tokRAngle, tokComma, tokColon, tokEquals, tokSemicolon}
-use Rattle.refal_ast.specs.Tree.{Terms, t0, tLeaf, tBracket, tCall, Conditions, c0, cTerms, cBlock, Sentences, s0, sTerms, sBlock, Names, nOne, nMore}
-use Rattle.refal_ast.specs.Tree.{Program, p0, pDeclaration, pFunction}
-use Rattle.refal_ast.specs.Flatten.{Flat, mark, nameOf, flatLeaf, flatEntry, flatDeclaration, flatFunction, flattenT, flattenC, flattenS, flattenN, flattenP}
-
-unfoldable pub flatT : Terms → List Flat → List Flat
-flatT t0 r = r
-flatT (tLeaf f x a b) r = flatT f (flatLeaf x ∷ r)
-flatT (tBracket f a g b) r = flatT f (mark tokLParen ∷ flatT g (mark tokRParen ∷ r))
-flatT (tCall f a s l g b) r = flatT f (mark tokLAngle ∷ nameOf s l ∷ flatT g (mark tokRAngle ∷ r))
+use Rattle.refal_ast.specs.Tree.{Term, leaf, bracket, call, Terms, t0, tMore, Right, rTerms, rBlock, Condition, condition, Conditions, c0, cMore}
+use Rattle.refal_ast.specs.Tree.{End, eTerms, eBlock, Sentence, sentence, Sentences, s0, sMore, Names, nOne, nMore, Item, declaration, function, Program, p0, pMore}
+use Rattle.refal_ast.specs.Flatten.{Flat, mark, nameOf, flatLeaf, flatEntry, flattenTerm, flattenT, flattenRight, flattenCondition, flattenC, flattenEnd, flattenSentence, flattenS, flattenN, flattenItem, flattenP}
 
 unfoldable mutual
+  pub flatTerm : Term → List Flat → List Flat
+  flatTerm (leaf x a b) r = flatLeaf x ∷ r
+  flatTerm (bracket a f b) r = mark tokLParen ∷ flatT f (mark tokRParen ∷ r)
+  flatTerm (call a s l f b) r = mark tokLAngle ∷ nameOf s l ∷ flatT f (mark tokRAngle ∷ r)
+
+  pub flatT : Terms → List Flat → List Flat
+  flatT t0 r = r
+  flatT (tMore f x) r = flatT f (flatTerm x r)
+
+unfoldable mutual
+  pub flatRight : Right → List Flat → List Flat
+  flatRight (rTerms f) r = flatT f r
+  flatRight (rBlock a v b) r = mark tokLBrace ∷ flatS v (mark tokRBrace ∷ r)
+
+  pub flatCondition : Condition → List Flat → List Flat
+  flatCondition (condition a f x b) r = mark tokComma ∷ flatT f (mark tokColon ∷ flatRight x r)
+
   pub flatC : Conditions → List Flat → List Flat
   flatC c0 r = r
-  flatC (cTerms cs a f g b) r = flatC cs (mark tokComma ∷ flatT f (mark tokColon ∷ flatT g r))
-  flatC (cBlock cs a f o v e b) r =
-      flatC cs (mark tokComma ∷ flatT f (mark tokColon ∷ mark tokLBrace ∷ flatS v (mark tokRBrace ∷ r)))
+  flatC (cMore cs x) r = flatC cs (flatCondition x r)
+
+  pub flatEnd : End → List Flat → List Flat
+  flatEnd (eTerms f) r = flatT f r
+  flatEnd (eBlock a f v b) r = mark tokComma ∷ flatT f (mark tokColon ∷ mark tokLBrace ∷ flatS v (mark tokRBrace ∷ r))
+
+  pub flatSentence : Sentence → List Flat → List Flat
+  flatSentence (sentence a f cs x b) r = flatT f (flatC cs (mark tokEquals ∷ flatEnd x (mark tokSemicolon ∷ r)))
 
   pub flatS : Sentences → List Flat → List Flat
   flatS s0 r = r
-  flatS (sTerms s a f cs g b) r = flatS s (flatT f (flatC cs (mark tokEquals ∷ flatT g (mark tokSemicolon ∷ r))))
-  flatS (sBlock s a f cs o g v e b) r =
-      flatS s (flatT f (flatC cs (mark tokEquals ∷ mark tokComma ∷ flatT g (mark tokColon ∷ mark tokLBrace ∷ flatS v (mark tokRBrace ∷ mark tokSemicolon ∷ r)))))
+  flatS (sMore s x) r = flatS s (flatSentence x r)
 
 unfoldable pub flatN : Names → List Flat → List Flat
 flatN (nOne s l) r = nameOf s l ∷ r
 flatN (nMore ns s l) r = flatN ns (mark tokComma ∷ nameOf s l ∷ r)
 
-pub flatT-is : (f : Terms) (r : List Flat) → flatT f r ≡ flattenT f ++ r
-unfolding flatT flattenT
-flatT-is t0 r = refl
-flatT-is (tLeaf f x a b) r = flatT-is f (flatLeaf x ∷ r) ∙ sym (append-assoc (flattenT f) (flatLeaf x ∷ []) r)
-flatT-is (tBracket f a g b) r =
-    flatT-is f (mark tokLParen ∷ flatT g (mark tokRParen ∷ r))
-    ∙ ap (λ (l : List Flat). flattenT f ++ (mark tokLParen ∷ l)) (flatT-is g (mark tokRParen ∷ r))
-    ∙ simp append-assoc
-flatT-is (tCall f a s l g b) r =
-    flatT-is f (mark tokLAngle ∷ nameOf s l ∷ flatT g (mark tokRAngle ∷ r))
-    ∙ ap (λ (z : List Flat). flattenT f ++ (mark tokLAngle ∷ nameOf s l ∷ z)) (flatT-is g (mark tokRAngle ∷ r))
-    ∙ simp append-assoc
+abbrev pub flatItem : Item → List Flat → List Flat
+flatItem (declaration a ns b) r = mark tokExtern ∷ flatN ns (mark tokSemicolon ∷ r)
+flatItem (function a x s l v b) r = flatEntry x ++ (nameOf s l ∷ mark tokLBrace ∷ flatS v (mark tokRBrace ∷ r))
+
+unfoldable pub flatP : Program → List Flat → List Flat
+flatP p0 r = r
+flatP (pMore p x) r = flatP p (flatItem x r)
+
+-- ---- the same as the flattening, with r after it
+mutual
+  unfolding flatT flattenT
+
+  flatTerm-is : (x : Term) (r : List Flat) → flatTerm x r ≡ flattenTerm x ++ r
+  flatTerm-is (leaf x a b) r = refl
+  flatTerm-is (bracket a f b) r = ap (λ (l : List Flat). mark tokLParen ∷ l) (flatT-is f (mark tokRParen ∷ r)) ∙ simp append-assoc
+  flatTerm-is (call a s l f b) r = ap (λ (z : List Flat). mark tokLAngle ∷ nameOf s l ∷ z) (flatT-is f (mark tokRAngle ∷ r)) ∙ simp append-assoc
+
+  pub flatT-is : (f : Terms) (r : List Flat) → flatT f r ≡ flattenT f ++ r
+  flatT-is t0 r = refl
+  flatT-is (tMore f x) r = ap (flatT f) (flatTerm-is x r) ∙ flatT-is f (flattenTerm x ++ r) ∙ sym (append-assoc (flattenT f) (flattenTerm x) r)
 
 mutual
   unfolding flatC flattenC
 
-  pub flatC-is : (cs : Conditions) (r : List Flat) → flatC cs r ≡ flattenC cs ++ r
+  flatRight-is : (x : Right) (r : List Flat) → flatRight x r ≡ flattenRight x ++ r
+  flatRight-is (rTerms f) r = flatT-is f r
+  flatRight-is (rBlock a v b) r = ap (λ (z : List Flat). mark tokLBrace ∷ z) (flatS-is v (mark tokRBrace ∷ r)) ∙ simp append-assoc
+
+  flatCondition-is : (x : Condition) (r : List Flat) → flatCondition x r ≡ flattenCondition x ++ r
+  flatCondition-is (condition a f x b) r =
+      ap (λ (z : List Flat). mark tokComma ∷ flatT f (mark tokColon ∷ z)) (flatRight-is x r) ∙ simp (flatT-is, append-assoc)
+
+  flatC-is : (cs : Conditions) (r : List Flat) → flatC cs r ≡ flattenC cs ++ r
   flatC-is c0 r = refl
-  flatC-is (cTerms cs a f g b) r =
-      flatC-is cs (mark tokComma ∷ flatT f (mark tokColon ∷ flatT g r)) ∙ simp (flatT-is, append-assoc)
-  flatC-is (cBlock cs a f o v e b) r =
-      flatC-is cs (mark tokComma ∷ flatT f (mark tokColon ∷ mark tokLBrace ∷ flatS v (mark tokRBrace ∷ r)))
-      ∙ ap (λ (z : List Flat). flattenC cs ++ (mark tokComma ∷ flatT f (mark tokColon ∷ mark tokLBrace ∷ z))) (flatS-is v (mark tokRBrace ∷ r))
+  flatC-is (cMore cs x) r = ap (flatC cs) (flatCondition-is x r) ∙ flatC-is cs (flattenCondition x ++ r) ∙ sym (append-assoc (flattenC cs) (flattenCondition x) r)
+
+  flatEnd-is : (x : End) (r : List Flat) → flatEnd x r ≡ flattenEnd x ++ r
+  flatEnd-is (eTerms f) r = flatT-is f r
+  flatEnd-is (eBlock a f v b) r =
+      ap (λ (z : List Flat). mark tokComma ∷ flatT f (mark tokColon ∷ mark tokLBrace ∷ z)) (flatS-is v (mark tokRBrace ∷ r)) ∙ simp (flatT-is, append-assoc)
+
+  flatSentence-is : (x : Sentence) (r : List Flat) → flatSentence x r ≡ flattenSentence x ++ r
+  flatSentence-is (sentence a f cs x b) r =
+      ap (λ (z : List Flat). flatT f (flatC cs (mark tokEquals ∷ z))) (flatEnd-is x (mark tokSemicolon ∷ r))
+      ∙ ap (flatT f) (flatC-is cs (mark tokEquals ∷ flattenEnd x ++ (mark tokSemicolon ∷ r)))
       ∙ simp (flatT-is, append-assoc)
 
   pub flatS-is : (s : Sentences) (r : List Flat) → flatS s r ≡ flattenS s ++ r
   flatS-is s0 r = refl
-  flatS-is (sTerms s a f cs g b) r =
-      flatS-is s (flatT f (flatC cs (mark tokEquals ∷ flatT g (mark tokSemicolon ∷ r))))
-      ∙ ap (λ (z : List Flat). flattenS s ++ flatT f z) (flatC-is cs (mark tokEquals ∷ flatT g (mark tokSemicolon ∷ r)))
-      ∙ simp (flatT-is, append-assoc)
-  flatS-is (sBlock s a f cs o g v e b) r =
-      flatS-is s (flatT f (flatC cs (mark tokEquals ∷ mark tokComma ∷ flatT g (mark tokColon ∷ mark tokLBrace ∷ flatS v (mark tokRBrace ∷ mark tokSemicolon ∷ r)))))
-      ∙ ap (λ (z : List Flat). flattenS s ++ flatT f z)
-      (flatC-is cs (mark tokEquals ∷ mark tokComma ∷ flatT g (mark tokColon ∷ mark tokLBrace ∷ flatS v (mark tokRBrace ∷ mark tokSemicolon ∷ r))))
-      ∙ ap (λ (z : List Flat). flattenS s ++ flatT f (flattenC cs ++ (mark tokEquals ∷ mark tokComma ∷ flatT g (mark tokColon ∷ mark tokLBrace ∷ z))))
-      (flatS-is v (mark tokRBrace ∷ mark tokSemicolon ∷ r))
-      ∙ simp (flatT-is, append-assoc)
+  flatS-is (sMore s x) r = ap (flatS s) (flatSentence-is x r) ∙ flatS-is s (flattenSentence x ++ r) ∙ sym (append-assoc (flattenS s) (flattenSentence x) r)
 
 pub flatN-is : (ns : Names) (r : List Flat) → flatN ns r ≡ flattenN ns ++ r
 unfolding flatN flattenN
 flatN-is (nOne s l) r = refl
 flatN-is (nMore ns s l) r = flatN-is ns (mark tokComma ∷ nameOf s l ∷ r) ∙ simp append-assoc
 
-unfoldable pub flatP : Program → List Flat → List Flat
-flatP p0 r = r
-flatP (pDeclaration p a ns b) r = flatP p (mark tokExtern ∷ flatN ns (mark tokSemicolon ∷ r))
-flatP (pFunction p a x s l v b) r = flatP p (flatEntry x ++ (nameOf s l ∷ mark tokLBrace ∷ flatS v (mark tokRBrace ∷ r)))
-
-declaration-is : (ns : Names) (r : List Flat) → mark tokExtern ∷ flatN ns (mark tokSemicolon ∷ r) ≡ flatDeclaration ns ++ r
-declaration-is ns r = ap (λ (q : List Flat). mark tokExtern ∷ q) (flatN-is ns (mark tokSemicolon ∷ r)) ∙ simp append-assoc
-
-function-is : (x : Bool) (s l : ℕ) (v : Sentences) (r : List Flat) → flatEntry x ++ (nameOf s l ∷ mark tokLBrace ∷ flatS v (mark tokRBrace ∷ r)) ≡ flatFunction x s l v ++ r
-function-is x s l v r = ap (λ (q : List Flat). flatEntry x ++ (nameOf s l ∷ mark tokLBrace ∷ q)) (flatS-is v (mark tokRBrace ∷ r)) ∙ simp append-assoc
+pub flatItem-is : (x : Item) (r : List Flat) → flatItem x r ≡ flattenItem x ++ r
+flatItem-is (declaration a ns b) r = ap (λ (q : List Flat). mark tokExtern ∷ q) (flatN-is ns (mark tokSemicolon ∷ r)) ∙ simp append-assoc
+flatItem-is (function a x s l v b) r =
+    ap (λ (q : List Flat). flatEntry x ++ (nameOf s l ∷ mark tokLBrace ∷ q)) (flatS-is v (mark tokRBrace ∷ r)) ∙ simp append-assoc
 
 pub flatP-is : (p : Program) (r : List Flat) → flatP p r ≡ flattenP p ++ r
 unfolding flatP flattenP
 flatP-is p0 r = refl
-flatP-is (pDeclaration p a ns b) r =
-    flatP-is p (mark tokExtern ∷ flatN ns (mark tokSemicolon ∷ r))
-    ∙ ap (λ (q : List Flat). flattenP p ++ q) (declaration-is ns r)
-    ∙ sym (append-assoc (flattenP p) (flatDeclaration ns) r)
-flatP-is (pFunction p a x s l v b) r =
-    flatP-is p (flatEntry x ++ (nameOf s l ∷ mark tokLBrace ∷ flatS v (mark tokRBrace ∷ r)))
-    ∙ ap (λ (q : List Flat). flattenP p ++ q) (function-is x s l v r)
-    ∙ sym (append-assoc (flattenP p) (flatFunction x s l v) r)
+flatP-is (pMore p x) r = ap (flatP p) (flatItem-is x r) ∙ flatP-is p (flattenItem x ++ r) ∙ sym (append-assoc (flattenP p) (flattenItem x) r)

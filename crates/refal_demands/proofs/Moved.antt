@@ -5,14 +5,15 @@ use Prim.Native.Nat.{ℕ, zero, suc, _+_}
 use mathlib.Core.List.{List, [], _∷_, _++_}
 use native.Mathlib.Omega.{arith}
 use lib.ListN.{length, getD}
-use Rattle.refal_ast.specs.Tree.{Leaf, symbol, variable, Terms, t0, tLeaf, tBracket, tCall, Conditions, c0, cTerms, cBlock, Sentences, s0, sTerms, sBlock}
-use Rattle.refal_ast.specs.Tree.{Names, nOne, nMore, Program, p0, pDeclaration, pFunction, sizeT, sizeC, sizeS, sizeN, sizeP}
-use Rattle.refal_ast.specs.Encode.{leafRow, encT, encTerms, encC, encS, encN, encP}
+use Rattle.refal_ast.specs.Tree.{Leaf, symbol, variable, Term, leaf, bracket, call, Terms, t0, tMore, Right, rTerms, rBlock, Condition, condition, Conditions, c0, cMore}
+use Rattle.refal_ast.specs.Tree.{End, eTerms, eBlock, Sentence, sentence, Sentences, s0, sMore, Names, nOne, nMore, Item, declaration, function, Program, p0, pMore}
+use Rattle.refal_ast.specs.Tree.{sizeT, sizeRight, sizeC, sizeEnd, sizeS, sizeN, sizeP}
+use Rattle.refal_ast.specs.Encode.{leafRow, endTerms, encTerm, encT, encTerms, encRight, encCondition, encC, encEnd, encSentence, encS, encN, encItem, encP}
 use Rattle.refal_ast.specs.declared.tree.Symbol.the-variants.{Char, Identifier, Number}
 use Rattle.refal_demands.specs.Spans.{OutsideSpan, SameButSpans}
 use Rattle.refal_demands.specs.Edge.{shift}
-use Rattle.refal_demands.proofs.Respan.{respanT, respanC, respanS, respanP, eraseP, sameP}
-use Rattle.refal_demands.proofs.Respan.{size-respanT, size-respanC, size-respanS, size-respanP}
+use Rattle.refal_demands.proofs.Respan.{respanTerm, respanT, respanRight, respanCondition, respanC, respanEnd, respanSentence, respanS, respanItem, respanP, eraseP, sameP}
+use Rattle.refal_demands.proofs.Respan.{size-respanT, size-respanRight, size-respanC, size-respanEnd, size-respanS, size-respanP}
 
 -- row by row
 data Moved (h : ℕ → ℕ) (k : ℕ) : List ℕ → List ℕ → Type 0 where
@@ -30,16 +31,19 @@ module _ (h : ℕ → ℕ) (z : 0 ≡ h 0) (k : ℕ) where
   moved-leaf (symbol (Number s l)) a b n n' e = moved-row refl refl e moved-none
   moved-leaf (variable v s l) a b n n' e = moved-row refl refl e moved-none
 
-  movedT : (f : Terms) (n n' : ℕ) → n' ≡ k + n → Moved h k (encT f n) (encT (respanT f h) n')
-  unfolding encT respanT
-  movedT t0 n n' e = moved-none
-  movedT (tLeaf f x a b) n n' e = let i = size-respanT h f in then-moved (movedT f n n' e) (moved-leaf x a b _ _ (omega arith))
-  movedT (tBracket f a g b) n n' e =
-      let i = size-respanT h f in let j = size-respanT h g in
-      then-moved (movedT f n n' e) (moved-row refl refl (omega arith) (movedT g (n + sizeT f + 1) (n' + sizeT (respanT f h) + 1) (omega arith)))
-  movedT (tCall f a s l g b) n n' e =
-      let i = size-respanT h f in let j = size-respanT h g in
-      then-moved (movedT f n n' e) (moved-row refl refl (omega arith) (movedT g (n + sizeT f + 1) (n' + sizeT (respanT f h) + 1) (omega arith)))
+  mutual
+    unfolding encT respanT
+
+    movedTerm : (x : Term) (n n' : ℕ) → n' ≡ k + n → Moved h k (encTerm x n) (encTerm (respanTerm x h) n')
+    movedTerm (leaf x a b) n n' e = moved-leaf x a b _ _ (omega arith)
+    movedTerm (bracket a f b) n n' e =
+        let i = size-respanT h f in let q : n' + 1 + sizeT (respanT f h) ≡ k + (n + 1 + sizeT f) = omega arith in moved-row refl refl q (movedT f (n + 1) (n' + 1) (omega arith))
+    movedTerm (call a s l f b) n n' e =
+        let i = size-respanT h f in let q : n' + 1 + sizeT (respanT f h) ≡ k + (n + 1 + sizeT f) = omega arith in moved-row refl refl q (movedT f (n + 1) (n' + 1) (omega arith))
+
+    movedT : (f : Terms) (n n' : ℕ) → n' ≡ k + n → Moved h k (encT f n) (encT (respanT f h) n')
+    movedT t0 n n' e = moved-none
+    movedT (tMore f x) n n' e = let i = size-respanT h f in then-moved (movedT f n n' e) (movedTerm x (n + sizeT f) (n' + sizeT (respanT f h)) (omega arith))
 
   moved-terms : (f : Terms) (n n' : ℕ) → n' ≡ k + n → Moved h k (encTerms f n) (encTerms (respanT f h) n')
   moved-terms f n n' e =
@@ -47,78 +51,46 @@ module _ (h : ℕ → ℕ) (z : 0 ≡ h 0) (k : ℕ) where
       let q : n' + 1 + sizeT (respanT f h) ≡ k + (n + 1 + sizeT f) = omega arith in
       moved-row z z q (movedT f (n + 1) (n' + 1) (omega arith))
 
-  -- what is shown of conditions, and of sentences
-  abbrev MovedC : Conditions → Type 0
-  MovedC cs = (n n' : ℕ) → n' ≡ k + n → Moved h k (encC cs n) (encC (respanC cs h) n')
-
-  abbrev MovedS : Sentences → Type 0
-  MovedS s = (n n' : ℕ) → n' ≡ k + n → Moved h k (encS s n) (encS (respanS s h) n')
-
-  moved-c0 : MovedC c0
-  unfolding encC respanC
-  moved-c0 n n' e = moved-none
-
-  moved-cTerms : (cs : Conditions) (a : ℕ) (f g : Terms) (b : ℕ) → MovedC cs → MovedC (cTerms cs a f g b)
-  unfolding encC respanC
-  moved-cTerms cs a f g b ic n n' e =
-      let i = size-respanC h cs in let j = size-respanT h f in let l = size-respanT h g in
-      let m = n + sizeC cs + 1 in
-      let m' = n' + sizeC (respanC cs h) + 1 in
-      then-moved (ic n n' e)
-      (moved-row refl refl (omega arith)
-      (then-moved (moved-terms f m m' (omega arith)) (moved-terms g (m + 1 + sizeT f) (m' + 1 + sizeT (respanT f h)) (omega arith))))
-
-  moved-cBlock : (cs : Conditions) (a : ℕ) (f : Terms) (o : ℕ) (v : Sentences) (y b : ℕ) → MovedC cs → MovedS v → MovedC (cBlock cs a f o v y b)
-  unfolding encC respanC
-  moved-cBlock cs a f o v y b ic iv n n' e =
-      let i = size-respanC h cs in let j = size-respanT h f in let l = size-respanS h v in
-      let m = n + sizeC cs + 1 in
-      let m' = n' + sizeC (respanC cs h) + 1 in
-      then-moved (ic n n' e)
-      (moved-row refl refl (omega arith)
-      (then-moved (moved-terms f m m' (omega arith))
-      (moved-row refl refl (omega arith) (iv (m + 1 + sizeT f + 1) (m' + 1 + sizeT (respanT f h) + 1) (omega arith)))))
-
-  moved-s0 : MovedS s0
-  unfolding encS respanS
-  moved-s0 n n' e = moved-none
-
-  moved-sTerms : (s : Sentences) (a : ℕ) (f : Terms) (cs : Conditions) (g : Terms) (b : ℕ) → MovedS s → MovedC cs → MovedS (sTerms s a f cs g b)
-  unfolding encS respanS
-  moved-sTerms s a f cs g b is ic n n' e =
-      let i = size-respanS h s in let j = size-respanT h f in let l = size-respanC h cs in let o = size-respanT h g in
-      let m = n + sizeS s + 1 in
-      let m' = n' + sizeS (respanS s h) + 1 in
-      then-moved (is n n' e)
-      (moved-row refl refl (omega arith)
-      (then-moved (moved-terms f m m' (omega arith))
-      (then-moved (ic (m + 1 + sizeT f) (m' + 1 + sizeT (respanT f h)) (omega arith))
-      (moved-terms g (m + 1 + sizeT f + sizeC cs) (m' + 1 + sizeT (respanT f h) + sizeC (respanC cs h)) (omega arith)))))
-
-  moved-sBlock : (s : Sentences) (a : ℕ) (f : Terms) (cs : Conditions) (o : ℕ) (g : Terms) (v : Sentences) (y b : ℕ) → MovedS s → MovedC cs → MovedS v → MovedS (sBlock s a f cs o g v y b)
-  unfolding encS respanS
-  moved-sBlock s a f cs o g v y b is ic iv n n' e =
-      let i = size-respanS h s in let j = size-respanT h f in let l = size-respanC h cs in let p = size-respanT h g in let q = size-respanS h v in
-      let m = n + sizeS s + 1 + 1 + sizeT f in
-      let m' = n' + sizeS (respanS s h) + 1 + 1 + sizeT (respanT f h) in
-      then-moved (is n n' e)
-      (moved-row refl refl (omega arith)
-      (then-moved (moved-terms f (n + sizeS s + 1) (n' + sizeS (respanS s h) + 1) (omega arith))
-      (then-moved (ic m m' (omega arith))
-      (moved-row refl refl (omega arith)
-      (then-moved (moved-terms g (m + sizeC cs + 1) (m' + sizeC (respanC cs h) + 1) (omega arith))
-      (iv (m + sizeC cs + 1 + 1 + sizeT g) (m' + sizeC (respanC cs h) + 1 + 1 + sizeT (respanT g h)) (omega arith)))))))
-
   mutual
-    movedC : (cs : Conditions) → MovedC cs
-    movedC c0 = moved-c0
-    movedC (cTerms cs a f g b) = moved-cTerms cs a f g b (movedC cs)
-    movedC (cBlock cs a f o v e b) = moved-cBlock cs a f o v e b (movedC cs) (movedS v)
+    unfolding encC respanC
 
-    movedS : (s : Sentences) → MovedS s
-    movedS s0 = moved-s0
-    movedS (sTerms s a f cs g b) = moved-sTerms s a f cs g b (movedS s) (movedC cs)
-    movedS (sBlock s a f cs o g v e b) = moved-sBlock s a f cs o g v e b (movedS s) (movedC cs) (movedS v)
+    movedRight : (x : Right) (n n' : ℕ) → n' ≡ k + n → Moved h k (encRight x n) (encRight (respanRight x h) n')
+    movedRight (rTerms f) n n' e = moved-terms f n n' e
+    movedRight (rBlock a v b) n n' e =
+        let i = size-respanS h v in let q : n' + 1 + sizeS (respanS v h) ≡ k + (n + 1 + sizeS v) = omega arith in moved-row refl refl q (movedS v (n + 1) (n' + 1) (omega arith))
+
+    movedCondition : (x : Condition) (n n' : ℕ) → n' ≡ k + n → Moved h k (encCondition x n) (encCondition (respanCondition x h) n')
+    movedCondition (condition a f x b) n n' e =
+        let i = size-respanT h f in let j = size-respanRight h x in
+        let q : endTerms (respanT f h) (n' + 1) + sizeRight (respanRight x h) ≡ k + (endTerms f (n + 1) + sizeRight x) = omega arith in
+        moved-row refl refl q
+        (then-moved (moved-terms f (n + 1) (n' + 1) (omega arith)) (movedRight x (endTerms f (n + 1)) (endTerms (respanT f h) (n' + 1)) (omega arith)))
+
+    movedC : (cs : Conditions) (n n' : ℕ) → n' ≡ k + n → Moved h k (encC cs n) (encC (respanC cs h) n')
+    movedC c0 n n' e = moved-none
+    movedC (cMore cs x) n n' e = let i = size-respanC h cs in then-moved (movedC cs n n' e) (movedCondition x (n + sizeC cs) (n' + sizeC (respanC cs h)) (omega arith))
+
+    movedEnd : (x : End) (n n' : ℕ) → n' ≡ k + n → Moved h k (encEnd x n) (encEnd (respanEnd x h) n')
+    movedEnd (eTerms f) n n' e = moved-terms f n n' e
+    movedEnd (eBlock a f v b) n n' e =
+        let i = size-respanT h f in let j = size-respanS h v in
+        let q : endTerms (respanT f h) (n' + 1) + sizeS (respanS v h) ≡ k + (endTerms f (n + 1) + sizeS v) = omega arith in
+        moved-row refl refl q
+        (then-moved (moved-terms f (n + 1) (n' + 1) (omega arith)) (movedS v (endTerms f (n + 1)) (endTerms (respanT f h) (n' + 1)) (omega arith)))
+
+    movedSentence : (x : Sentence) (n n' : ℕ) → n' ≡ k + n → Moved h k (encSentence x n) (encSentence (respanSentence x h) n')
+    movedSentence (sentence a f cs x b) n n' e =
+        let i = size-respanT h f in let j = size-respanC h cs in let l = size-respanEnd h x in
+        let m = endTerms f (n + 1) in
+        let m' = endTerms (respanT f h) (n' + 1) in
+        let q : m' + sizeC (respanC cs h) + sizeEnd (respanEnd x h) ≡ k + (m + sizeC cs + sizeEnd x) = omega arith in
+        moved-row refl refl q
+        (then-moved (moved-terms f (n + 1) (n' + 1) (omega arith))
+        (then-moved (movedC cs m m' (omega arith)) (movedEnd x (m + sizeC cs) (m' + sizeC (respanC cs h)) (omega arith))))
+
+    movedS : (s : Sentences) (n n' : ℕ) → n' ≡ k + n → Moved h k (encS s n) (encS (respanS s h) n')
+    movedS s0 n n' e = moved-none
+    movedS (sMore s x) n n' e = let i = size-respanS h s in then-moved (movedS s n n' e) (movedSentence x (n + sizeS s) (n' + sizeS (respanS s h)) (omega arith))
 
   movedN : (ns : Names) (n n' : ℕ) → n' ≡ k + n → Moved h k (encN ns n) (encN ns n')
   unfolding encN
@@ -126,15 +98,16 @@ module _ (h : ℕ → ℕ) (z : 0 ≡ h 0) (k : ℕ) where
   movedN (nMore ns s l) n n' e =
       let q : n' + sizeN ns + 1 ≡ k + (n + sizeN ns + 1) = omega arith in then-moved (movedN ns n n' e) (moved-row z z q moved-none)
 
+  movedItem : (x : Item) (n n' : ℕ) → n' ≡ k + n → Moved h k (encItem x n) (encItem (respanItem x h) n')
+  movedItem (declaration a ns b) n n' e =
+      let q : n' + 1 + sizeN ns ≡ k + (n + 1 + sizeN ns) = omega arith in moved-row refl refl q (movedN ns (n + 1) (n' + 1) (omega arith))
+  movedItem (function a x s l v b) n n' e =
+      let i = size-respanS h v in let q : n' + 1 + sizeS (respanS v h) ≡ k + (n + 1 + sizeS v) = omega arith in moved-row refl refl q (movedS v (n + 1) (n' + 1) (omega arith))
+
   movedP : (p : Program) (n n' : ℕ) → n' ≡ k + n → Moved h k (encP p n) (encP (respanP p h) n')
   unfolding encP respanP
   movedP p0 n n' e = moved-none
-  movedP (pDeclaration p a ns b) n n' e =
-      let i = size-respanP h p in
-      then-moved (movedP p n n' e) (moved-row refl refl (omega arith) (movedN ns (n + sizeP p + 1) (n' + sizeP (respanP p h) + 1) (omega arith)))
-  movedP (pFunction p a x s l v b) n n' e =
-      let i = size-respanP h p in let j = size-respanS h v in
-      then-moved (movedP p n n' e) (moved-row refl refl (omega arith) (movedS v (n + sizeP p + 1) (n' + sizeP (respanP p h) + 1) (omega arith)))
+  movedP (pMore p x) n n' e = let i = size-respanP h p in then-moved (movedP p n n' e) (movedItem x (n + sizeP p) (n' + sizeP (respanP p h)) (omega arith))
 
 -- ---- the spans put to 0, no row moved
 long : {h : ℕ → ℕ} {T U : List ℕ} → Moved h 0 T U → length T ≡ length U

@@ -5,7 +5,7 @@ use mathlib.Core.List.{List, _∷_, _++_}
 use Rattle.refal_ast.specs.Kinds.{tokEntry, tokExtern, tokLBrace, tokRBrace, tokLParen, tokLAngle, tokComma, tokColon, tokEquals}
 use Rattle.refal_ast.specs.Tree.{Terms, Conditions, Sentences, Program, depthT, depthC, depthS, depthP}
 use Rattle.refal_ast.specs.Flatten.{Flat, mark, nameOf, flatEntry}
-use Rattle.refal_parser.specs.Machine.{Block, body, inCondition, inEnding, Place, pattern, argument, matching, result, ending, bracket, call}
+use Rattle.refal_parser.specs.Machine.{Block, body, inCondition, inEnding, Place, pattern, argument, matching, result, ending, inBracket, inCall}
 use Rattle.refal_parser.specs.Machine.{State, items, wantsName, wantsMore, named, entered, headed, between, within, calling}
 use Rattle.refal_parser.specs.Machine.{matched, conditioned, equated, blocked, ended}
 use Rattle.refal_demands.proofs.Flats.{flatT, flatC, flatS, flatN}
@@ -25,8 +25,8 @@ readX (argument b s st f cs o) r = readB b (head s f cs (mark tokComma ∷ r))
 readX (matching b s st f cs o g e) r = readB b (head s f cs (mark tokComma ∷ flatT g (mark tokColon ∷ r)))
 readX (result b s st f cs) r = readB b (head s f cs (mark tokEquals ∷ r))
 readX (ending b s st f cs o) r = readB b (head s f cs (mark tokEquals ∷ mark tokComma ∷ r))
-readX (bracket c f a) r = readX c (flatT f (mark tokLParen ∷ r))
-readX (call c f a s l) r = readX c (flatT f (mark tokLAngle ∷ nameOf s l ∷ r))
+readX (inBracket c f a) r = readX c (flatT f (mark tokLParen ∷ r))
+readX (inCall c f a s l) r = readX c (flatT f (mark tokLAngle ∷ nameOf s l ∷ r))
 
 abbrev pub read : State → List Flat → List Flat
 read (items p) r = r
@@ -57,8 +57,8 @@ itemsX (argument b s st f cs o) = itemsB b
 itemsX (matching b s st f cs o g e) = itemsB b
 itemsX (result b s st f cs) = itemsB b
 itemsX (ending b s st f cs o) = itemsB b
-itemsX (bracket c f a) = itemsX c
-itemsX (call c f a s l) = itemsX c
+itemsX (inBracket c f a) = itemsX c
+itemsX (inCall c f a s l) = itemsX c
 
 abbrev pub itemsOf : State → Program
 itemsOf (items p) = p
@@ -93,8 +93,8 @@ OkX L d (argument b s st f cs o) = Deep d s f cs × OkB L d b
 OkX L d (matching b s st f cs o g e) = Deep d s f cs × (depthT g ≤ d) × OkB L d b
 OkX L d (result b s st f cs) = Deep d s f cs × OkB L d b
 OkX L d (ending b s st f cs o) = Deep d s f cs × OkB L d b
-OkX L d (bracket c f a) = (depthT f ≤ suc d) × OkX L (suc d) c
-OkX L d (call c f a s l) = (depthT f ≤ suc d) × OkX L (suc d) c
+OkX L d (inBracket c f a) = (depthT f ≤ suc d) × OkX L (suc d) c
+OkX L d (inCall c f a s l) = (depthT f ≤ suc d) × OkX L (suc d) c
 
 abbrev pub Ok : ℕ → State → Type 0
 Ok L (items p) = depthP p ≤ L

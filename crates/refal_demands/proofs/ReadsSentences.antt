@@ -6,7 +6,7 @@ use native.Mathlib.Omega.{arith}
 use Rattle.refal_ast.specs.Kinds.{tokLBrace, tokRBrace}
 use Rattle.refal_ast.specs.Kinds.{tokComma, tokColon, tokEquals, tokSemicolon, tokEof}
 use Rattle.refal_ast.specs.Tokens.{Token, token}
-use Rattle.refal_ast.specs.Tree.{Terms, t0, Conditions, c0, cTerms, cBlock, Sentences, s0, sTerms, sBlock}
+use Rattle.refal_ast.specs.Tree.{Terms, t0, Right, rTerms, rBlock, Condition, condition, Conditions, c0, cMore, End, eTerms, eBlock, Sentence, sentence, Sentences, s0, sMore}
 use Rattle.refal_ast.specs.Tree.{depthT, depthC, depthS}
 use Rattle.refal_ast.specs.Flatten.{Flat, mark, flatsOf}
 use Rattle.refal_parser.specs.Machine.{Block, inCondition, inEnding, pattern, argument, matching, result, ending}
@@ -17,7 +17,7 @@ use Rattle.refal_demands.proofs.Levels.{runAt}
 use Rattle.refal_demands.proofs.Respan.{respanC, respanS, eraseT, eraseC, eraseS}
 use Rattle.refal_demands.proofs.Eat.{afterwards, eat, made, stepOn}
 use Rattle.refal_demands.proofs.ReadsTerms.{readsT, useT}
-use Rattle.refal_demands.proofs.Begins.{Not, begins, begins-head, enter, enters-matching, enters-pattern, enters-result}
+use Rattle.refal_demands.proofs.Begins.{Not, begins, begins-with, begins-head, enter, enters-matching, enters-pattern, enters-result}
 
 -- ---- conditions, with the token after them: the comma of another condition or of none, or `=`
 data Sep : Type 0 where
@@ -68,7 +68,7 @@ step-pattern L rest comma d b s st f a e = (nextFrom (made (mark tokComma) a e) 
 step-pattern L rest equals d b s st f a e = (0, refl)
 
 step-matching : (L : ℕ) (rest : List Token) (q : Sep) (d : ℕ) (b : Block) (s : Sentences) (st : ℕ) (f : Terms) (cs : Conditions) (o : ℕ) (g : Terms) (z : ℕ) (h : Terms) (a e : ℕ)
-    → (x : ℕ) × (stepOn L rest (within d (matching b s st f cs o g z) h) (made (mark (sepKind q)) a e) ≡ go (beyond q d b s st f (cTerms cs o g h (lastEnd h z)) x))
+    → (x : ℕ) × (stepOn L rest (within d (matching b s st f cs o g z) h) (made (mark (sepKind q)) a e) ≡ go (beyond q d b s st f (cMore cs (condition o g (rTerms h) (lastEnd h z))) x))
 step-matching L rest comma d b s st f cs o g z h a e = (nextFrom (made (mark tokComma) a e) rest, refl)
 step-matching L rest equals d b s st f cs o g z h a e = (0, refl)
 
@@ -93,27 +93,27 @@ reads-c0 f L ts d b s st q r l l' e =
     let z = step-pattern L ts₂ q d b s st f₁ a₂ b₂ in
     record { g = f₁; hs = c0; x = z .0; rest = ts₂; sameT = m₁; sameC = refl; after = k₂; means = e₁ ∙ e₂ ∙ ap (λ (y : Step). afterwards L ts₂ y) (z .1) }))
 
-reads-cTerms : (cs : Conditions) (a : ℕ) (h i : Terms) (z : ℕ) → AllC cs → AllC (cTerms cs a h i z)
+reads-cTerms : (cs : Conditions) (a : ℕ) (h i : Terms) (z : ℕ) → AllC cs → AllC (cMore cs (condition a h (rTerms i) z))
 unfolding flatC depthC respanC
 reads-cTerms cs a h i z ih f L ts d b s st q r l l' e =
     useC (ih f L ts d b s st comma (flatT h (mark tokColon ∷ flatT i (mark (sepKind q) ∷ r))) l (omega arith) e) (λ f₁ h₁ x₁ ts₁ m₁ n₁ k₁ e₁.
     useT (readsT h L ts₁ d (argument b s st f₁ h₁ x₁) (mark tokColon ∷ flatT i (mark (sepKind q) ∷ r)) (omega arith) k₁) (λ h₂ ts₂ m₂ k₂ e₂.
     eat L ts₂ (mark tokColon) (flatT i (mark (sepKind q) ∷ r)) (within d (argument b s st f₁ h₁ x₁) h₂) k₂ (λ a₃ b₃ ts₃ k₃ e₃.
     let w = enter L tokLBrace tokLBrace ts₃ (flatT i (mark (sepKind q) ∷ r)) d (matched d b s st f₁ h₁ x₁ h₂ b₃) (λ a'. matching b s st f₁ h₁ x₁ h₂ b₃)
-    (enters-matching L d b s st f₁ h₁ x₁ h₂ b₃) (begins i tokLBrace tokLBrace (mark (sepKind q)) r (omega arith) (sep-brace q)) k₃ in
+    (enters-matching L d b s st f₁ h₁ x₁ h₂ b₃) (begins i tokLBrace tokLBrace (mark (sepKind q) ∷ r) (omega arith) (begins-with tokLBrace tokLBrace (mark (sepKind q)) r (sep-brace q))) k₃ in
     useT (readsT i L ts₃ d (matching b s st f₁ h₁ x₁ h₂ b₃) (mark (sepKind q) ∷ r) (omega arith) k₃) (λ i₄ ts₄ m₄ k₄ e₄.
     eat L ts₄ (mark (sepKind q)) r (within d (matching b s st f₁ h₁ x₁ h₂ b₃) i₄) k₄ (λ a₅ b₅ ts₅ k₅ e₅.
     let v = step-matching L ts₅ q d b s st f₁ h₁ x₁ h₂ b₃ i₄ a₅ b₅ in
     record {
       g = f₁;
-      hs = cTerms h₁ x₁ h₂ i₄ (lastEnd i₄ b₃);
+      hs = cMore h₁ (condition x₁ h₂ (rTerms i₄) (lastEnd i₄ b₃));
       x = v .0;
       rest = ts₅;
       sameT = m₁;
       sameC =
-          ap (λ (y : Conditions). cTerms y 0 (eraseT h₂) (eraseT i₄) 0) n₁
-          ∙ ap (λ (y : Terms). cTerms (eraseC cs) 0 y (eraseT i₄) 0) m₂
-          ∙ ap (λ (y : Terms). cTerms (eraseC cs) 0 (eraseT h) y 0) m₄;
+          ap (λ (y : Conditions). cMore y (condition 0 (eraseT h₂) (rTerms (eraseT i₄)) 0)) n₁
+          ∙ ap (λ (y : Terms). cMore (eraseC cs) (condition 0 y (rTerms (eraseT i₄)) 0)) m₂
+          ∙ ap (λ (y : Terms). cMore (eraseC cs) (condition 0 (eraseT h) (rTerms y) 0)) m₄;
       after = k₅;
       means = e₁ ∙ e₂ ∙ e₃ ∙ w .1 ∙ e₄ ∙ e₅ ∙ ap (λ (y : Step). afterwards L ts₅ y) (v .1);
     })))))
@@ -122,7 +122,7 @@ reads-cTerms cs a h i z ih f L ts d b s st q r l l' e =
     sep-brace comma = omega arith
     sep-brace equals = omega arith
 
-reads-cBlock : (cs : Conditions) (a : ℕ) (h : Terms) (o : ℕ) (v : Sentences) (z₁ z : ℕ) → AllC cs → AllS v → AllC (cBlock cs a h o v z₁ z)
+reads-cBlock : (cs : Conditions) (a : ℕ) (h : Terms) (o : ℕ) (v : Sentences) (z₁ z : ℕ) → AllC cs → AllS v → AllC (cMore cs (condition a h (rBlock o v z₁) z))
 unfolding flatC depthC respanC
 reads-cBlock cs a h o v z₁ z ih iv f L ts zero b s st q r l l' e = let y : ⊥ = omega arith in absurd y
 reads-cBlock cs a h o v z₁ z ih iv f L ts (suc d) b s st q r l l' e =
@@ -133,18 +133,18 @@ reads-cBlock cs a h o v z₁ z ih iv f L ts (suc d) b s st q r l l' e =
     eat L ts₃ (mark tokLBrace) (flatS v r₄) (matched (suc d) b s st f₁ h₁ x₁ h₂ b₃) k₃ (λ a₄ b₄ ts₄ k₄ e₄.
     useS (iv L ts₄ d (inCondition b s st f₁ h₁ x₁ h₂) r₄ (omega arith) k₄) (λ v₅ ts₅ m₅ k₅ e₅.
     eat L ts₅ (mark tokRBrace) (mark (sepKind q) ∷ r) (between d (inCondition b s st f₁ h₁ x₁ h₂) v₅) k₅ (λ a₆ b₆ ts₆ k₆ e₆.
-    eat L ts₆ (mark (sepKind q)) r (conditioned (suc d) b s st f₁ (cBlock h₁ x₁ h₂ x₁ v₅ b₆ b₆)) k₆ (λ a₇ b₇ ts₇ k₇ e₇.
-    let w = step-conditioned L ts₇ q (suc d) b s st f₁ (cBlock h₁ x₁ h₂ x₁ v₅ b₆ b₆) a₇ b₇ in
+    eat L ts₆ (mark (sepKind q)) r (conditioned (suc d) b s st f₁ (cMore h₁ (condition x₁ h₂ (rBlock x₁ v₅ b₆) b₆))) k₆ (λ a₇ b₇ ts₇ k₇ e₇.
+    let w = step-conditioned L ts₇ q (suc d) b s st f₁ (cMore h₁ (condition x₁ h₂ (rBlock x₁ v₅ b₆) b₆)) a₇ b₇ in
     record {
       g = f₁;
-      hs = cBlock h₁ x₁ h₂ x₁ v₅ b₆ b₆;
+      hs = cMore h₁ (condition x₁ h₂ (rBlock x₁ v₅ b₆) b₆);
       x = w .0;
       rest = ts₇;
       sameT = m₁;
       sameC =
-          ap (λ (y : Conditions). cBlock y 0 (eraseT h₂) 0 (eraseS v₅) 0 0) n₁
-          ∙ ap (λ (y : Terms). cBlock (eraseC cs) 0 y 0 (eraseS v₅) 0 0) m₂
-          ∙ ap (λ (y : Sentences). cBlock (eraseC cs) 0 (eraseT h) 0 y 0 0) m₅;
+          ap (λ (y : Conditions). cMore y (condition 0 (eraseT h₂) (rBlock 0 (eraseS v₅) 0) 0)) n₁
+          ∙ ap (λ (y : Terms). cMore (eraseC cs) (condition 0 y (rBlock 0 (eraseS v₅) 0) 0)) m₂
+          ∙ ap (λ (y : Sentences). cMore (eraseC cs) (condition 0 (eraseT h) (rBlock 0 y 0) 0)) m₅;
       after = k₇;
       means = e₁ ∙ e₂ ∙ e₃ ∙ e₄ ∙ e₅ ∙ e₆ ∙ e₇ ∙ ap (λ (y : Step). afterwards L ts₇ y) (w .1);
     })))))))
@@ -180,29 +180,29 @@ readsH cs ih f L ts d b s r l l' e =
     useC (ih f L ts d b s (n .0) equals r l l' e) (λ g hs x rest m m' k e₁.
     record { st = n .0; g = g; hs = hs; rest = rest; sameT = m; sameC = m'; after = k; means = n .1 ∙ e₁ })
 
-reads-sTerms : (s : Sentences) (a : ℕ) (f : Terms) (cs : Conditions) (g : Terms) (z : ℕ) → AllS s → AllC cs → AllS (sTerms s a f cs g z)
+reads-sTerms : (s : Sentences) (a : ℕ) (f : Terms) (cs : Conditions) (g : Terms) (z : ℕ) → AllS s → AllC cs → AllS (sMore s (sentence a f cs (eTerms g) z))
 unfolding flatS depthS respanS
 reads-sTerms s a f cs g z is ic L ts d b r l e =
     let r₃ = flatT g (mark tokSemicolon ∷ r) in
     useS (is L ts d b (flatT f (flatC cs (mark tokEquals ∷ r₃))) (omega arith) e) (λ s₁ ts₁ m₁ k₁ e₁.
     useH (readsH cs ic f L ts₁ d b s₁ r₃ (omega arith) (omega arith) k₁) (λ st f₂ c₂ ts₂ m₂ n₂ k₂ e₂.
     let w = enter L tokComma tokComma ts₂ r₃ d (equated d b s₁ st f₂ c₂) (λ a'. result b s₁ st f₂ c₂)
-    (enters-result L d b s₁ st f₂ c₂) (begins g tokComma tokComma (mark tokSemicolon) r (omega arith) (omega arith)) k₂ in
+    (enters-result L d b s₁ st f₂ c₂) (begins g tokComma tokComma (mark tokSemicolon ∷ r) (omega arith) (begins-with tokComma tokComma (mark tokSemicolon) r (omega arith))) k₂ in
     useT (readsT g L ts₂ d (result b s₁ st f₂ c₂) (mark tokSemicolon ∷ r) (omega arith) k₂) (λ g₃ ts₃ m₃ k₃ e₃.
     eat L ts₃ (mark tokSemicolon) r (within d (result b s₁ st f₂ c₂) g₃) k₃ (λ a₄ b₄ ts₄ k₄ e₄.
     record {
-      t = sTerms s₁ st f₂ c₂ g₃ b₄;
+      t = sMore s₁ (sentence st f₂ c₂ (eTerms g₃) b₄);
       rest = ts₄;
       same =
-          ap (λ (y : Sentences). sTerms y 0 (eraseT f₂) (eraseC c₂) (eraseT g₃) 0) m₁
-          ∙ ap (λ (y : Terms). sTerms (eraseS s) 0 y (eraseC c₂) (eraseT g₃) 0) m₂
-          ∙ ap (λ (y : Conditions). sTerms (eraseS s) 0 (eraseT f) y (eraseT g₃) 0) n₂
-          ∙ ap (λ (y : Terms). sTerms (eraseS s) 0 (eraseT f) (eraseC cs) y 0) m₃;
+          ap (λ (y : Sentences). sMore y (sentence 0 (eraseT f₂) (eraseC c₂) (eTerms (eraseT g₃)) 0)) m₁
+          ∙ ap (λ (y : Terms). sMore (eraseS s) (sentence 0 y (eraseC c₂) (eTerms (eraseT g₃)) 0)) m₂
+          ∙ ap (λ (y : Conditions). sMore (eraseS s) (sentence 0 (eraseT f) y (eTerms (eraseT g₃)) 0)) n₂
+          ∙ ap (λ (y : Terms). sMore (eraseS s) (sentence 0 (eraseT f) (eraseC cs) (eTerms y) 0)) m₃;
       after = k₄;
       means = e₁ ∙ e₂ ∙ w .1 ∙ e₃ ∙ e₄;
     }))))
 
-reads-sBlock : (s : Sentences) (a : ℕ) (f : Terms) (cs : Conditions) (o : ℕ) (g : Terms) (v : Sentences) (z₁ z : ℕ) → AllS s → AllC cs → AllS v → AllS (sBlock s a f cs o g v z₁ z)
+reads-sBlock : (s : Sentences) (a : ℕ) (f : Terms) (cs : Conditions) (o : ℕ) (g : Terms) (v : Sentences) (z₁ z : ℕ) → AllS s → AllC cs → AllS v → AllS (sMore s (sentence a f cs (eBlock o g v z₁) z))
 unfolding flatS depthS respanS
 reads-sBlock s a f cs o g v z₁ z is ic iv L ts zero b r l e = let y : ⊥ = omega arith in absurd y
 reads-sBlock s a f cs o g v z₁ z is ic iv L ts (suc d) b r l e =
@@ -219,25 +219,50 @@ reads-sBlock s a f cs o g v z₁ z is ic iv L ts (suc d) b r l e =
     eat L ts₇ (mark tokRBrace) (mark tokSemicolon ∷ r) (between d (inEnding b s₁ st f₂ c₂ x g₄) v₇) k₇ (λ a₈ b₈ ts₈ k₈ e₈.
     eat L ts₈ (mark tokSemicolon) r (ended (suc d) b s₁ st f₂ c₂ x g₄ v₇ b₈) k₈ (λ a₉ b₉ ts₉ k₉ e₉.
     record {
-      t = sBlock s₁ st f₂ c₂ x g₄ v₇ b₈ b₉;
+      t = sMore s₁ (sentence st f₂ c₂ (eBlock x g₄ v₇ b₈) b₉);
       rest = ts₉;
       same =
-          ap (λ (y : Sentences). sBlock y 0 (eraseT f₂) (eraseC c₂) 0 (eraseT g₄) (eraseS v₇) 0 0) m₁
-          ∙ ap (λ (y : Terms). sBlock (eraseS s) 0 y (eraseC c₂) 0 (eraseT g₄) (eraseS v₇) 0 0) m₂
-          ∙ ap (λ (y : Conditions). sBlock (eraseS s) 0 (eraseT f) y 0 (eraseT g₄) (eraseS v₇) 0 0) n₂
-          ∙ ap (λ (y : Terms). sBlock (eraseS s) 0 (eraseT f) (eraseC cs) 0 y (eraseS v₇) 0 0) m₄
-          ∙ ap (λ (y : Sentences). sBlock (eraseS s) 0 (eraseT f) (eraseC cs) 0 (eraseT g) y 0 0) m₇;
+          ap (λ (y : Sentences). sMore y (sentence 0 (eraseT f₂) (eraseC c₂) (eBlock 0 (eraseT g₄) (eraseS v₇) 0) 0)) m₁
+          ∙ ap (λ (y : Terms). sMore (eraseS s) (sentence 0 y (eraseC c₂) (eBlock 0 (eraseT g₄) (eraseS v₇) 0) 0)) m₂
+          ∙ ap (λ (y : Conditions). sMore (eraseS s) (sentence 0 (eraseT f) y (eBlock 0 (eraseT g₄) (eraseS v₇) 0) 0)) n₂
+          ∙ ap (λ (y : Terms). sMore (eraseS s) (sentence 0 (eraseT f) (eraseC cs) (eBlock 0 y (eraseS v₇) 0) 0)) m₄
+          ∙ ap (λ (y : Sentences). sMore (eraseS s) (sentence 0 (eraseT f) (eraseC cs) (eBlock 0 (eraseT g) y 0) 0)) m₇;
       after = k₉;
       means = e₁ ∙ e₂ ∙ e₃ ∙ e₄ ∙ e₅ ∙ e₆ ∙ e₇ ∙ e₈ ∙ e₉;
     })))))))))
 
+-- what is shown of a part that stands after others
+abbrev AllRight : Right → Type 0
+AllRight x = (cs : Conditions) (a : ℕ) (f : Terms) (b : ℕ) → AllC cs → AllC (cMore cs (condition a f x b))
+
+abbrev AllCondition : Condition → Type 0
+AllCondition x = (cs : Conditions) → AllC cs → AllC (cMore cs x)
+
+abbrev AllEnd : End → Type 0
+AllEnd x = (s : Sentences) (a : ℕ) (f : Terms) (cs : Conditions) (b : ℕ) → AllS s → AllC cs → AllS (sMore s (sentence a f cs x b))
+
+abbrev AllSentence : Sentence → Type 0
+AllSentence x = (s : Sentences) → AllS s → AllS (sMore s x)
+
 mutual
+  readsRight : (x : Right) → AllRight x
+  readsRight (rTerms g) = λ cs a f b ic. reads-cTerms cs a f g b ic
+  readsRight (rBlock o v e) = λ cs a f b ic. reads-cBlock cs a f o v e b ic (readsS v)
+
+  readsCondition : (x : Condition) → AllCondition x
+  readsCondition (condition a f x b) = λ cs ic. readsRight x cs a f b ic
+
   readsC : (cs : Conditions) → AllC cs
   readsC c0 = reads-c0
-  readsC (cTerms cs a f g b) = reads-cTerms cs a f g b (readsC cs)
-  readsC (cBlock cs a f o v e b) = reads-cBlock cs a f o v e b (readsC cs) (readsS v)
+  readsC (cMore cs x) = readsCondition x cs (readsC cs)
+
+  readsEnd : (x : End) → AllEnd x
+  readsEnd (eTerms g) = λ s a f cs b is ic. reads-sTerms s a f cs g b is ic
+  readsEnd (eBlock o g v e) = λ s a f cs b is ic. reads-sBlock s a f cs o g v e b is ic (readsS v)
+
+  readsSentence : (x : Sentence) → AllSentence x
+  readsSentence (sentence a f cs x b) = λ s is. readsEnd x s a f cs b is (readsC cs)
 
   pub readsS : (s : Sentences) → AllS s
   readsS s0 = reads-s0
-  readsS (sTerms s a f cs g b) = reads-sTerms s a f cs g b (readsS s) (readsC cs)
-  readsS (sBlock s a f cs o g v e b) = reads-sBlock s a f cs o g v e b (readsS s) (readsC cs) (readsS v)
+  readsS (sMore s x) = readsSentence x s (readsS s)

@@ -3,33 +3,55 @@
 use mathlib.Core.Path.{_≡_, refl}
 use Prim.Native.Nat.{ℕ}
 use native.Mathlib.Omega.{arith}
-use Rattle.refal_ast.specs.Tree.{Terms, t0, tLeaf, tBracket, tCall, Conditions, c0, cTerms, cBlock, Sentences, s0, sTerms, sBlock}
-use Rattle.refal_ast.specs.Tree.{Program, p0, pDeclaration, pFunction, sizeT, sizeC, sizeS, sizeP}
-
-unfoldable pub respanT : Terms → (ℕ → ℕ) → Terms
-respanT t0 h = t0
-respanT (tLeaf f x a b) h = tLeaf (respanT f h) x (h a) (h b)
-respanT (tBracket f a g b) h = tBracket (respanT f h) (h a) (respanT g h) (h b)
-respanT (tCall f a s l g b) h = tCall (respanT f h) (h a) s l (respanT g h) (h b)
+use Rattle.refal_ast.specs.Tree.{Term, leaf, bracket, call, Terms, t0, tMore, Right, rTerms, rBlock, Condition, condition, Conditions, c0, cMore}
+use Rattle.refal_ast.specs.Tree.{End, eTerms, eBlock, Sentence, sentence, Sentences, s0, sMore, Item, declaration, function, Program, p0, pMore}
+use Rattle.refal_ast.specs.Tree.{sizeTerm, sizeT, sizeRight, sizeCondition, sizeC, sizeEnd, sizeSentence, sizeS, sizeItem, sizeP}
 
 unfoldable mutual
+  pub respanTerm : Term → (ℕ → ℕ) → Term
+  respanTerm (leaf x a b) h = leaf x (h a) (h b)
+  respanTerm (bracket a f b) h = bracket (h a) (respanT f h) (h b)
+  respanTerm (call a s l f b) h = call (h a) s l (respanT f h) (h b)
+
+  pub respanT : Terms → (ℕ → ℕ) → Terms
+  respanT t0 h = t0
+  respanT (tMore f x) h = tMore (respanT f h) (respanTerm x h)
+
+unfoldable mutual
+  pub respanRight : Right → (ℕ → ℕ) → Right
+  respanRight (rTerms f) h = rTerms (respanT f h)
+  respanRight (rBlock a v b) h = rBlock (h a) (respanS v h) (h b)
+
+  pub respanCondition : Condition → (ℕ → ℕ) → Condition
+  respanCondition (condition a f x b) h = condition (h a) (respanT f h) (respanRight x h) (h b)
+
   pub respanC : Conditions → (ℕ → ℕ) → Conditions
   respanC c0 h = c0
-  respanC (cTerms cs a f g b) h = cTerms (respanC cs h) (h a) (respanT f h) (respanT g h) (h b)
-  respanC (cBlock cs a f o v e b) h = cBlock (respanC cs h) (h a) (respanT f h) (h o) (respanS v h) (h e) (h b)
+  respanC (cMore cs x) h = cMore (respanC cs h) (respanCondition x h)
+
+  pub respanEnd : End → (ℕ → ℕ) → End
+  respanEnd (eTerms f) h = eTerms (respanT f h)
+  respanEnd (eBlock a f v b) h = eBlock (h a) (respanT f h) (respanS v h) (h b)
+
+  pub respanSentence : Sentence → (ℕ → ℕ) → Sentence
+  respanSentence (sentence a f cs x b) h = sentence (h a) (respanT f h) (respanC cs h) (respanEnd x h) (h b)
 
   pub respanS : Sentences → (ℕ → ℕ) → Sentences
   respanS s0 h = s0
-  respanS (sTerms s a f cs g b) h = sTerms (respanS s h) (h a) (respanT f h) (respanC cs h) (respanT g h) (h b)
-  respanS (sBlock s a f cs o g v e b) h =
-      sBlock (respanS s h) (h a) (respanT f h) (respanC cs h) (h o) (respanT g h) (respanS v h) (h e) (h b)
+  respanS (sMore s x) h = sMore (respanS s h) (respanSentence x h)
+
+abbrev pub respanItem : Item → (ℕ → ℕ) → Item
+respanItem (declaration a ns b) h = declaration (h a) ns (h b)
+respanItem (function a x s l v b) h = function (h a) x s l (respanS v h) (h b)
 
 unfoldable pub respanP : Program → (ℕ → ℕ) → Program
 respanP p0 h = p0
-respanP (pDeclaration p a ns b) h = pDeclaration (respanP p h) (h a) ns (h b)
-respanP (pFunction p a x s l v b) h = pFunction (respanP p h) (h a) x s l (respanS v h) (h b)
+respanP (pMore p x) h = pMore (respanP p h) (respanItem x h)
 
 -- ---- the spans forgotten
+abbrev pub eraseTerm : Term → Term
+eraseTerm x = respanTerm x (λ (x : ℕ). 0)
+
 abbrev pub eraseT : Terms → Terms
 eraseT f = respanT f (λ (x : ℕ). 0)
 
@@ -39,62 +61,103 @@ eraseC cs = respanC cs (λ (x : ℕ). 0)
 abbrev pub eraseS : Sentences → Sentences
 eraseS s = respanS s (λ (x : ℕ). 0)
 
+abbrev pub eraseItem : Item → Item
+eraseItem x = respanItem x (λ (x : ℕ). 0)
+
 abbrev pub eraseP : Program → Program
 eraseP p = respanP p (λ (x : ℕ). 0)
 
 -- ---- the spans kept
-sameT : (f : Terms) → respanT f (λ (x : ℕ). x) ≡ f
-unfolding respanT
-sameT t0 = refl
-sameT (tLeaf f x a b) = rw (sameT f)
-sameT (tBracket f a g b) = rw (sameT f, sameT g)
-sameT (tCall f a s l g b) = rw (sameT f, sameT g)
+mutual
+  unfolding respanT
+
+  sameTerm : (x : Term) → respanTerm x (λ (x : ℕ). x) ≡ x
+  sameTerm (leaf x a b) = refl
+  sameTerm (bracket a f b) = let h = sameT f in cc
+  sameTerm (call a s l f b) = let h = sameT f in cc
+
+  sameT : (f : Terms) → respanT f (λ (x : ℕ). x) ≡ f
+  sameT t0 = refl
+  sameT (tMore f x) = let h = sameT f in let i = sameTerm x in cc
 
 mutual
   unfolding respanC
 
+  sameRight : (x : Right) → respanRight x (λ (x : ℕ). x) ≡ x
+  sameRight (rTerms f) = let h = sameT f in cc
+  sameRight (rBlock a v b) = let h = sameS v in cc
+
+  sameCondition : (x : Condition) → respanCondition x (λ (x : ℕ). x) ≡ x
+  sameCondition (condition a f x b) = let h = sameT f in let i = sameRight x in cc
+
   sameC : (cs : Conditions) → respanC cs (λ (x : ℕ). x) ≡ cs
   sameC c0 = refl
-  sameC (cTerms cs a f g b) = let h = sameC cs in let i = sameT f in let j = sameT g in cc
-  sameC (cBlock cs a f o v e b) = let h = sameC cs in let i = sameT f in let j = sameS v in cc
+  sameC (cMore cs x) = let h = sameC cs in let i = sameCondition x in cc
+
+  sameEnd : (x : End) → respanEnd x (λ (x : ℕ). x) ≡ x
+  sameEnd (eTerms f) = let h = sameT f in cc
+  sameEnd (eBlock a f v b) = let h = sameT f in let i = sameS v in cc
+
+  sameSentence : (x : Sentence) → respanSentence x (λ (x : ℕ). x) ≡ x
+  sameSentence (sentence a f cs x b) = let h = sameT f in let i = sameC cs in let j = sameEnd x in cc
 
   sameS : (s : Sentences) → respanS s (λ (x : ℕ). x) ≡ s
   sameS s0 = refl
-  sameS (sTerms s a f cs g b) = let h = sameS s in let i = sameT f in let j = sameC cs in let k = sameT g in cc
-  sameS (sBlock s a f cs o g v e b) = let h = sameS s in let i = sameT f in let j = sameC cs in let k = sameT g in let l = sameS v in cc
+  sameS (sMore s x) = let h = sameS s in let i = sameSentence x in cc
+
+sameItem : (x : Item) → respanItem x (λ (x : ℕ). x) ≡ x
+sameItem (declaration a ns b) = refl
+sameItem (function a x s l v b) = let h = sameS v in cc
 
 pub sameP : (p : Program) → respanP p (λ (x : ℕ). x) ≡ p
 unfolding respanP
 sameP p0 = refl
-sameP (pDeclaration p a ns b) = let h = sameP p in cc
-sameP (pFunction p a x s l v b) = let h = sameP p in let i = sameS v in cc
+sameP (pMore p x) = let h = sameP p in let i = sameItem x in cc
 
 -- ---- a tree has as many rows, whatever its spans
 module _ (h : ℕ → ℕ) where
-  pub size-respanT : (f : Terms) → sizeT (respanT f h) ≡ sizeT f
-  unfolding sizeT respanT
-  size-respanT t0 = refl
-  size-respanT (tLeaf f x a b) = let i = size-respanT f in omega arith
-  size-respanT (tBracket f a g b) = let i = size-respanT f in let j = size-respanT g in omega arith
-  size-respanT (tCall f a s l g b) = let i = size-respanT f in let j = size-respanT g in omega arith
+  mutual
+    unfolding sizeT respanT
+
+    size-respanTerm : (x : Term) → sizeTerm (respanTerm x h) ≡ sizeTerm x
+    size-respanTerm (leaf x a b) = refl
+    size-respanTerm (bracket a f b) = let i = size-respanT f in omega arith
+    size-respanTerm (call a s l f b) = let i = size-respanT f in omega arith
+
+    pub size-respanT : (f : Terms) → sizeT (respanT f h) ≡ sizeT f
+    size-respanT t0 = refl
+    size-respanT (tMore f x) = let i = size-respanT f in let j = size-respanTerm x in omega arith
 
   mutual
     unfolding sizeC respanC
 
+    pub size-respanRight : (x : Right) → sizeRight (respanRight x h) ≡ sizeRight x
+    size-respanRight (rTerms f) = let i = size-respanT f in omega arith
+    size-respanRight (rBlock a v b) = let i = size-respanS v in omega arith
+
+    size-respanCondition : (x : Condition) → sizeCondition (respanCondition x h) ≡ sizeCondition x
+    size-respanCondition (condition a f x b) = let i = size-respanT f in let j = size-respanRight x in omega arith
+
     pub size-respanC : (cs : Conditions) → sizeC (respanC cs h) ≡ sizeC cs
     size-respanC c0 = refl
-    size-respanC (cTerms cs a f g b) = let i = size-respanC cs in let j = size-respanT f in let k = size-respanT g in omega arith
-    size-respanC (cBlock cs a f o v e b) = let i = size-respanC cs in let j = size-respanT f in let k = size-respanS v in omega arith
+    size-respanC (cMore cs x) = let i = size-respanC cs in let j = size-respanCondition x in omega arith
+
+    pub size-respanEnd : (x : End) → sizeEnd (respanEnd x h) ≡ sizeEnd x
+    size-respanEnd (eTerms f) = let i = size-respanT f in omega arith
+    size-respanEnd (eBlock a f v b) = let i = size-respanT f in let j = size-respanS v in omega arith
+
+    size-respanSentence : (x : Sentence) → sizeSentence (respanSentence x h) ≡ sizeSentence x
+    size-respanSentence (sentence a f cs x b) = let i = size-respanT f in let j = size-respanC cs in let k = size-respanEnd x in omega arith
 
     pub size-respanS : (s : Sentences) → sizeS (respanS s h) ≡ sizeS s
     size-respanS s0 = refl
-    size-respanS (sTerms s a f cs g b) =
-        let i = size-respanS s in let j = size-respanT f in let k = size-respanC cs in let l = size-respanT g in omega arith
-    size-respanS (sBlock s a f cs o g v e b) =
-        let i = size-respanS s in let j = size-respanT f in let k = size-respanC cs in let l = size-respanT g in let m = size-respanS v in omega arith
+    size-respanS (sMore s x) = let i = size-respanS s in let j = size-respanSentence x in omega arith
+
+  size-respanItem : (x : Item) → sizeItem (respanItem x h) ≡ sizeItem x
+  size-respanItem (declaration a ns b) = refl
+  size-respanItem (function a x s l v b) = let i = size-respanS v in omega arith
 
   pub size-respanP : (p : Program) → sizeP (respanP p h) ≡ sizeP p
   unfolding sizeP respanP
   size-respanP p0 = refl
-  size-respanP (pDeclaration p a ns b) = let i = size-respanP p in omega arith
-  size-respanP (pFunction p a x s l v b) = let i = size-respanP p in let j = size-respanS v in omega arith
+  size-respanP (pMore p x) = let i = size-respanP p in let j = size-respanItem x in omega arith

@@ -9,15 +9,15 @@ use borrow.Author.Tests.{eqb-true, eqb-false}
 use Rattle.refal_ast.specs.Kinds.{tokEntry, tokExtern, tokIdentifier, tokVariable, tokNumber, tokChar, tokLBrace, tokRBrace, tokLParen, tokRParen}
 use Rattle.refal_ast.specs.Kinds.{tokLAngle, tokRAngle, tokComma, tokColon, tokEquals, tokSemicolon, tokEof}
 use Rattle.refal_ast.specs.Tokens.{Token}
-use Rattle.refal_ast.specs.Tree.{Leaf, variable, Terms, t0, tLeaf, Conditions, c0, cTerms, Sentences, s0}
+use Rattle.refal_ast.specs.Tree.{Leaf, variable, leaf, Terms, t0, tMore, rTerms, condition, Conditions, c0, cMore, Sentences, s0, declaration, function}
 use Rattle.refal_ast.specs.Tree.{Program, depthT, depthC, depthS, depthP}
-use Rattle.refal_ast.specs.Flatten.{Flat, flatToken, mark, nameOf, flatOf, flatsOf, flatLeaf, flatEntry, flatDeclaration, flatFunction}
-use Rattle.refal_ast.specs.Flatten.{Loose, loose-semicolon, loose-declaration, loose-function}
+use Rattle.refal_ast.specs.Flatten.{Flat, flatToken, mark, nameOf, flatOf, flatsOf, flatLeaf, flatEntry, flattenItem}
+use Rattle.refal_ast.specs.Flatten.{Loose, loose-semicolon, loose-item}
 use Rattle.refal_ast.specs.declared.tree.VariableKind.{VariableKind}
 use Rattle.refal_ast.specs.declared.tree.VariableKind.the-variants.{Symbol as kindS, Term as kindT, Expression as kindE}
 use Rattle.refal_ast.specs.declared.tree.Term.{Term}
 use Rattle.refal_parser.specs.Machine.{pickTerm, Block, body, inCondition, inEnding}
-use Rattle.refal_parser.specs.Machine.{Place, pattern, argument, matching, result, ending, bracket, call}
+use Rattle.refal_parser.specs.Machine.{Place, pattern, argument, matching, result, ending, inBracket, inCall}
 use Rattle.refal_parser.specs.Machine.{State, items, wantsName, wantsMore, named, entered, headed, between, within, calling}
 use Rattle.refal_parser.specs.Machine.{matched, conditioned, equated, blocked, ended, tree, refuse, Step, go, stop, pick, on}
 use Rattle.refal_parser.specs.Machine.{opens, closing, lastEnd, afterPattern, afterTerms, endOf, inTerms, atTerms, leave, step, follow}
@@ -106,19 +106,19 @@ module _ (L : ℕ) (ts : List Token) (next : Next L ts) (r : Program) (t : Token
   soundEnd d (pattern b s st) f = soundTerms (within d (pattern b s st) f) d b s st f c0 (λ ks. refl) refl (λ o. (record { sentences = o .1 .0; pattern = o .0; conditions = omega arith }, o .1 .1))
   soundEnd d (argument b s st h cs a) f = closes _ _ tokColon (plain t tokColon (λ d s l. refl) fields) refl refl (λ o. (o .1 .0, o .0, o .1 .1))
   soundEnd d (matching b s st h cs a g e) f =
-      soundTerms (within d (matching b s st h cs a g e) f) d b s st h (cTerms cs a g f (lastEnd f e)) (λ ks. refl) refl
+      soundTerms (within d (matching b s st h cs a g e) f) d b s st h (cMore cs (condition a g (rTerms f) (lastEnd f e))) (λ ks. refl) refl
       (λ o. (record { sentences = o .1 .0 .sentences; pattern = o .1 .0 .pattern; conditions = let h₀ = o .0 in let h₁ = o .1 .0 .conditions in let h₂ = o .1 .1 in omega arith }, o .1 .2))
   soundEnd d (result b s st h cs) f =
       closes _ _ tokSemicolon (plain t tokSemicolon (λ d s l. refl) fields) refl refl
       (λ o. ((let h₀ = o .0 in let h = o .1 .0 in let h₁ = h .sentences in let h₂ = h .pattern in let h₃ = h .conditions in omega arith), o .1 .1))
   soundEnd d (ending b s st h cs a) f = closes _ _ tokColon (plain t tokColon (λ d s l. refl) fields) refl refl (λ o. (o .1 .0, o .0, o .1 .1))
-  soundEnd d (bracket c g a) f = closes _ _ tokRParen (plain t tokRParen (λ d s l. refl) fields) refl refl (λ o. ((let h₀ = o .0 in let h₁ = o .1 .0 in omega arith), o .1 .1))
-  soundEnd d (call c g a s l) f = closes _ _ tokRAngle (plain t tokRAngle (λ d s l. refl) fields) refl refl (λ o. ((let h₀ = o .0 in let h₁ = o .1 .0 in omega arith), o .1 .1))
+  soundEnd d (inBracket c g a) f = closes _ _ tokRParen (plain t tokRParen (λ d s l. refl) fields) refl refl (λ o. ((let h₀ = o .0 in let h₁ = o .1 .0 in omega arith), o .1 .1))
+  soundEnd d (inCall c g a s l) f = closes _ _ tokRAngle (plain t tokRAngle (λ d s l. refl) fields) refl refl (λ o. ((let h₀ = o .0 in let h₁ = o .1 .0 in omega arith), o .1 .1))
 
   -- a term of one token
-  leaf : (d : ℕ) (c : Place) (f : Terms) (z : Leaf) → flatOf t ≡ flatLeaf z → Good (within d c f) (go (within d c (tLeaf f z (t .from) (t .to))))
+  oneToken : (d : ℕ) (c : Place) (f : Terms) (z : Leaf) → flatOf t ≡ flatLeaf z → Good (within d c f) (go (within d c (tMore f (leaf z (t .from) (t .to)))))
   unfolding flatT depthT
-  leaf d c f z e = goes _ _ (flatLeaf z) e refl refl (λ o. o)
+  oneToken d c f z e = goes _ _ (flatLeaf z) e refl refl (λ o. ((let h = o .0 in omega arith), o .1))
 
   -- a variable with this letter
   varied : (v : VariableKind) (letter : ℕ) → t .kind ≡ tokVariable → t .detail ≡ letter
@@ -133,18 +133,18 @@ module _ (L : ℕ) (ts : List Token) (next : Next L ts) (r : Program) (t : Token
   soundIn : (d : ℕ) (c : Place) (f : Terms) → Good (within d c f) (atTerms d c f t x y)
   unfolding flatT depthT
   soundIn d c f =
-      term-cases (GoodTerm d c f) (t .kind) tokIdentifier _ _ (λ e. leaf d c f _ (texted t tokIdentifier (λ d s l. refl) fields e))
-      (term-cases (GoodTerm d c f) (t .kind) tokNumber _ _ (λ e. leaf d c f _ (texted t tokNumber (λ d s l. refl) fields e))
-      (term-cases (GoodTerm d c f) (t .kind) tokChar _ _ (λ e. leaf d c f _ (detailed t fields e))
+      term-cases (GoodTerm d c f) (t .kind) tokIdentifier _ _ (λ e. oneToken d c f _ (texted t tokIdentifier (λ d s l. refl) fields e))
+      (term-cases (GoodTerm d c f) (t .kind) tokNumber _ _ (λ e. oneToken d c f _ (texted t tokNumber (λ d s l. refl) fields e))
+      (term-cases (GoodTerm d c f) (t .kind) tokChar _ _ (λ e. oneToken d c f _ (detailed t fields e))
       (term-cases (GoodTerm d c f) (t .kind) tokVariable _ _
       (λ e.
-      term-cases (GoodTerm d c f) (t .detail) 115 _ _ (λ h. leaf d c f _ (varied kindS 115 e h refl))
-      (term-cases (GoodTerm d c f) (t .detail) 116 _ _ (λ h. leaf d c f _ (varied kindT 116 e h refl))
-      (term-cases (GoodTerm d c f) (t .detail) 101 _ _ (λ h. leaf d c f _ (varied kindE 101 e h refl)) (stops _ _ _ _ _ _))))
+      term-cases (GoodTerm d c f) (t .detail) 115 _ _ (λ h. oneToken d c f _ (varied kindS 115 e h refl))
+      (term-cases (GoodTerm d c f) (t .detail) 116 _ _ (λ h. oneToken d c f _ (varied kindT 116 e h refl))
+      (term-cases (GoodTerm d c f) (t .detail) 101 _ _ (λ h. oneToken d c f _ (varied kindE 101 e h refl)) (stops _ _ _ _ _ _))))
       (term-cases (GoodTerm d c f) (t .kind) tokLParen _ _ (λ e. opening d e)
       (term-cases (GoodTerm d c f) (t .kind) tokLAngle _ _ (λ e. calls d e) (soundEnd d c f))))))
     where
-      opening : (d : ℕ) → t .kind ≡ tokLParen → Good (within d c f) (opens d t (λ (d' : ℕ). within d' (bracket c f (t .from)) t0))
+      opening : (d : ℕ) → t .kind ≡ tokLParen → Good (within d c f) (opens d t (λ (d' : ℕ). within d' (inBracket c f (t .from)) t0))
       opening zero e = stops _ _ _ _ _ _
       opening (suc d) e = goes _ _ _ (plain t tokLParen (λ d s l. refl) fields e) refl refl (λ o. (omega arith, o))
 
@@ -163,9 +163,9 @@ module _ (L : ℕ) (ts : List Token) (next : Next L ts) (r : Program) (t : Token
   soundLeave : (d : ℕ) (b : Block) (s : Sentences) → t .kind ≡ tokRBrace → Good (between d b s) (go (leave d b s t))
   unfolding flatT flatS flatC depthT depthC depthS depthP
   soundLeave d (body p a z m n) s e =
-      ends-item _ _ (mark tokRBrace) (flatFunction z m n s) (plain t tokRBrace (λ d s l. refl) fields e)
+      ends-item _ _ (mark tokRBrace) (flattenItem (function a z m n s (t .to))) (plain t tokRBrace (λ d s l. refl) fields e)
       (ap (λ (q : List Flat). flatEntry z ++ (nameOf m n ∷ mark tokLBrace ∷ q)) (flatS-is s (mark tokRBrace ∷ flatsOf ts)) ∙ simp append-assoc)
-      (λ l₀ h. loose-function h)
+      (λ l₀ h. loose-item h)
       (λ o. let h₀ = o .0 in let h₁ = o .1 .0 in let h₂ = o .1 .1 in omega arith)
   soundLeave d (inCondition b s' st f cs a g) s e =
       goes _ _ (mark tokRBrace) (plain t tokRBrace (λ d s l. refl) fields e) refl refl
@@ -202,9 +202,9 @@ module _ (L : ℕ) (ts : List Token) (next : Next L ts) (r : Program) (t : Token
   soundStep (named p a ns) z =
       on-cases (Good (named p a ns)) (t .kind) tokComma _ _ (λ e. goes _ _ _ (plain t tokComma (λ d s l. refl) fields e) refl refl (λ o. o)) (λ n₁.
       on-cases (Good (named p a ns)) (t .kind) tokSemicolon _ _
-      (λ e. ends-item _ _ (mark tokSemicolon) (flatDeclaration ns) (plain t tokSemicolon (λ d s l. refl) fields e)
+      (λ e. ends-item _ _ (mark tokSemicolon) (flattenItem (declaration a ns (t .to))) (plain t tokSemicolon (λ d s l. refl) fields e)
       (ap (λ (q : List Flat). mark tokExtern ∷ q) (flatN-is ns (mark tokSemicolon ∷ flatsOf ts)) ∙ simp append-assoc)
-      (λ l₀ h. loose-declaration h) (λ o. o)) (λ n₂.
+      (λ l₀ h. loose-item h) (λ o. let h₀ = o in omega arith)) (λ n₂.
       stops _ _ _ _ _ _))
   soundStep (entered p a) z =
       on-cases (Good (entered p a)) (t .kind) tokIdentifier _ _ (λ e. goes _ _ _ (texted t tokIdentifier (λ d s l. refl) fields e) refl refl (λ o. o)) (λ n. stops _ _ _ _ _ _)

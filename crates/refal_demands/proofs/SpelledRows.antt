@@ -1,6 +1,7 @@
 -- Where the tokens that a tree flattens to are sound in a source, the rows of the tree pass the test for refusal 41.
 use mathlib.Core.Path.{_≡_, refl, sym, ap, subst, _∙_}
-use Prim.Native.Nat.{ℕ, _+_}
+use Prim.Native.Nat.{ℕ, _+_, _≤_}
+use lib.ListN.{length, length-take, length-drop}
 use mathlib.Core.Bool.{Bool, true, false, _&&_}
 use mathlib.Core.List.{List, [], _∷_, _++_, append-nil, append-assoc}
 use native.Mathlib.Omega.{arith}
@@ -9,10 +10,11 @@ use Rattle.refal_ast.specs.Kinds.{tokExtern, tokIdentifier, tokChar, tokLBrace,
 use Rattle.refal_ast.specs.Kinds.{tokComma, tokColon, tokEquals, tokSemicolon}
 use Rattle.refal_ast.specs.Kinds.{nodeDeclaration, nodeName, nodeFunction, nodeSentence, nodeCondition, nodeTerms, nodeEndingBlock, nodeConditionBlock}
 use Rattle.refal_ast.specs.Kinds.{nodeIdentifier, nodeNumber, nodeChar, nodeVariable, nodeBracket, nodeCall}
-use Rattle.refal_ast.specs.Nodes.{node}
-use Rattle.refal_ast.specs.Encode.{letterOf, entryWord, leafRow, encT, encTerms, encC, encS, encN, encP}
-use Rattle.refal_ast.specs.Tree.{Leaf, symbol, variable, Terms, t0, tLeaf, tBracket, tCall, Conditions, c0, cTerms, cBlock, Sentences, s0, sTerms, sBlock}
-use Rattle.refal_ast.specs.Tree.{Names, nOne, nMore, Program, p0, pDeclaration, pFunction}
+use Rattle.refal_ast.specs.Limits.{mostBytes}
+use Rattle.refal_ast.specs.Nodes.{node, nodesOf}
+use Rattle.refal_ast.specs.Encode.{letterOf, entryWord, leafRow, encTerm, encT, encTerms, encRight, encCondition, encC, encEnd, encSentence, encS, encN, encItem, encP}
+use Rattle.refal_ast.specs.Tree.{Leaf, symbol, variable, Term, leaf, bracket, call, Terms, t0, tMore, Right, rTerms, rBlock, Condition, condition, Conditions, c0, cMore}
+use Rattle.refal_ast.specs.Tree.{End, eTerms, eBlock, Sentence, sentence, Sentences, s0, sMore, Names, nOne, nMore, Item, declaration, function, Program, p0, pMore}
 use Rattle.refal_ast.specs.Flatten.{Flat, mark, nameOf, flatLeaf, flatEntry, flattenP}
 use Rattle.refal_ast.specs.declared.tree.Symbol.the-variants.{Char, Identifier, Number}
 use Rattle.refal_spelling.specs.Spell.{Spelled, textAt}
@@ -20,8 +22,8 @@ use Rattle.refal_spelling.specs.Spells.{spells}
 use Rattle.refal_spelling.specs.SpellsLaws.{identifier-spells, number-spells, good-index}
 use Rattle.refal_spelling.specs.Good.{Good, entry, extern, identifier, variableOf, number, character, mark as oneByte}
 use Rattle.refal_spelling.specs.Sound.{Sound, AllSound, sound-more}
-use Rattle.refal_spelling.specs.Spellings.{charOk, inSource, rowSpelled, allSpelled}
-use Rattle.refal_demands.proofs.Flats.{flatT, flatC, flatS, flatN, flatP, flatP-is}
+use Rattle.refal_spelling.specs.Spellings.{charOk, inSource, rowSpelled, nodesSpelled, allSpelled}
+use Rattle.refal_demands.proofs.Flats.{flatTerm, flatT, flatRight, flatCondition, flatC, flatEnd, flatSentence, flatS, flatN, flatItem, flatP, flatP-is}
 
 -- a Char that reading gives can be written
 char-good : (t : Spelled) → Good t → t .kind ≡ tokChar → charOk (t .detail) ≡ true
@@ -33,7 +35,7 @@ char-good t (number w n) e = absurd (omega arith)
 char-good t (character x sc n) e = rw (ne-eqb x 10 n, le-leb x 1114111 (sc .top), sc .plain) refl
 char-good t (oneByte k lo hi) e = absurd (omega arith)
 
-module _ (src : List ℕ) where
+module _ (src : List ℕ) (short : length src ≤ mostBytes) where
   -- the words x are rows that pass, whatever follows
   record Passes (x : List ℕ) : Type 0 where
     before : (w : List ℕ) → allSpelled src (x ++ w) ≡ allSpelled src w
@@ -45,8 +47,11 @@ module _ (src : List ℕ) where
   both {x} {y} p q = record { before = λ w. ap (allSpelled src) (append-assoc x y w) ∙ p .before (y ++ w) ∙ q .before w }
 
   row : (k d s l a b n : ℕ) → rowSpelled src k d s l ≡ true → Passes (node k d s l a b n)
-  unfolding allSpelled
-  row k d s l a b n h = record { before = λ w. ap (λ (z : Bool). z && allSpelled src w) h }
+  unfolding allSpelled nodesSpelled nodesOf
+  row k d s l a b n h = record { before = λ w. ap (λ (z : Bool). z && nodesSpelled src (nodesOf w)) h }
+
+  text-short : (s l : ℕ) → s + l ≤ length src → length (textAt src s l) ≤ mostBytes
+  text-short s l h = simp (length-take, length-drop) (omega arith)
 
   first : {c : Flat} {r : List Flat} → AllSound src (c ∷ r) → Sound src c
   first (sound-more h a) = h
@@ -58,32 +63,36 @@ module _ (src : List ℕ) where
   name : (s l : ℕ) → Sound src (nameOf s l) → inSource src s l && spells tokIdentifier (textAt src s l) ≡ true
   name s l h = rw (le-leb (s + l) _ (h .inside), identifier-spells 0 (textAt src s l) (h .good)) refl
 
-  leaf : (x : Leaf) → Sound src (flatLeaf x) → (a b n : ℕ) → Passes (leafRow x a b n)
+  oneLeaf : (x : Leaf) → Sound src (flatLeaf x) → (a b n : ℕ) → Passes (leafRow x a b n)
   unfolding rowSpelled
-  leaf (symbol (Char x)) h a b n = row nodeChar x 0 0 a b n (char-good _ (h .good) refl)
-  leaf (symbol (Identifier s l)) h a b n = row nodeIdentifier 0 s l a b n (name s l h)
-  leaf (symbol (Number s l)) h a b n = row nodeNumber 0 s l a b n (rw (le-leb (s + l) _ (h .inside), number-spells 0 (textAt src s l) (h .good)) refl)
-  leaf (variable v s l) h a b n = row nodeVariable (letterOf v) s l a b n (rw (le-leb (s + l) _ (h .inside), good-index (letterOf v) (textAt src s l) (h .good) .1) refl)
+  oneLeaf (symbol (Char x)) h a b n = row nodeChar x 0 0 a b n (char-good _ (h .good) refl)
+  oneLeaf (symbol (Identifier s l)) h a b n = row nodeIdentifier 0 s l a b n (name s l h)
+  oneLeaf (symbol (Number s l)) h a b n = row nodeNumber 0 s l a b n (rw (le-leb (s + l) _ (h .inside), number-spells 0 (textAt src s l) (h .good), le-leb _ _ (text-short s l (h .inside))) refl)
+  oneLeaf (variable v s l) h a b n = row nodeVariable (letterOf v) s l a b n (rw (le-leb (s + l) _ (h .inside), good-index (letterOf v) (textAt src s l) (h .good) .1) refl)
 
   -- a part of a tree whose rows pass, wherever they stand, and the tokens behind it
   record Part (rows : ℕ → List ℕ) (r : List Flat) : Type 0 where
     pass : (n : ℕ) → Passes (rows n)
     behind : AllSound src r
 
-  spelledT : (f : Terms) (r : List Flat) → AllSound src (flatT f r) → Part (encT f) r
-  unfolding flatT encT rowSpelled
-  spelledT t0 r h = record { pass = λ n. none; behind = h }
-  spelledT (tLeaf f x a b) r h =
-      let p = spelledT f (flatLeaf x ∷ r) h in
-      record { pass = λ n. both (p .pass n) (leaf x (first (p .behind)) a b _); behind = rest (p .behind) }
-  spelledT (tBracket f a g b) r h =
-      let p = spelledT f (mark tokLParen ∷ flatT g (mark tokRParen ∷ r)) h in
-      let q = spelledT g (mark tokRParen ∷ r) (rest (p .behind)) in
-      record { pass = λ n. both (p .pass n) (both (row nodeBracket 0 0 0 a b _ refl) (q .pass _)); behind = rest (q .behind) }
-  spelledT (tCall f a s l g b) r h =
-      let p = spelledT f (mark tokLAngle ∷ nameOf s l ∷ flatT g (mark tokRAngle ∷ r)) h in
-      let q = spelledT g (mark tokRAngle ∷ r) (rest (rest (p .behind))) in
-      record { pass = λ n. both (p .pass n) (both (row nodeCall 0 s l a b _ (name s l (first (rest (p .behind))))) (q .pass _)); behind = rest (q .behind) }
+  mutual
+    unfolding flatT encT rowSpelled
+
+    spelledTerm : (x : Term) (r : List Flat) → AllSound src (flatTerm x r) → Part (encTerm x) r
+    spelledTerm (leaf x a b) r h = record { pass = λ n. oneLeaf x (first h) a b _; behind = rest h }
+    spelledTerm (bracket a f b) r h =
+        let q = spelledT f (mark tokRParen ∷ r) (rest h) in
+        record { pass = λ n. both (row nodeBracket 0 0 0 a b _ refl) (q .pass _); behind = rest (q .behind) }
+    spelledTerm (call a s l f b) r h =
+        let q = spelledT f (mark tokRAngle ∷ r) (rest (rest h)) in
+        record { pass = λ n. both (row nodeCall 0 s l a b _ (name s l (first (rest h)))) (q .pass _); behind = rest (q .behind) }
+
+    spelledT : (f : Terms) (r : List Flat) → AllSound src (flatT f r) → Part (encT f) r
+    spelledT t0 r h = record { pass = λ n. none; behind = h }
+    spelledT (tMore f x) r h =
+        let p = spelledT f (flatTerm x r) h in
+        let q = spelledTerm x r (p .behind) in
+        record { pass = λ n. both (p .pass n) (q .pass _); behind = q .behind }
 
   -- a Terms row and its terms
   terms : (f : Terms) → ((n : ℕ) → Passes (encT f n)) → (n : ℕ) → Passes (encTerms f n)
@@ -93,45 +102,45 @@ module _ (src : List ℕ) where
   mutual
     unfolding flatC encC rowSpelled
 
+    spelledRight : (x : Right) (r : List Flat) → AllSound src (flatRight x r) → Part (encRight x) r
+    spelledRight (rTerms f) r h = let p = spelledT f r h in record { pass = terms f (p .pass); behind = p .behind }
+    spelledRight (rBlock a v b) r h =
+        let p = spelledS v (mark tokRBrace ∷ r) (rest h) in
+        record { pass = λ n. both (row nodeConditionBlock 0 0 0 a b _ refl) (p .pass _); behind = rest (p .behind) }
+
+    spelledCondition : (x : Condition) (r : List Flat) → AllSound src (flatCondition x r) → Part (encCondition x) r
+    spelledCondition (condition a f x b) r h =
+        let p = spelledT f (mark tokColon ∷ flatRight x r) (rest h) in
+        let q = spelledRight x r (rest (p .behind)) in
+        record { pass = λ n. both (row nodeCondition 0 0 0 a b _ refl) (both (terms f (p .pass) _) (q .pass _)); behind = q .behind }
+
     spelledC : (cs : Conditions) (r : List Flat) → AllSound src (flatC cs r) → Part (encC cs) r
     spelledC c0 r h = record { pass = λ n. none; behind = h }
-    spelledC (cTerms cs a f g b) r h =
-        let p = spelledC cs (mark tokComma ∷ flatT f (mark tokColon ∷ flatT g r)) h in
-        let q = spelledT f (mark tokColon ∷ flatT g r) (rest (p .behind)) in
-        let t = spelledT g r (rest (q .behind)) in
-        record { pass = λ n. both (p .pass n) (both (row nodeCondition 0 0 0 a b _ refl) (both (terms f (q .pass) _) (terms g (t .pass) _))); behind = t .behind }
-    spelledC (cBlock cs a f o v e b) r h =
-        let p = spelledC cs (mark tokComma ∷ flatT f (mark tokColon ∷ mark tokLBrace ∷ flatS v (mark tokRBrace ∷ r))) h in
-        let q = spelledT f (mark tokColon ∷ mark tokLBrace ∷ flatS v (mark tokRBrace ∷ r)) (rest (p .behind)) in
-        let t = spelledS v (mark tokRBrace ∷ r) (rest (rest (q .behind))) in
-        record {
-          pass = λ n. both (p .pass n) (both (row nodeCondition 0 0 0 a b _ refl) (both (terms f (q .pass) _) (both (row nodeConditionBlock 0 0 0 o e _ refl) (t .pass _))));
-          behind = rest (t .behind);
-        }
+    spelledC (cMore cs x) r h =
+        let p = spelledC cs (flatCondition x r) h in
+        let q = spelledCondition x r (p .behind) in
+        record { pass = λ n. both (p .pass n) (q .pass _); behind = q .behind }
+
+    spelledEnd : (x : End) (r : List Flat) → AllSound src (flatEnd x r) → Part (encEnd x) r
+    spelledEnd (eTerms f) r h = let p = spelledT f r h in record { pass = terms f (p .pass); behind = p .behind }
+    spelledEnd (eBlock a f v b) r h =
+        let p = spelledT f (mark tokColon ∷ mark tokLBrace ∷ flatS v (mark tokRBrace ∷ r)) (rest h) in
+        let q = spelledS v (mark tokRBrace ∷ r) (rest (rest (p .behind))) in
+        record { pass = λ n. both (row nodeEndingBlock 0 0 0 a b _ refl) (both (terms f (p .pass) _) (q .pass _)); behind = rest (q .behind) }
+
+    spelledSentence : (x : Sentence) (r : List Flat) → AllSound src (flatSentence x r) → Part (encSentence x) r
+    spelledSentence (sentence a f cs x b) r h =
+        let p = spelledT f (flatC cs (mark tokEquals ∷ flatEnd x (mark tokSemicolon ∷ r))) h in
+        let q = spelledC cs (mark tokEquals ∷ flatEnd x (mark tokSemicolon ∷ r)) (p .behind) in
+        let t = spelledEnd x (mark tokSemicolon ∷ r) (rest (q .behind)) in
+        record { pass = λ n. both (row nodeSentence 0 0 0 a b _ refl) (both (terms f (p .pass) _) (both (q .pass _) (t .pass _))); behind = rest (t .behind) }
 
     spelledS : (s : Sentences) (r : List Flat) → AllSound src (flatS s r) → Part (encS s) r
     spelledS s0 r h = record { pass = λ n. none; behind = h }
-    spelledS (sTerms s a f cs g b) r h =
-        let p = spelledS s (flatT f (flatC cs (mark tokEquals ∷ flatT g (mark tokSemicolon ∷ r)))) h in
-        let q = spelledT f (flatC cs (mark tokEquals ∷ flatT g (mark tokSemicolon ∷ r))) (p .behind) in
-        let t = spelledC cs (mark tokEquals ∷ flatT g (mark tokSemicolon ∷ r)) (q .behind) in
-        let u = spelledT g (mark tokSemicolon ∷ r) (rest (t .behind)) in
-        record {
-          pass = λ n. both (p .pass n) (both (row nodeSentence 0 0 0 a b _ refl) (both (terms f (q .pass) _) (both (t .pass _) (terms g (u .pass) _))));
-          behind = rest (u .behind);
-        }
-    spelledS (sBlock s a f cs o g v e b) r h =
-        let z = mark tokColon ∷ mark tokLBrace ∷ flatS v (mark tokRBrace ∷ mark tokSemicolon ∷ r) in
-        let p = spelledS s (flatT f (flatC cs (mark tokEquals ∷ mark tokComma ∷ flatT g z))) h in
-        let q = spelledT f (flatC cs (mark tokEquals ∷ mark tokComma ∷ flatT g z)) (p .behind) in
-        let t = spelledC cs (mark tokEquals ∷ mark tokComma ∷ flatT g z) (q .behind) in
-        let u = spelledT g z (rest (rest (t .behind))) in
-        let x = spelledS v (mark tokRBrace ∷ mark tokSemicolon ∷ r) (rest (rest (u .behind))) in
-        record {
-          pass = λ n. both (p .pass n) (both (row nodeSentence 0 0 0 a b _ refl) (both (terms f (q .pass) _) (both (t .pass _)
-              (both (row nodeEndingBlock 0 0 0 o e _ refl) (both (terms g (u .pass) _) (x .pass _))))));
-          behind = rest (rest (x .behind));
-        }
+    spelledS (sMore s x) r h =
+        let p = spelledS s (flatSentence x r) h in
+        let q = spelledSentence x r (p .behind) in
+        record { pass = λ n. both (p .pass n) (q .pass _); behind = q .behind }
 
   spelledN : (ns : Names) (r : List Flat) → AllSound src (flatN ns r) → Part (encN ns) r
   unfolding flatN encN rowSpelled
@@ -144,21 +153,26 @@ module _ (src : List ℕ) where
   after-entry true r h = rest h
   after-entry false r h = h
 
+  spelledItem : (x : Item) (r : List Flat) → AllSound src (flatItem x r) → Part (encItem x) r
+  unfolding rowSpelled
+  spelledItem (declaration a ns b) r h =
+      let p = spelledN ns (mark tokSemicolon ∷ r) (rest h) in
+      record { pass = λ n. both (row nodeDeclaration 0 0 0 a b _ refl) (p .pass _); behind = rest (p .behind) }
+  spelledItem (function a x s l v b) r h =
+      let z = after-entry x (nameOf s l ∷ mark tokLBrace ∷ flatS v (mark tokRBrace ∷ r)) h in
+      let p = spelledS v (mark tokRBrace ∷ r) (rest (rest z)) in
+      record { pass = λ n. both (row nodeFunction (entryWord x) s l a b _ (name s l (first z))) (p .pass _); behind = rest (p .behind) }
+
   spelledP : (p : Program) (r : List Flat) → AllSound src (flatP p r) → Part (encP p) r
-  unfolding flatP encP rowSpelled
+  unfolding flatP encP
   spelledP p0 r h = record { pass = λ n. none; behind = h }
-  spelledP (pDeclaration p a ns b) r h =
-      let q = spelledP p (mark tokExtern ∷ flatN ns (mark tokSemicolon ∷ r)) h in
-      let t = spelledN ns (mark tokSemicolon ∷ r) (rest (q .behind)) in
-      record { pass = λ n. both (q .pass n) (both (row nodeDeclaration 0 0 0 a b _ refl) (t .pass _)); behind = rest (t .behind) }
-  spelledP (pFunction p a x s l v b) r h =
-      let q = spelledP p (flatEntry x ++ (nameOf s l ∷ mark tokLBrace ∷ flatS v (mark tokRBrace ∷ r))) h in
-      let z = after-entry x (nameOf s l ∷ mark tokLBrace ∷ flatS v (mark tokRBrace ∷ r)) (q .behind) in
-      let t = spelledS v (mark tokRBrace ∷ r) (rest (rest z)) in
-      record { pass = λ n. both (q .pass n) (both (row nodeFunction (entryWord x) s l a b _ (name s l (first z))) (t .pass _)); behind = rest (t .behind) }
+  spelledP (pMore p x) r h =
+      let q = spelledP p (flatItem x r) h in
+      let t = spelledItem x r (q .behind) in
+      record { pass = λ n. both (q .pass n) (t .pass _); behind = t .behind }
 
   pub rows-spelled : (t : Program) → AllSound src (flattenP t) → allSpelled src (encP t 0) ≡ true
-  unfolding allSpelled
+  unfolding allSpelled nodesSpelled nodesOf
   rows-spelled t h =
       let p = spelledP t [] (as-flatP h) in
       ap (allSpelled src) (sym (append-nil (encP t 0))) ∙ p .pass 0 .before []

@@ -12,17 +12,18 @@ use Rattle.refal_lexer.specs.Lex.{lex}
 use Rattle.refal_parser.specs.Machine.{run}
 use Rattle.refal_parser.specs.Parse.{parsed}
 use Rattle.refal_ast.specs.Flatten.{flattenT, flattenC, flattenS, flattenP}
-use Rattle.refal_tree.specs.Forest.{sizeG, joinG, cut, forestOf}
+use Rattle.refal_ast.specs.Nodes.{nodesOf}
+use Rattle.refal_tree.specs.Forest.{sizeG, joinG, cut, forestN, forestOf}
 use Rattle.refal_tree.specs.Rules.{okG}
 use Rattle.refal_tree.specs.Typed.{getT, getS, getSentence, getTail, getBlock, getCondition, getRight, getN, getNs, getP}
 use Rattle.refal_tree.specs.Lawful.{treeOf, lawful}
 use Rattle.refal_spelling.specs.Spell.{body, spelling, text}
 use Rattle.refal_spelling.specs.Spells.{spells}
-use Rattle.refal_spelling.specs.Spellings.{rowSpelled, allSpelled}
+use Rattle.refal_spelling.specs.Spellings.{rowSpelled, nodesSpelled, allSpelled}
 use Rattle.refal_writer.specs.Write.{written, writeAnswer, writeBytes}
 
 pub table-holds : AllHold table
 unfolding table tokensOf okTokens wellFormed sizeT sizeC sizeS sizeN sizeP encT encC encS encN encP run parsed decode wellTo closeFrom litChar litFrom
-    charTokens lex flattenT flattenC flattenS flattenP sizeG joinG cut forestOf okG getT getS getSentence getTail getBlock getCondition getRight getN
-    getNs getP treeOf lawful body spelling text spells rowSpelled allSpelled written writeAnswer writeBytes
+    charTokens lex flattenT flattenC flattenS flattenP sizeG joinG cut nodesOf forestN forestOf okG getT getS getSentence getTail getBlock getCondition getRight getN
+    getNs getP treeOf lawful body spelling text spells rowSpelled nodesSpelled allSpelled written writeAnswer writeBytes
 table-holds = refl

@@ -5,141 +5,183 @@ use mathlib.Core.List.{List}
 use native.Mathlib.Omega.{arith}
 use Rattle.refal_rows.specs.Writes.{Writes, none, sized, placed, then, row}
 use Rattle.refal_ast.specs.Kinds.{nodeDeclaration, nodeFunction, nodeSentence, nodeCondition, nodeTerms, nodeEndingBlock, nodeConditionBlock, nodeBracket, nodeCall}
-use Rattle.refal_ast.specs.Tree.{Leaf, symbol, variable, Terms, t0, tLeaf, tBracket, tCall, Conditions, c0, cTerms, cBlock, Sentences, s0, sTerms, sBlock, Names, nOne, nMore}
-use Rattle.refal_ast.specs.Tree.{Program, p0, pDeclaration, pFunction, sizeT, sizeC, sizeS, sizeN, sizeP}
+use Rattle.refal_ast.specs.Tree.{Leaf, symbol, variable, Term, leaf, bracket, call, Terms, t0, tMore, Right, rTerms, rBlock, Condition, condition, Conditions, c0, cMore}
+use Rattle.refal_ast.specs.Tree.{End, eTerms, eBlock, Sentence, sentence, Sentences, s0, sMore, Names, nOne, nMore, Item, declaration, function, Program, p0, pMore}
+use Rattle.refal_ast.specs.Tree.{sizeTerm, sizeT, sizeRight, sizeCondition, sizeC, sizeEnd, sizeSentence, sizeS, sizeN, sizeItem, sizeP}
 use Rattle.refal_ast.specs.Nodes.{node}
-use Rattle.refal_ast.specs.Encode.{leafRow, entryWord, endTerms, encT, encTerms, encC, encS, encN, encP}
+use Rattle.refal_ast.specs.Encode.{leafRow, entryWord, endTerms, encTerm, encT, encTerms, encRight, encCondition, encC, encEnd, encSentence, encS, encN, encItem, encP}
 use Rattle.refal_ast.specs.declared.tree.Symbol.the-variants.{Char, Identifier, Number}
-use Rattle.refal_parser.specs.Writers.{putNode, spanRow, wT, wTerms, wC, wS, wN, wP, Cond, withTerms, withBlock, addC, sizeCond, wCond}
-use Rattle.refal_parser.specs.Writers.{End, plain, block, addS, wEnd, endSen, wSen, Item, declaration, function, addP, sizeItem, wItem}
+use Rattle.refal_parser.specs.Writers.{putNode, spanRow, termsRow, wTerm, wT, wTerms, wRight, wCondition, wC, wEnd, wSentence, wS, wN, wItem, wP}
 
 -- a row that is written alone
 alone : (n : ℕ) (kind detail start len a b next : ℕ) → Writes 7 (λ B. putNode B n (node kind detail start len a b next)) n 1 (node kind detail start len a b next)
 alone n kind detail start len a b next = row (node kind detail start len a b next) refl (none 7 (n + 1))
 
-leaf : (x : Leaf) (n a b next : ℕ) → Writes 7 (λ B. putNode B n (leafRow x a b next)) n 1 (leafRow x a b next)
-leaf (symbol (Char x)) n a b next = alone n 11 x 0 0 a b next
-leaf (symbol (Identifier s l)) n a b next = alone n 9 0 s l a b next
-leaf (symbol (Number s l)) n a b next = alone n 10 0 s l a b next
-leaf (variable v s l) n a b next = alone n 12 _ s l a b next
-
-pub writesT : (f : Terms) (n : ℕ) → Writes 7 (wT f n) n (sizeT f) (encT f n)
-unfolding wT encT sizeT
-writesT t0 n = none 7 n
-writesT (tLeaf f x a b) n = then (writesT f n) (leaf x (n + sizeT f) a b (n + sizeT f + 1))
-writesT (tBracket f a g b) n =
-    then (writesT f n) (row (spanRow nodeBracket a b (n + sizeT f + 1 + sizeT g)) refl (writesT g (n + sizeT f + 1)))
-writesT (tCall f a s l g b) n =
-    then (writesT f n) (row (node nodeCall 0 s l a b (n + sizeT f + 1 + sizeT g)) refl (writesT g (n + sizeT f + 1)))
-
-writesTerms : (f : Terms) (n : ℕ) → Writes 7 (wTerms f n) n (1 + sizeT f) (encTerms f n)
-writesTerms f n = row (node nodeTerms 0 0 0 0 0 (n + 1 + sizeT f)) refl (writesT f (n + 1))
+alone-leaf : (x : Leaf) (n a b next : ℕ) → Writes 7 (λ B. putNode B n (leafRow x a b next)) n 1 (leafRow x a b next)
+alone-leaf (symbol (Char x)) n a b next = alone n 11 x 0 0 a b next
+alone-leaf (symbol (Identifier s l)) n a b next = alone n 9 0 s l a b next
+alone-leaf (symbol (Number s l)) n a b next = alone n 10 0 s l a b next
+alone-leaf (variable v s l) n a b next = alone n 12 _ s l a b next
 
 mutual
-  unfolding wC encC sizeC wS encS sizeS
+  unfolding wT encT sizeT
+
+  writesTerm : (x : Term) (n : ℕ) → Writes 7 (wTerm x n) n (sizeTerm x) (encTerm x n)
+  writesTerm (leaf x a b) n = alone-leaf x n a b (n + 1)
+  writesTerm (bracket a f b) n = row (spanRow nodeBracket a b (n + 1 + sizeT f)) refl (writesT f (n + 1))
+  writesTerm (call a s l f b) n = row (node nodeCall 0 s l a b (n + 1 + sizeT f)) refl (writesT f (n + 1))
+
+  pub writesT : (f : Terms) (n : ℕ) → Writes 7 (wT f n) n (sizeT f) (encT f n)
+  writesT t0 n = none 7 n
+  writesT (tMore f x) n = then (writesT f n) (writesTerm x (n + sizeT f))
+
+writesTerms : (f : Terms) (n : ℕ) → Writes 7 (wTerms f n) n (1 + sizeT f) (encTerms f n)
+writesTerms f n = row (termsRow (endTerms f n)) refl (writesT f (n + 1))
+
+mutual
+  unfolding wC encC sizeC
+
+  writesRight : (r : Right) (n : ℕ) → Writes 7 (wRight r n) n (sizeRight r) (encRight r n)
+  writesRight (rTerms f) n = writesTerms f n
+  writesRight (rBlock a v b) n = row (spanRow nodeConditionBlock a b (n + 1 + sizeS v)) refl (writesS v (n + 1))
+
+  writesCondition : (x : Condition) (n : ℕ) → Writes 7 (wCondition x n) n (sizeCondition x) (encCondition x n)
+  writesCondition (condition a f r b) n =
+      sized (omega arith)
+      (row (spanRow nodeCondition a b (endTerms f (n + 1) + sizeRight r)) refl
+      (then (writesTerms f (n + 1)) (placed (omega arith) (writesRight r (endTerms f (n + 1))))))
 
   pub writesC : (cs : Conditions) (n : ℕ) → Writes 7 (wC cs n) n (sizeC cs) (encC cs n)
   writesC c0 n = none 7 n
-  writesC (cTerms cs a f g b) n =
-      then (writesC cs n)
-      (sized (omega arith)
-      (row (spanRow nodeCondition a b (endTerms g (endTerms f (n + sizeC cs + 1)))) refl
-      (then (writesTerms f (n + sizeC cs + 1)) (placed (omega arith) (writesTerms g (endTerms f (n + sizeC cs + 1)))))))
-  writesC (cBlock cs a f o v e b) n =
-      then (writesC cs n)
-      (sized (omega arith)
-      (row (spanRow nodeCondition a b (endTerms f (n + sizeC cs + 1) + 1 + sizeS v)) refl
-      (then (writesTerms f (n + sizeC cs + 1))
-      (placed (omega arith)
-      (row (spanRow nodeConditionBlock o e (endTerms f (n + sizeC cs + 1) + 1 + sizeS v)) refl (writesS v (endTerms f (n + sizeC cs + 1) + 1)))))))
+  writesC (cMore cs x) n = then (writesC cs n) (writesCondition x (n + sizeC cs))
+
+  writesEnd : (x : End) (n : ℕ) → Writes 7 (wEnd x n) n (sizeEnd x) (encEnd x n)
+  writesEnd (eTerms f) n = writesTerms f n
+  writesEnd (eBlock a f v b) n =
+      sized (omega arith)
+      (row (spanRow nodeEndingBlock a b (endTerms f (n + 1) + sizeS v)) refl
+      (then (writesTerms f (n + 1)) (placed (omega arith) (writesS v (endTerms f (n + 1))))))
+
+  writesSentence : (x : Sentence) (n : ℕ) → Writes 7 (wSentence x n) n (sizeSentence x) (encSentence x n)
+  writesSentence (sentence a f cs x b) n =
+      sized (omega arith)
+      (row (spanRow nodeSentence a b (endTerms f (n + 1) + sizeC cs + sizeEnd x)) refl
+      (then (writesTerms f (n + 1))
+      (placed (omega arith) (then (writesC cs (endTerms f (n + 1))) (writesEnd x (endTerms f (n + 1) + sizeC cs))))))
 
   pub writesS : (s : Sentences) (n : ℕ) → Writes 7 (wS s n) n (sizeS s) (encS s n)
   writesS s0 n = none 7 n
-  writesS (sTerms s a f cs g b) n =
-      then (writesS s n)
-      (sized (omega arith)
-      (row (spanRow nodeSentence a b (endTerms g (endTerms f (n + sizeS s + 1) + sizeC cs))) refl
-      (then (writesTerms f (n + sizeS s + 1))
-      (placed (omega arith)
-      (then (writesC cs (endTerms f (n + sizeS s + 1))) (writesTerms g (endTerms f (n + sizeS s + 1) + sizeC cs)))))))
-  writesS (sBlock s a f cs o g v e b) n =
-      then (writesS s n)
-      (sized (omega arith)
-      (row (spanRow nodeSentence a b (endTerms g (endTerms f (n + sizeS s + 1) + sizeC cs + 1) + sizeS v)) refl
-      (then (writesTerms f (n + sizeS s + 1))
-      (placed (omega arith)
-      (then (writesC cs (endTerms f (n + sizeS s + 1)))
-      (row (spanRow nodeEndingBlock o e (endTerms g (endTerms f (n + sizeS s + 1) + sizeC cs + 1) + sizeS v)) refl
-      (then (writesTerms g (endTerms f (n + sizeS s + 1) + sizeC cs + 1))
-      (placed (omega arith) (writesS v (endTerms g (endTerms f (n + sizeS s + 1) + sizeC cs + 1)))))))))))
+  writesS (sMore s x) n = then (writesS s n) (writesSentence x (n + sizeS s))
 
-pub writesN : (ns : Names) (n : ℕ) → Writes 7 (wN ns n) n (sizeN ns) (encN ns n)
+writesN : (ns : Names) (n : ℕ) → Writes 7 (wN ns n) n (sizeN ns) (encN ns n)
 unfolding wN encN sizeN
 writesN (nOne s l) n = alone n 2 0 s l 0 0 (n + 1)
 writesN (nMore ns s l) n = then (writesN ns n) (alone (n + sizeN ns) 2 0 s l 0 0 (n + sizeN ns + 1))
 
+writesItem : (x : Item) (n : ℕ) → Writes 7 (wItem x n) n (sizeItem x) (encItem x n)
+writesItem (declaration a ns b) n = row (spanRow nodeDeclaration a b (n + 1 + sizeN ns)) refl (writesN ns (n + 1))
+writesItem (function a x s l v b) n = row (node nodeFunction (entryWord x) s l a b (n + 1 + sizeS v)) refl (writesS v (n + 1))
+
 pub writesP : (p : Program) (n : ℕ) → Writes 7 (wP p n) n (sizeP p) (encP p n)
 unfolding wP encP sizeP
 writesP p0 n = none 7 n
-writesP (pDeclaration p a ns b) n =
-    then (writesP p n) (row (spanRow nodeDeclaration a b (n + sizeP p + 1 + sizeN ns)) refl (writesN ns (n + sizeP p + 1)))
-writesP (pFunction p a x s l v b) n =
-    then (writesP p n) (row (node nodeFunction (entryWord x) s l a b (n + sizeP p + 1 + sizeS v)) refl (writesS v (n + sizeP p + 1)))
+writesP (pMore p x) n = then (writesP p n) (writesItem x (n + sizeP p))
 
--- ---- one part more, put behind the rows B' that the parts before left
-wC-add : (cs : Conditions) (x : Cond) (n : ℕ) (B : List ℕ) → wC (addC cs x) n B ≡ wCond x (n + sizeC cs) (wC cs n B)
-unfolding wC
-wC-add cs (withTerms a f g b) n B = refl
-wC-add cs (withBlock a f v b) n B = refl
+-- ---- one more: its rows are put behind the rows B' that those before left
+module _ (n : ℕ) (B : List ℕ) {k : ℕ} {B' B″ : List ℕ} where
+  pub more-terms : (f : Terms) (x : Term) → k ≡ n + sizeT f → B' ≡ wT f n B → B″ ≡ wTerm x k B' → B″ ≡ wT (tMore f x) n B
+  unfolding wT
+  more-terms f x e h h' = cc
 
-pub more-conditions : (cs : Conditions) (x : Cond) (n k : ℕ) (B B' B″ : List ℕ) → k ≡ n + sizeC cs → B' ≡ wC cs n B → B″ ≡ wCond x k B' → B″ ≡ wC (addC cs x) n B
-more-conditions cs x n k B B' B″ e h h' =
-    h' ∙ ap (λ (i : ℕ). wCond x i B') e ∙ ap (λ (l : List ℕ). wCond x (n + sizeC cs) l) h ∙ sym (wC-add cs x n B)
+  pub more-conditions : (cs : Conditions) (x : Condition) → k ≡ n + sizeC cs → B' ≡ wC cs n B → B″ ≡ wCondition x k B' → B″ ≡ wC (cMore cs x) n B
+  unfolding wC
+  more-conditions cs x e h h' = cc
 
-pub size-conditions : (cs : Conditions) (x : Cond) → sizeC (addC cs x) ≡ sizeC cs + sizeCond x
-unfolding sizeC
-size-conditions cs (withTerms a f g b) = refl
-size-conditions cs (withBlock a f v b) = refl
+  pub more-sentences : (s : Sentences) (x : Sentence) → k ≡ n + sizeS s → B' ≡ wS s n B → B″ ≡ wSentence x k B' → B″ ≡ wS (sMore s x) n B
+  unfolding wS
+  more-sentences s x e h h' = cc
 
-wS-add : (s : Sentences) (a b : ℕ) (f : Terms) (cs : Conditions) (x : End) (n : ℕ) (B : List ℕ) → wS (addS s a f cs x b) n B ≡ wSen a b f cs x (n + sizeS s) (wS s n B)
-unfolding wS
-wS-add s a b f cs (plain g) n B = refl
-wS-add s a b f cs (block o g v e) n B = refl
+  pub more-items : (p : Program) (x : Item) → k ≡ n + sizeP p → B' ≡ wP p n B → B″ ≡ wItem x k B' → B″ ≡ wP (pMore p x) n B
+  unfolding wP
+  more-items p x e h h' = cc
 
-pub more-sentences : (s : Sentences) (a b : ℕ) (f : Terms) (cs : Conditions) (x : End) (n k : ℕ) (B B' B″ : List ℕ) → k ≡ n + sizeS s → B' ≡ wS s n B → B″ ≡ wSen a b f cs x k B' →
-    B″ ≡ wS (addS s a f cs x b) n B
-more-sentences s a b f cs x n k B B' B″ e h h' =
-    h' ∙ ap (λ (i : ℕ). wSen a b f cs x i B') e ∙ ap (λ (l : List ℕ). wSen a b f cs x (n + sizeS s) l) h ∙ sym (wS-add s a b f cs x n B)
+module _ (n : ℕ) {k m : ℕ} where
+  pub size-terms : (f : Terms) (x : Term) → k ≡ n + sizeT f → m ≡ k + sizeTerm x → m ≡ n + sizeT (tMore f x)
+  unfolding sizeT
+  size-terms f x e h = omega arith
 
-pub size-sentences : (s : Sentences) (a b : ℕ) (f : Terms) (cs : Conditions) (x : End) (n k m : ℕ) → k ≡ n + sizeS s → m ≡ endSen f cs x k → m ≡ n + sizeS (addS s a f cs x b)
-unfolding sizeS
-size-sentences s a b f cs (plain g) n k m e h = omega arith
-size-sentences s a b f cs (block o g v u) n k m e h = omega arith
+  pub size-conditions : (cs : Conditions) (x : Condition) → k ≡ n + sizeC cs → m ≡ k + sizeCondition x → m ≡ n + sizeC (cMore cs x)
+  unfolding sizeC
+  size-conditions cs x e h = omega arith
 
-wP-add : (p : Program) (x : Item) (n : ℕ) (B : List ℕ) → wP (addP p x) n B ≡ wItem x (n + sizeP p) (wP p n B)
-unfolding wP
-wP-add p (declaration a ns b) n B = refl
-wP-add p (function a x s l v b) n B = refl
+  pub size-sentences : (s : Sentences) (x : Sentence) → k ≡ n + sizeS s → m ≡ k + sizeSentence x → m ≡ n + sizeS (sMore s x)
+  unfolding sizeS
+  size-sentences s x e h = omega arith
 
-pub more-items : (p : Program) (x : Item) (n k : ℕ) (B B' B″ : List ℕ) → k ≡ n + sizeP p → B' ≡ wP p n B → B″ ≡ wItem x k B' → B″ ≡ wP (addP p x) n B
-more-items p x n k B B' B″ e h h' =
-    h' ∙ ap (λ (i : ℕ). wItem x i B') e ∙ ap (λ (l : List ℕ). wItem x (n + sizeP p) l) h ∙ sym (wP-add p x n B)
+  pub size-items : (p : Program) (x : Item) → k ≡ n + sizeP p → m ≡ k + sizeItem x → m ≡ n + sizeP (pMore p x)
+  unfolding sizeP
+  size-items p x e h = omega arith
 
-pub size-items : (p : Program) (x : Item) → sizeP (addP p x) ≡ sizeP p + sizeItem x
-unfolding sizeP
-size-items p (declaration a ns b) = refl
-size-items p (function a x s l v b) = refl
+-- ---- rows put one after another: a bracket and a call; a condition; an ending block; a sentence
+module _ (a b n : ℕ) {m : ℕ} (f : Terms) (c : m ≡ n + 1 + sizeT f) where
+  pub whole-bracket : (B : List ℕ) {B' : List ℕ} → B' ≡ putNode (wT f (n + 1) B) n (spanRow nodeBracket a b m) → B' ≡ wTerm (bracket a f b) n B
+  unfolding wT
+  whole-bracket B r = cc
 
--- ---- rows put one after another: a condition with a block, a condition with terms, an ending block
-module _ (n : ℕ) (f : Terms) (B : List ℕ) {a b from to m k : ℕ} {B₁ B₂ B₃ : List ℕ} (s : from ≡ a) (e : to ≡ b) (r₁ : B₁ ≡ wTerms f (n + 1) B) (c₁ : m ≡ n + 1 + 1 + sizeT f) where
+  pub size-bracket : m ≡ n + sizeTerm (bracket a f b)
+  unfolding sizeT
+  size-bracket = omega arith
+
+  pub whole-call : (s l : ℕ) (B : List ℕ) {B' : List ℕ} → B' ≡ putNode (wT f (n + 1) B) n (node nodeCall 0 s l a b m) → B' ≡ wTerm (call a s l f b) n B
+  unfolding wT
+  whole-call s l B r = cc
+
+  pub size-call : (s l : ℕ) → m ≡ n + sizeTerm (call a s l f b)
+  unfolding sizeT
+  size-call s l = omega arith
+
+module _ (n : ℕ) (B : List ℕ) {m k a b from to : ℕ} {B₁ B₂ B₃ : List ℕ} (f : Terms) (s : from ≡ a) (e : to ≡ b) (r₁ : B₁ ≡ wTerms f (n + 1) B) (c₁ : m ≡ n + 1 + 1 + sizeT f) where
   pub block-condition : {B₄ : List ℕ} (v : Sentences) → B₂ ≡ wS v (m + 1) B₁ → k ≡ m + 1 + sizeS v → B₃ ≡ putNode B₂ m (spanRow nodeConditionBlock from to k) →
-      B₄ ≡ putNode B₃ n (spanRow nodeCondition from to k) → B₄ ≡ wCond (withBlock a f v b) n B
-  block-condition {B₄} v r₂ c₂ r₃ r₄ = cc
+      B₄ ≡ putNode B₃ n (spanRow nodeCondition from to k) → B₄ ≡ wCondition (condition a f (rBlock a v b) b) n B
+  unfolding wC sizeC
+  block-condition {B₄} v r₂ c₂ r₃ r₄ = let c₃ : k ≡ m + (1 + sizeS v) = omega arith in cc
 
   pub terms-condition : (g : Terms) → B₂ ≡ wTerms g m B₁ → k ≡ m + 1 + sizeT g → B₃ ≡ putNode B₂ n (spanRow nodeCondition from to k) →
-      B₃ ≡ wCond (withTerms a f g b) n B
-  terms-condition g r₂ c₂ r₃ = cc
+      B₃ ≡ wCondition (condition a f (rTerms g) b) n B
+  unfolding wC sizeC
+  terms-condition g r₂ c₂ r₃ = let c₃ : k ≡ m + (1 + sizeT g) = omega arith in cc
 
   pub block-ending : (v : Sentences) → B₂ ≡ wS v m B₁ → k ≡ m + sizeS v → B₃ ≡ putNode B₂ n (spanRow nodeEndingBlock from to k) →
-      B₃ ≡ wEnd (block a f v b) n B
+      B₃ ≡ wEnd (eBlock a f v b) n B
+  unfolding wC
   block-ending v r₂ c₂ r₃ = cc
+
+module _ (a b n : ℕ) {m k : ℕ} (f : Terms) (c₁ : m ≡ n + 1 + 1 + sizeT f) where
+  pub size-block-condition : (v : Sentences) → k ≡ m + 1 + sizeS v → k ≡ n + sizeCondition (condition a f (rBlock a v b) b)
+  unfolding sizeC
+  size-block-condition v c₂ = omega arith
+
+  pub size-terms-condition : (g : Terms) → k ≡ m + 1 + sizeT g → k ≡ n + sizeCondition (condition a f (rTerms g) b)
+  unfolding sizeC
+  size-terms-condition g c₂ = omega arith
+
+  pub size-block-ending : (v : Sentences) → k ≡ m + sizeS v → k ≡ n + sizeEnd (eBlock a f v b)
+  unfolding sizeC
+  size-block-ending v c₂ = omega arith
+
+  pub size-sentence : {m₁ : ℕ} (cs : Conditions) (x : End) → m₁ ≡ m + sizeC cs → k ≡ m₁ + sizeEnd x → k ≡ n + sizeSentence (sentence a f cs x b)
+  unfolding sizeC
+  size-sentence {m₁} cs x c₂ c₃ = omega arith
+
+  pub whole-sentence : (B : List ℕ) {m₁ : ℕ} {B' : List ℕ} (cs : Conditions) (x : End) → m₁ ≡ m + sizeC cs → k ≡ m₁ + sizeEnd x →
+      B' ≡ putNode (wEnd x m₁ (wC cs m (wTerms f (n + 1) B))) n (spanRow nodeSentence a b k) → B' ≡ wSentence (sentence a f cs x b) n B
+  unfolding wC
+  whole-sentence B {m₁} {B'} cs x c₂ c₃ r = cc
+
+pub terms-ending : (f : Terms) (n : ℕ) (B : List ℕ) {B' : List ℕ} → B' ≡ wTerms f n B → B' ≡ wEnd (eTerms f) n B
+unfolding wC
+terms-ending f n B r = r
+
+pub size-terms-ending : (f : Terms) (n : ℕ) {m : ℕ} → m ≡ n + 1 + sizeT f → m ≡ n + sizeEnd (eTerms f)
+unfolding sizeC
+size-terms-ending f n c = omega arith

@@ -10,10 +10,10 @@ use lib.Dec.{eqb}
 use borrow.Author.Tests.{ne-eqb, eq-eqb, eqb-false}
 use Rattle.refal_ast.specs.Kinds.{tokEntry, tokExtern, tokIdentifier, tokLBrace, tokRBrace, tokComma, tokEquals, tokSemicolon, tokEof}
 use Rattle.refal_ast.specs.Tokens.{Token, token}
-use Rattle.refal_ast.specs.Tree.{Terms, t0, Conditions, Sentences, s0, sBlock, Names, nOne, nMore, Program, pDeclaration}
+use Rattle.refal_ast.specs.Tree.{Terms, t0, Conditions, eBlock, sentence, Sentences, s0, sMore, Names, nOne, nMore, declaration, Program, pMore}
 use Rattle.refal_ast.specs.declared.tree.Term.{Term}
 use Rattle.refal_ast.specs.declared.tree.Term.the-variants.{Symbol as theSymbol, Variable, Bracket, Call, UnknownVariable, NoTerm}
-use Rattle.refal_parser.specs.Machine.{termOf, variableOf, Block, body, inCondition, inEnding, Place, pattern, argument, matching, result, ending, bracket, call}
+use Rattle.refal_parser.specs.Machine.{termOf, variableOf, Block, body, inCondition, inEnding, Place, pattern, argument, matching, result, ending, inBracket, inCall}
 use Rattle.refal_parser.specs.Machine.{State, items, wantsName, wantsMore, named, entered, headed, between, within, calling, matched, conditioned, equated, blocked, ended}
 use Rattle.refal_parser.specs.Machine.{tree, refuse, Step, go, opens, expected, wants, afterTerms, inTerms, atTerms, leave, step, run}
 use Rattle.refal_parser.specs.Ready.{rest, tok, termAt, afterFrom, afterTo, Ready}
@@ -129,11 +129,11 @@ module _ (w : List ℕ) (at : ℕ) where
 
     pub bracket-deep : (d : ℕ) (c : Place) (f : Terms) → termAt w at ≡ Bracket → d ≡ 0 →
         run (rest w at) (within d c f) ≡ refuse 37 0 (getD w at 0) (getD w (at + 4) 0) (getD w (at + 5) 0)
-    bracket-deep d c f e z = term-step d c f Bracket e ∙ open-none d (λ (x : ℕ). within x (bracket c f (getD w (at + 4) 0)) t0) z
+    bracket-deep d c f e z = term-step d c f Bracket e ∙ open-none d (λ (x : ℕ). within x (inBracket c f (getD w (at + 4) 0)) t0) z
 
     pub bracket-open : (d : ℕ) (c : Place) (f : Terms) → termAt w at ≡ Bracket → (d ≡ 0 → ⊥) →
-        Same w at (within d c f) (at + 6) (within (d - 1) (bracket c f (getD w (at + 4) 0)) t0)
-    bracket-open d c f e n = term-step d c f Bracket e ∙ open-some d (λ (x : ℕ). within x (bracket c f (getD w (at + 4) 0)) t0) n
+        Same w at (within d c f) (at + 6) (within (d - 1) (inBracket c f (getD w (at + 4) 0)) t0)
+    bracket-open d c f e n = term-step d c f Bracket e ∙ open-some d (λ (x : ℕ). within x (inBracket c f (getD w (at + 4) 0)) t0) n
 
     pub call-deep : (d : ℕ) (c : Place) (f : Terms) → termAt w at ≡ Call → d ≡ 0 →
         run (rest w at) (within d c f) ≡ refuse 37 0 (getD w at 0) (getD w (at + 4) 0) (getD w (at + 5) 0)
@@ -143,7 +143,7 @@ module _ (w : List ℕ) (at : ℕ) where
     call-open d c f e n = term-step d c f Call e ∙ open-some d (λ (x : ℕ). calling x c f (getD w (at + 4) 0)) n
 
     pub call-name : (d : ℕ) (c : Place) (f : Terms) (a : ℕ) → getD w at 0 ≡ tokIdentifier →
-        Same w at (calling d c f a) (at + 6) (within d (call c f a (getD w (at + 2) 0) (getD w (at + 3) 0)) t0)
+        Same w at (calling d c f a) (at + 6) (within d (inCall c f a (getD w (at + 2) 0) (getD w (at + 3) 0)) t0)
     unfolding kinded
     call-name d c f a e = run-kind (calling d c f a) tokIdentifier e
 
@@ -223,7 +223,7 @@ module _ (w : List ℕ) (at : ℕ) where
       end-unopened a g n = run-as (blocked d p s st f cs a g) (expected tokLBrace (tok w at)) (rw (ne-eqb (getD w at 0) tokLBrace n) refl)
 
       pub end-closed : (a : ℕ) (g : Terms) (v : Sentences) (e : ℕ) → getD w at 0 ≡ tokSemicolon →
-          Same w at (ended d p s st f cs a g v e) (at + 6) (between d p (sBlock s st f cs a g v e (getD w (at + 5) 0)))
+          Same w at (ended d p s st f cs a g v e) (at + 6) (between d p (sMore s (sentence st f cs (eBlock a g v e) (getD w (at + 5) 0))))
       unfolding kinded
       end-closed a g v e k = run-kind (ended d p s st f cs a g v e) tokSemicolon k
 
@@ -294,7 +294,7 @@ module _ (w : List ℕ) (at : ℕ) where
         unfolding kinded
         named-comma ns e = run-kind (named p a ns) tokComma e
 
-        pub named-end : (ns : Names) → getD w at 0 ≡ tokSemicolon → Same w at (named p a ns) (at + 6) (items (pDeclaration p a ns (getD w (at + 5) 0)))
+        pub named-end : (ns : Names) → getD w at 0 ≡ tokSemicolon → Same w at (named p a ns) (at + 6) (items (pMore p (declaration a ns (getD w (at + 5) 0))))
         unfolding kinded
         named-end ns e = run-kind (named p a ns) tokSemicolon e
 

@@ -7,8 +7,8 @@ use lib.Dec.{eqb}
 use Rattle.refal_ast.specs.Kinds.{tokEntry, tokExtern, tokIdentifier, tokVariable, tokNumber, tokChar, tokLBrace, tokRBrace, tokLParen, tokRParen, tokLAngle, tokRAngle, tokComma}
 use Rattle.refal_ast.specs.Kinds.{tokColon, tokEquals, tokSemicolon, tokEof}
 use Rattle.refal_ast.specs.Tokens.{Token}
-use Rattle.refal_ast.specs.Tree.{symbol, variable, Terms, t0, tLeaf, tBracket, tCall, Conditions, c0, cTerms, cBlock, Sentences, s0, sTerms, sBlock, Names, nOne, nMore}
-use Rattle.refal_ast.specs.Tree.{Program, pDeclaration, pFunction}
+use Rattle.refal_ast.specs.Tree.{symbol, variable, Term as TreeTerm, leaf, bracket, call, Terms, t0, tMore, rTerms, rBlock, condition, Conditions, c0, cMore}
+use Rattle.refal_ast.specs.Tree.{eTerms, eBlock, sentence, Sentences, s0, sMore, Names, nOne, nMore, declaration, function, Program, pMore}
 use Rattle.refal_ast.specs.declared.tree.Symbol.the-variants.{Char, Identifier, Number}
 use Rattle.refal_ast.specs.declared.tree.VariableKind.the-variants.{Symbol as kindS, Term as kindT, Expression as kindE}
 use Rattle.refal_ast.specs.declared.tree.Term.{Term}
@@ -59,9 +59,9 @@ pub data Place : Type 0 where
   -- an ending block's argument: as above, with the block's start
   ending : Block → Sentences → ℕ → Terms → Conditions → ℕ → Place
   -- a bracket: what it stands in, the terms before it, its start
-  bracket : Place → Terms → ℕ → Place
+  inBracket : Place → Terms → ℕ → Place
   -- a call: what it stands in, the terms before it, its start, its name's text
-  call : Place → Terms → ℕ → ℕ → ℕ → Place
+  inCall : Place → Terms → ℕ → ℕ → ℕ → Place
 
 -- where the machine is. A number of levels left comes first where something can be opened
 pub data State : Type 0 where
@@ -134,12 +134,15 @@ opens (suc d) t f = go (f d)
 abbrev pub closing : ℕ → Token → ℕ → ℕ → Step → Step
 closing kind t x y next = on (t .kind) kind next (on (t .kind) tokEof (expected kind t) (noTerm t x y))
 
--- the end of the last of some terms, or e where there are none
+-- the end of a term; of the last of some terms, or e where there are none
+abbrev pub endTerm : TreeTerm → ℕ
+endTerm (leaf x a b) = b
+endTerm (bracket a f b) = b
+endTerm (call a s l f b) = b
+
 abbrev pub lastEnd : Terms → ℕ → ℕ
 lastEnd t0 e = e
-lastEnd (tLeaf f x a b) e = b
-lastEnd (tBracket f a g b) e = b
-lastEnd (tCall f a s l g b) e = b
+lastEnd (tMore f x) e = endTerm x
 
 -- after a pattern and conditions: another condition, which starts at the token after the comma; or `=`
 abbrev pub afterPattern : ℕ → Block → Sentences → ℕ → Terms → Conditions → Token → ℕ → ℕ → Step → Step
@@ -157,17 +160,17 @@ afterTerms d p s st f cs t x y =
 abbrev pub endOf : ℕ → Place → Terms → Token → ℕ → ℕ → Step
 endOf d (pattern p s st) f t x y = afterTerms d p s st f c0 t x y
 endOf d (argument p s st h cs o) f t x y = closing tokColon t x y (go (matched d p s st h cs o f (t .to)))
-endOf d (matching p s st h cs o g e) f t x y = afterTerms d p s st h (cTerms cs o g f (lastEnd f e)) t x y
-endOf d (result p s st h cs) f t x y = closing tokSemicolon t x y (go (between d p (sTerms s st h cs f (t .to))))
+endOf d (matching p s st h cs o g e) f t x y = afterTerms d p s st h (cMore cs (condition o g (rTerms f) (lastEnd f e))) t x y
+endOf d (result p s st h cs) f t x y = closing tokSemicolon t x y (go (between d p (sMore s (sentence st h cs (eTerms f) (t .to)))))
 endOf d (ending p s st h cs o) f t x y = closing tokColon t x y (go (blocked d p s st h cs o f))
-endOf d (bracket c g a) f t x y = closing tokRParen t x y (go (within (suc d) c (tBracket g a f (t .to))))
-endOf d (call c g a s l) f t x y = closing tokRAngle t x y (go (within (suc d) c (tCall g a s l f (t .to))))
+endOf d (inBracket c g a) f t x y = closing tokRParen t x y (go (within (suc d) c (tMore g (bracket a f (t .to)))))
+endOf d (inCall c g a s l) f t x y = closing tokRAngle t x y (go (within (suc d) c (tMore g (call a s l f (t .to)))))
 
 -- at a token, in terms f, by what the token begins
 abbrev pub inTerms : ℕ → Place → Terms → Token → ℕ → ℕ → Term → Step
-inTerms d c f t x y (theSymbol z) = go (within d c (tLeaf f (symbol z) (t .from) (t .to)))
-inTerms d c f t x y (Variable v s l) = go (within d c (tLeaf f (variable v s l) (t .from) (t .to)))
-inTerms d c f t x y Bracket = opens d t (λ d'. within d' (bracket c f (t .from)) t0)
+inTerms d c f t x y (theSymbol z) = go (within d c (tMore f (leaf (symbol z) (t .from) (t .to))))
+inTerms d c f t x y (Variable v s l) = go (within d c (tMore f (leaf (variable v s l) (t .from) (t .to))))
+inTerms d c f t x y Bracket = opens d t (λ d'. within d' (inBracket c f (t .from)) t0)
 inTerms d c f t x y Call = opens d t (λ d'. calling d' c f (t .from))
 inTerms d c f t x y UnknownVariable = unknownVariable t x y
 inTerms d c f t x y NoTerm = endOf d c f t x y
@@ -177,8 +180,8 @@ atTerms d c f t x y = inTerms d c f t x y (termOf (t .kind) (t .detail) (t .star
 
 -- where a block's `}` leads
 abbrev pub leave : ℕ → Block → Sentences → Token → State
-leave d (body p a x s l) v t = items (pFunction p a x s l v (t .to))
-leave d (inCondition p s st f cs o g) v t = conditioned (suc d) p s st f (cBlock cs o g o v (t .to) (t .to))
+leave d (body p a x s l) v t = items (pMore p (function a x s l v (t .to)))
+leave d (inCondition p s st f cs o g) v t = conditioned (suc d) p s st f (cMore cs (condition o g (rBlock o v (t .to)) (t .to)))
 leave d (inEnding p s st f cs o g) v t = ended (suc d) p s st f cs o g v (t .to)
 
 -- ---- a token t, with the span x, y of the token after it
@@ -194,7 +197,7 @@ step (wantsName p a) t x y = on (t .kind) tokIdentifier (go (named p a (nOne (t 
 step (wantsMore p a ns) t x y = on (t .kind) tokIdentifier (go (named p a (nMore ns (t .start) (t .len)))) (wants 31 t x y)
 step (named p a ns) t x y =
     on (t .kind) tokComma (go (wantsMore p a ns))
-    (on (t .kind) tokSemicolon (go (items (pDeclaration p a ns (t .to))))
+    (on (t .kind) tokSemicolon (go (items (pMore p (declaration a ns (t .to)))))
     (expected tokSemicolon t))
 step (entered p a) t x y = on (t .kind) tokIdentifier (go (headed p a true (t .start) (t .len))) (wants 32 t x y)
 step (headed p a e s l) t x y = on (t .kind) tokLBrace (go (between 64 (body p a e s l) s0)) (expected tokLBrace t)
@@ -203,7 +206,7 @@ step (between d p s) t x y =
     (on (t .kind) tokEof (expected tokRBrace t)
     (atTerms d (pattern p s (t .from)) t0 t x y))
 step (within d c f) t x y = atTerms d c f t x y
-step (calling d c f a) t x y = on (t .kind) tokIdentifier (go (within d (call c f a (t .start) (t .len)) t0)) (wants 33 t x y)
+step (calling d c f a) t x y = on (t .kind) tokIdentifier (go (within d (inCall c f a (t .start) (t .len)) t0)) (wants 33 t x y)
 step (matched d p s st f cs o g e) t x y =
     on (t .kind) tokLBrace (opens d t (λ d'. between d' (inCondition p s st f cs o g) s0))
     (atTerms d (matching p s st f cs o g e) t0 t x y)
@@ -214,7 +217,7 @@ step (equated d p s st f cs) t x y =
 step (blocked d p s st f cs o g) t x y =
     on (t .kind) tokLBrace (opens d t (λ d'. between d' (inEnding p s st f cs o g) s0)) (expected tokLBrace t)
 step (ended d p s st f cs o g v e) t x y =
-    on (t .kind) tokSemicolon (go (between d p (sBlock s st f cs o g v e (t .to)))) (expected tokSemicolon t)
+    on (t .kind) tokSemicolon (go (between d p (sMore s (sentence st f cs (eBlock o g v e) (t .to))))) (expected tokSemicolon t)
 
 abbrev pub follow : Step → (State → Outcome) → Outcome
 follow (go st) f = f st

@@ -5,10 +5,10 @@ use Prim.Native.Nat.{ℕ, _+_, _-_, _≤_, _<_}
 use mathlib.Core.List.{List}
 use lib.ListN.{length, getD}
 use Rattle.refal_ast.specs.Tokens.{Token}
-use Rattle.refal_ast.specs.Tree.{Terms, t0, Conditions, c0, Sentences, s0, sizeC, sizeS}
+use Rattle.refal_ast.specs.Tree.{Terms, t0, Condition, Conditions, c0, cMore, End, Sentence, sentence, Sentences, s0, sMore, sizeCondition, sizeC, sizeEnd, sizeSentence, sizeS}
 use Rattle.refal_parser.specs.Machine.{Block, pattern, within, between, conditioned, equated, Outcome, refuse, opens, leave, run}
 use Rattle.refal_parser.specs.Ready.{rest, tok, endBefore, Ready}
-use Rattle.refal_parser.specs.Writers.{Cond, addC, sizeCond, wCond, End, addS, endRow, wEnd, endSen, wSen, wC, wS}
+use Rattle.refal_parser.specs.Writers.{wCondition, wC, wEnd, wSentence, wS}
 use Rattle.refal_parser.specs.Post.{Cases, Same, after, Joint}
 use Rattle.refal_parser.specs.declared.answers.Got.{Got}
 
@@ -28,14 +28,14 @@ JoinsPost w at m r = Cases r (JoinsAt w at m) (λ a b c d e. (left : ℕ) → Co
 
 -- ---- a condition, whose comma is at `at`
 pub record CondAt (w B B' : List ℕ) (at n left j m : ℕ) : Type 0 where
-  pub x : Cond
+  pub x : Condition
   pub ready : Ready w j
   pub on : at < j
   pub few : m ≤ j + 2
-  pub rows : B' ≡ wCond x n B
-  pub count : m ≡ n + sizeCond x
+  pub rows : B' ≡ wCondition x n B
+  pub count : m ≡ n + sizeCondition x
   pub joint : Joint w j
-  pub means : (p : Block) (s : Sentences) (st : ℕ) (f : Terms) (cs : Conditions) → Same w at (conditioned left p s st f cs) j (conditioned left p s st f (addC cs x))
+  pub means : (p : Block) (s : Sentences) (st : ℕ) (f : Terms) (cs : Conditions) → Same w at (conditioned left p s st f cs) j (conditioned left p s st f (cMore cs x))
 
 abbrev pub CondPost : List ℕ → List ℕ → List ℕ → ℕ → ℕ → ℕ → Got → Type 0
 CondPost w B B' at n left r = Cases r (CondAt w B B' at n left) (CondNo w at left)
@@ -48,9 +48,9 @@ pub record EndingAt (w B B' : List ℕ) (at n left j m : ℕ) : Type 0 where
   pub on : at < j
   pub few : m ≤ j
   pub rows : B' ≡ wEnd x n B
-  pub count : m ≡ endRow x n
+  pub count : m ≡ n + sizeEnd x
   pub last : e ≡ endBefore w j
-  pub means : (p : Block) (s : Sentences) (st : ℕ) (f : Terms) (cs : Conditions) → Same w at (equated left p s st f cs) j (between left p (addS s st f cs x e))
+  pub means : (p : Block) (s : Sentences) (st : ℕ) (f : Terms) (cs : Conditions) → Same w at (equated left p s st f cs) j (between left p (sMore s (sentence st f cs x e)))
 
 abbrev pub EndingPost : List ℕ → List ℕ → List ℕ → ℕ → ℕ → ℕ → Got → Type 0
 EndingPost w B B' at n left r =
@@ -59,16 +59,13 @@ EndingPost w B B' at n left r =
 
 -- ---- a sentence
 pub record SentenceAt (w B B' : List ℕ) (at n left j m : ℕ) : Type 0 where
-  pub f : Terms
-  pub cs : Conditions
-  pub x : End
-  pub e : ℕ
+  pub x : Sentence
   pub ready : Ready w j
   pub on : at < j
   pub few : m ≤ j
-  pub rows : B' ≡ wSen (getD w (at + 4) 0) e f cs x n B
-  pub count : m ≡ endSen f cs x n
-  pub means : (p : Block) (s : Sentences) → Same w at (within left (pattern p s (getD w (at + 4) 0)) t0) j (between left p (addS s (getD w (at + 4) 0) f cs x e))
+  pub rows : B' ≡ wSentence x n B
+  pub count : m ≡ n + sizeSentence x
+  pub means : (p : Block) (s : Sentences) → Same w at (within left (pattern p s (getD w (at + 4) 0)) t0) j (between left p (sMore s x))
 
 abbrev pub SentencePost : List ℕ → List ℕ → List ℕ → ℕ → ℕ → ℕ → Got → Type 0
 SentencePost w B B' at n left r =

@@ -6,10 +6,10 @@ use mathlib.Core.List.{List}
 use lib.ListN.{length, getD}
 use Rattle.refal_ast.specs.Kinds.{nodeFunction}
 use Rattle.refal_ast.specs.Nodes.{node}
-use Rattle.refal_ast.specs.Tree.{Sentences, Names, nOne, nMore, Program, p0, pFunction, sizeS, sizeN, sizeP}
+use Rattle.refal_ast.specs.Tree.{Sentences, Names, nOne, nMore, Item, function, Program, p0, pMore, sizeS, sizeN, sizeItem, sizeP}
 use Rattle.refal_parser.specs.Machine.{items, wantsName, wantsMore, named, headed, tree, refuse, run}
 use Rattle.refal_parser.specs.Ready.{rest, Ready}
-use Rattle.refal_parser.specs.Writers.{putNode, nameRow, Item, addP, sizeItem, wItem, wN, wS, wP}
+use Rattle.refal_parser.specs.Writers.{putNode, nameRow, wItem, wN, wS, wP}
 use Rattle.refal_parser.specs.Post.{Cases, Same}
 use Rattle.refal_parser.specs.declared.answers.Got.{Got}
 
@@ -51,7 +51,7 @@ pub record FunctionAt (w B B' : List ℕ) (at name n entry j m : ℕ) : Type 0 w
   pub count : m ≡ n + 1 + sizeS v
   pub means : (p : Program) (x : Bool) →
       Same w (name + 6) (headed p (getD w (at + 4) 0) x (getD w (name + 2) 0) (getD w (name + 3) 0)) j
-      (items (pFunction p (getD w (at + 4) 0) x (getD w (name + 2) 0) (getD w (name + 3) 0) v e))
+      (items (pMore p (function (getD w (at + 4) 0) x (getD w (name + 2) 0) (getD w (name + 3) 0) v e)))
 
 abbrev pub FunctionPost : List ℕ → List ℕ → List ℕ → ℕ → ℕ → ℕ → ℕ → Got → Type 0
 FunctionPost w B B' at name n entry r =
@@ -66,7 +66,7 @@ pub record ItemAt (w B B' : List ℕ) (at n j m : ℕ) : Type 0 where
   pub few : m ≤ j
   pub rows : B' ≡ wItem x n B
   pub count : m ≡ n + sizeItem x
-  pub means : (p : Program) → Same w at (items p) j (items (addP p x))
+  pub means : (p : Program) → Same w at (items p) j (items (pMore p x))
 
 abbrev pub ItemPost : List ℕ → List ℕ → List ℕ → ℕ → ℕ → Got → Type 0
 ItemPost w B B' at n r = Cases r (ItemAt w B B' at n) (λ a b c d e. (p : Program) → run (rest w at) (items p) ≡ refuse a b c d e)

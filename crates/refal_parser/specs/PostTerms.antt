@@ -3,14 +3,12 @@ use mathlib.Core.Path.{_≡_}
 use Prim.Native.Nat.{ℕ, _+_, _≤_, _<_}
 use mathlib.Core.List.{List}
 use lib.ListN.{length, getD}
-use Rattle.refal_ast.specs.Kinds.{nodeBracket, nodeCall}
-use Rattle.refal_ast.specs.Nodes.{node}
 use Rattle.refal_ast.specs.Tokens.{Token}
-use Rattle.refal_ast.specs.Tree.{Terms, t0, tBracket, tCall, Conditions, Sentences, sizeT}
+use Rattle.refal_ast.specs.Tree.{Term, Terms, t0, tMore, Conditions, Sentences, sizeTerm, sizeT}
 use Rattle.refal_ast.specs.declared.tree.Term.the-variants.{NoTerm}
-use Rattle.refal_parser.specs.Machine.{Block, Place, State, within, conditioned, Outcome, refuse, go, closing, lastEnd, afterTerms, endOf, run}
+use Rattle.refal_parser.specs.Machine.{Block, Place, State, within, conditioned, Outcome, refuse, go, closing, endTerm, lastEnd, afterTerms, endOf, run}
 use Rattle.refal_parser.specs.Ready.{rest, tok, termAt, afterFrom, afterTo, endBefore, Ready}
-use Rattle.refal_parser.specs.Writers.{putNode, spanRow, wT, wTerms}
+use Rattle.refal_parser.specs.Writers.{wTerm, wT, wTerms}
 use Rattle.refal_parser.specs.Post.{Cases, Same, after, Joint}
 use Rattle.refal_parser.specs.declared.answers.Got.{Got}
 
@@ -103,31 +101,20 @@ pub record ClauseAt (w B B' : List ℕ) (at n left want j m : ℕ) : Type 0 wher
 abbrev pub ClausePost : List ℕ → List ℕ → List ℕ → ℕ → ℕ → ℕ → ℕ → Got → Type 0
 ClausePost w B B' at n left want r = Cases r (ClauseAt w B B' at n left want) (ClosedNo w at left want)
 
--- ---- a bracket or a call, whose row is row n: of the terms before, those inside and the end it makes T; its row is R of the end and the next row
-pub record NestAt (w B B' : List ℕ) (at n left : ℕ) (T : Terms → Terms → ℕ → Terms) (R : ℕ → ℕ → List ℕ) (j m : ℕ) : Type 0 where
-  pub g : Terms
-  pub e : ℕ
+-- ---- a term, whose row is row n
+pub record TermGot (w B B' : List ℕ) (at n left j m : ℕ) : Type 0 where
+  pub x : Term
   pub ready : Ready w j
   pub on : at < j
   pub few : m ≤ j
-  pub rows : B' ≡ putNode (wT g (n + 1) B) n (R e m)
-  pub count : m ≡ n + 1 + sizeT g
-  pub last : e ≡ endBefore w j
-  pub means : (c : Place) (f : Terms) → Same w at (within left c f) j (within left c (T f g e))
+  pub rows : B' ≡ wTerm x n B
+  pub count : m ≡ n + sizeTerm x
+  pub last : endTerm x ≡ endBefore w j
+  pub means : (c : Place) (f : Terms) → Same w at (within left c f) j (within left c (tMore f x))
 
-abbrev pub NestPost : List ℕ → List ℕ → List ℕ → ℕ → ℕ → ℕ → (Terms → Terms → ℕ → Terms) → (ℕ → ℕ → List ℕ) → Got → Type 0
-NestPost w B B' at n left T R r =
-    Cases r (NestAt w B B' at n left T R) (λ a b c d e. (x : Place) (f : Terms) → run (rest w at) (within left x f) ≡ refuse a b c d e)
-
-abbrev pub BracketPost : List ℕ → List ℕ → List ℕ → ℕ → ℕ → ℕ → Got → Type 0
-BracketPost w B B' at n left r =
-    NestPost w B B' at n left (λ f g e. tBracket f (getD w (at + 4) 0) g e) (λ e m. spanRow nodeBracket (getD w (at + 4) 0) e m) r
-
-abbrev pub CallPost : List ℕ → List ℕ → List ℕ → ℕ → ℕ → ℕ → Got → Type 0
-CallPost w B B' at n left r =
-    NestPost w B B' at n left
-    (λ f g e. tCall f (getD w (at + 4) 0) (getD w (at + 6 + 2) 0) (getD w (at + 6 + 3) 0) g e)
-    (λ e m. node nodeCall 0 (getD w (at + 6 + 2) 0) (getD w (at + 6 + 3) 0) (getD w (at + 4) 0) e m) r
+abbrev pub TermPost : List ℕ → List ℕ → List ℕ → ℕ → ℕ → ℕ → Got → Type 0
+TermPost w B B' at n left r =
+    Cases r (TermGot w B B' at n left) (λ a b c d e. (x : Place) (f : Terms) → run (rest w at) (within left x f) ≡ refuse a b c d e)
 
 -- ---- after a pattern's terms
 pub record FollowsAt (w : List ℕ) (at m j m' : ℕ) : Type 0 where

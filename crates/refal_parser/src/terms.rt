@@ -4,7 +4,7 @@ ghost use Prim.Native.Nat.{_+_, _≤_};
 ghost use Rattle.refal_ast.specs.declared.tree.Term.the-variants.{Bracket, Call};
 ghost use Rattle.refal_parser.specs.Machine.{termOf, variableOf};
 ghost use Rattle.refal_parser.specs.Ready.{Ready, termAt};
-ghost use Rattle.refal_parser.specs.PostTerms.{BracketPost, CallPost, ClausePost, ClosesPost, FollowsPost, PatternPost, TermsPost, UntilPost};
+ghost use Rattle.refal_parser.specs.PostTerms.{ClausePost, ClosesPost, FollowsPost, PatternPost, TermPost, TermsPost, UntilPost};
 use crate::answers::Got;
 use crate::answers::present;
 use crate::answers::taken;
@@ -162,7 +162,7 @@ fn until(tokens: &[u32], rows: &mut [u32], at: usize, n: usize, left: usize, wan
 // The bracket that opens at `at`; its row is row n.
 fn bracket(tokens: &[u32], rows: &mut [u32], at: usize, n: usize, left: usize) -> Got
     requires { ⌜ Ready (now tokens) at × (n ≤ at + 2) × (termAt (now tokens) at ≡ Bracket) ⌝ }
-    ensures { λ r. ⌜ BracketPost (now (tokens .entry)) (now (rows .entry)) (now (rows .exit)) at n left r ⌝ }
+    ensures { λ r. ⌜ TermPost (now (tokens .entry)) (now (rows .entry)) (now (rows .exit)) at n left r ⌝ }
 {
     if left == 0 {
         return present(tokens, at, 37, 0);
@@ -182,7 +182,7 @@ fn bracket(tokens: &[u32], rows: &mut [u32], at: usize, n: usize, left: usize) -
 // The call that opens at `at`; its row is row n.
 fn call(tokens: &[u32], rows: &mut [u32], at: usize, n: usize, left: usize) -> Got
     requires { ⌜ Ready (now tokens) at × (n ≤ at + 2) × (termAt (now tokens) at ≡ Call) ⌝ }
-    ensures { λ r. ⌜ CallPost (now (tokens .entry)) (now (rows .entry)) (now (rows .exit)) at n left r ⌝ }
+    ensures { λ r. ⌜ TermPost (now (tokens .entry)) (now (rows .entry)) (now (rows .exit)) at n left r ⌝ }
 {
     if left == 0 {
         return present(tokens, at, 37, 0);

@@ -6,7 +6,7 @@ use mathlib.Core.Bool.{true, _&&_, _||_}
 use lib.Dec.{eqb}
 use lib.ListN.{length}
 use Rattle.refal_ast.specs.Check.{usesText}
-use Rattle.refal_ast.specs.Flatten.{Flat, flatDeclaration, flatFunction, flattenP, Loose, loose-none, loose-semicolon, loose-declaration, loose-function}
+use Rattle.refal_ast.specs.Flatten.{Flat, flattenItem, flattenP, Loose, loose-none, loose-semicolon, loose-item}
 use Rattle.refal_ast.specs.Tree.{Program}
 use Rattle.refal_spelling.specs.Spell.{Spelled, view, views}
 use Rattle.refal_spelling.specs.Good.{Good, AllGood, no-more, and-more}
@@ -51,7 +51,5 @@ pub loose-sound : (src : List ℕ) (p : Program) (l : List Flat) → Loose p l �
 unfolding flattenP
 loose-sound src p l loose-none a = a
 loose-sound src p l (loose-semicolon {p = q} {l = m} h) a = loose-sound src q m h (sound-left src m _ a)
-loose-sound src p l (loose-declaration {p = q} {l = m} {ns = ns} h) a =
-    sound-append src (flattenP q) (flatDeclaration ns) (loose-sound src q m h (sound-left src m (flatDeclaration ns) a)) (sound-right src m (flatDeclaration ns) a)
-loose-sound src p l (loose-function {p = q} {l = m} {s = s} {n = n} {x = x} {v = v} h) a =
-    sound-append src (flattenP q) (flatFunction x s n v) (loose-sound src q m h (sound-left src m (flatFunction x s n v) a)) (sound-right src m (flatFunction x s n v) a)
+loose-sound src p l (loose-item {p = q} {l = m} {x = x} h) a =
+    sound-append src (flattenP q) (flattenItem x) (loose-sound src q m h (sound-left src m (flattenItem x) a)) (sound-right src m (flattenItem x) a)

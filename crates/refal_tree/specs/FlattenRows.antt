@@ -10,14 +10,15 @@ use Rattle.refal_ast.specs.Kinds.{tokExtern, tokVariable, tokNumber, tokChar, t
 use Rattle.refal_ast.specs.Kinds.{tokComma, tokColon, tokEquals, tokSemicolon}
 use Rattle.refal_ast.specs.Kinds.{nodeDeclaration, nodeName, nodeFunction, nodeSentence, nodeCondition, nodeTerms, nodeEndingBlock, nodeConditionBlock}
 use Rattle.refal_ast.specs.Kinds.{nodeIdentifier, nodeNumber, nodeChar, nodeVariable, nodeBracket, nodeCall}
-use Rattle.refal_ast.specs.Tree.{Leaf, symbol, variable, Terms, t0, tLeaf, tBracket, tCall, Conditions, c0, cTerms, cBlock, Sentences, s0, sTerms, sBlock}
-use Rattle.refal_ast.specs.Tree.{Names, nOne, nMore, Program, p0, pDeclaration, pFunction}
+use Rattle.refal_ast.specs.Tree.{Leaf, symbol, variable, Term, leaf, bracket, call, Terms, t0, tMore, Right, rTerms, rBlock, Condition, condition, Conditions, c0, cMore}
+use Rattle.refal_ast.specs.Tree.{End, eTerms, eBlock, Sentence, sentence, Sentences, s0, sMore, Names, nOne, nMore, Item, declaration, function, Program, p0, pMore}
 use Rattle.refal_ast.specs.Encode.{entryWord}
-use Rattle.refal_ast.specs.Flatten.{Flat, flatToken, mark, nameOf, flatLeaf, flattenT, flattenC, flattenS, flattenN, flatEntry, flatFunction, flattenP}
+use Rattle.refal_ast.specs.Flatten.{Flat, flatToken, mark, nameOf, flatLeaf, flattenTerm, flattenT, flattenRight, flattenCondition, flattenC, flattenEnd, flattenSentence, flattenS, flattenN}
+use Rattle.refal_ast.specs.Flatten.{flatEntry, flattenItem, flattenP}
 use Rattle.refal_ast.specs.declared.tree.Symbol.the-variants.{Char, Identifier, Number}
 use Rattle.refal_tree.specs.Forest.{Row, row, Forest, empty, tree}
 use Rattle.refal_tree.specs.States.{termKind, atItems, atName, atNames, atSentences, atPattern, atConditions, atCondition, atColon, atTerms, atArgument, atEnding, closed, inside, after}
-use Rattle.refal_tree.specs.Typed.{leafR, plain, forT, forTerms, forC, forS, nameR, forN, forP, toForest}
+use Rattle.refal_tree.specs.Typed.{leafR, plain, forTerm, forT, forTerms, forRight, forCondition, forC, forEnd, forSentence, forS, nameR, forN, forItem, forP, toForest}
 
 abbrev pub pickF : Bool → List Flat → List Flat → List Flat
 pickF true x y = x
@@ -115,16 +116,21 @@ flows-leaf (symbol (Identifier s l)) a b = record { flat = λ g. refl }
 flows-leaf (symbol (Number s l)) a b = record { flat = λ g. refl }
 flows-leaf (variable v s l) a b = record { flat = λ g. refl }
 
-pub flows-T : (f : Terms) → Flows atTerms atTerms (forT f) (flattenT f)
-unfolding flattenT forT
-flows-T t0 = flows-none atTerms
-flows-T (tLeaf f x a b) = flows-then (flows-T f) (flows-leaf x a b)
-flows-T (tBracket f a t b) = flows-then (flows-T f) (flows-row atTerms (plain 13 a b) (flows-T t))
-flows-T (tCall f a s l t b) = flows-then (flows-T f) (flows-row atTerms (row 14 0 s l a b) (flows-T t))
+mutual
+  unfolding flattenT forT
+
+  flows-term : (x : Term) → Flows atTerms atTerms (forTerm x) (flattenTerm x)
+  flows-term (leaf x a b) = flows-leaf x a b
+  flows-term (bracket a f b) = flows-row atTerms (plain nodeBracket a b) (flows-T f)
+  flows-term (call a s l f b) = flows-row atTerms (row nodeCall 0 s l a b) (flows-T f)
+
+  flows-T : (f : Terms) → Flows atTerms atTerms (forT f) (flattenT f)
+  flows-T t0 = flows-none atTerms
+  flows-T (tMore f x) = flows-then (flows-T f) (flows-term x)
 
 -- a Terms row, in each place
-flows-terms : (st : ℕ) (f : Terms) → Flows st (after st 6) (forTerms f) (opening st (plain 6 0 0) ++ (flattenT f ++ closing st 6))
-flows-terms st f = flows-row st (plain 6 0 0) (flows-T f)
+flows-terms : (st : ℕ) (f : Terms) → Flows st (after st nodeTerms) (forTerms f) (opening st (plain nodeTerms 0 0) ++ (flattenT f ++ closing st nodeTerms))
+flows-terms st f = flows-row st (plain nodeTerms 0 0) (flows-T f)
 
 at-pattern : (f : Terms) → Flows atPattern atConditions (forTerms f) (flattenT f)
 at-pattern f = flows-as (append-nil (flattenT f)) (flows-terms atPattern f)
@@ -139,29 +145,32 @@ flows-ending : {op : Forest → Forest} {E : List Flat} → Flows atSentences at
 flows-ending {op} {E} p = record { flat = λ g. flat-ending (op g) ∙ p .flat g ∙ ap (λ (l : List Flat). E ++ l) (sym (flat-ending g)) }
 
 mutual
-  unfolding flattenC flattenS forC forS
+  unfolding flattenC forC
 
-  pub flows-C : (cs : Conditions) → Flows atConditions atConditions (forC cs) (flattenC cs)
+  flows-right : (r : Right) → Flows atColon closed (forRight r) (flattenRight r)
+  flows-right (rTerms f) = at-colon f
+  flows-right (rBlock a v b) = flows-row atColon (plain nodeConditionBlock a b) (flows-S v)
+
+  flows-condition : (x : Condition) → Flows atConditions atConditions (forCondition x) (flattenCondition x)
+  flows-condition (condition a f r b) =
+      flows-as (simp (append-assoc, append-nil)) (flows-row atConditions (plain nodeCondition a b) (flows-then (flows-terms atCondition f) (flows-right r)))
+
+  flows-C : (cs : Conditions) → Flows atConditions atConditions (forC cs) (flattenC cs)
   flows-C c0 = flows-none atConditions
-  flows-C (cTerms cs a f t b) =
-      flows-then (flows-C cs)
-      (flows-as (simp (append-assoc, append-nil)) (flows-row atConditions (plain 5 a b) (flows-then (flows-terms atCondition f) (at-colon t))))
-  flows-C (cBlock cs a f o v e b) =
-      flows-then (flows-C cs)
-      (flows-as (simp (append-assoc, append-nil)) (flows-row atConditions (plain 5 a b) (flows-then (flows-terms atCondition f) (flows-row atColon (plain 8 o e) (flows-S v)))))
+  flows-C (cMore cs x) = flows-then (flows-C cs) (flows-condition x)
 
-  pub flows-S : (s : Sentences) → Flows atSentences atSentences (forS s) (flattenS s)
+  flows-end : (x : End) → Flows atConditions closed (forEnd x) (mark tokEquals ∷ flattenEnd x)
+  flows-end (eTerms f) = at-result f
+  flows-end (eBlock a f v b) =
+      flows-as (simp append-assoc) (flows-row atConditions (plain nodeEndingBlock a b) (flows-then (flows-terms atArgument f) (flows-ending (flows-S v))))
+
+  flows-sentence : (x : Sentence) → Flows atSentences atSentences (forSentence x) (flattenSentence x)
+  flows-sentence (sentence a f cs x b) =
+      flows-as (simp append-assoc) (flows-row atSentences (plain nodeSentence a b) (flows-then (at-pattern f) (flows-then (flows-C cs) (flows-end x))))
+
+  flows-S : (s : Sentences) → Flows atSentences atSentences (forS s) (flattenS s)
   flows-S s0 = flows-none atSentences
-  flows-S (sTerms s a f cs t b) =
-      flows-then (flows-S s)
-      (flows-as (simp append-assoc) (flows-row atSentences (plain 4 a b) (flows-then (at-pattern f) (flows-then (flows-C cs) (at-result t)))))
-  flows-S (sBlock s a f cs o t v e b) =
-      flows-then (flows-S s)
-      (flows-as (simp append-assoc)
-      (flows-row atSentences (plain 4 a b)
-      (flows-then (at-pattern f)
-      (flows-then (flows-C cs)
-      (flows-row atConditions (plain 7 o e) (flows-then (flows-terms atArgument t) (flows-ending (flows-S v))))))))
+  flows-S (sMore s x) = flows-then (flows-S s) (flows-sentence x)
 
 flows-name : (s l : ℕ) → Flows atName atNames (λ (g : Forest). tree (nameR s l) empty g) (nameOf s l ∷ [])
 unfolding flattenG
@@ -171,20 +180,20 @@ flows-more : (s l : ℕ) → Flows atNames atNames (λ (g : Forest). tree (nameR
 unfolding flattenG
 flows-more s l = record { flat = λ g. refl }
 
-pub flows-N : (ns : Names) → Flows atName atNames (forN ns) (flattenN ns)
+flows-N : (ns : Names) → Flows atName atNames (forN ns) (flattenN ns)
 unfolding flattenN forN
 flows-N (nOne s l) = flows-name s l
 flows-N (nMore ns s l) = flows-then (flows-N ns) (flows-more s l)
 
-flows-function : (x : Bool) (s l a b : ℕ) (v : Sentences) → Flows atItems atItems (λ (g : Forest). tree (row 3 (entryWord x) s l a b) (forS v empty) g) (flatFunction x s l v)
-flows-function true s l a b v = flows-row atItems (row 3 1 s l a b) (flows-S v)
-flows-function false s l a b v = flows-row atItems (row 3 0 s l a b) (flows-S v)
+flows-item : (x : Item) → Flows atItems atItems (forItem x) (flattenItem x)
+flows-item (declaration a ns b) = flows-row atItems (plain nodeDeclaration a b) (flows-N ns)
+flows-item (function a true s l v b) = flows-row atItems (row nodeFunction 1 s l a b) (flows-S v)
+flows-item (function a false s l v b) = flows-row atItems (row nodeFunction 0 s l a b) (flows-S v)
 
-pub flows-P : (p : Program) → Flows atItems atItems (forP p) (flattenP p)
+flows-P : (p : Program) → Flows atItems atItems (forP p) (flattenP p)
 unfolding flattenP forP
 flows-P p0 = flows-none atItems
-flows-P (pDeclaration p a ns b) = flows-then (flows-P p) (flows-row atItems (plain 1 a b) (flows-N ns))
-flows-P (pFunction p a x s l v b) = flows-then (flows-P p) (flows-function x s l a b v)
+flows-P (pMore p x) = flows-then (flows-P p) (flows-item x)
 
 pub flatten-tree : (p : Program) → flattenG atItems (toForest p) ≡ flattenP p
 unfolding flattenG

@@ -6,15 +6,17 @@ use native.Mathlib.Omega.{arith}
 use lib.Dec.{eqb, leb}
 use borrow.Author.Tests.{leb-true}
 use Rattle.refal_rows.specs.Tests.{and-left, and-right}
-use Rattle.refal_ast.specs.Tree.{Leaf, symbol, variable, Terms, t0, tLeaf, tBracket, tCall, Conditions, c0, Sentences, s0, Names, nOne}
-use Rattle.refal_ast.specs.Tree.{nMore, Program, p0, pDeclaration, pFunction, depthT, depthC, depthS, depthP}
+use Rattle.refal_ast.specs.Kinds.{nodeDeclaration, nodeFunction, nodeSentence, nodeCondition, nodeTerms, nodeEndingBlock, nodeConditionBlock, nodeBracket, nodeCall}
+use Rattle.refal_ast.specs.Tree.{Leaf, symbol, variable, Term, leaf, bracket, call, Terms, t0, tMore, Right, rTerms, rBlock, Condition, condition, Conditions, c0, cMore}
+use Rattle.refal_ast.specs.Tree.{End, eTerms, eBlock, Sentence, sentence, Sentences, s0, sMore, Names, nOne, nMore, Item, declaration, function, Program, p0, pMore}
+use Rattle.refal_ast.specs.Tree.{depthTerm, depthT, depthRight, depthCondition, depthC, depthEnd, depthSentence, depthS, depthItem, depthP}
 use Rattle.refal_ast.specs.Encode.{entryWord}
 use Rattle.refal_ast.specs.declared.tree.Symbol.the-variants.{Char, Identifier, Number}
 use Rattle.refal_tree.specs.Forest.{Row, row, Forest, empty, tree}
 use Rattle.refal_tree.specs.States.{atItems, atName, atNames, atSentences, atPattern, atConditions, atCondition, atColon, atTerms, atArgument, atEnding, closed, inside, after, below, lower}
 use Rattle.refal_tree.specs.Rules.{rowOk, okG}
-use Rattle.refal_tree.specs.Typed.{leafR, plain, forT, forTerms, forC, forS, nameR, forN, forP, toForest, getT, getS, getSentence, getTail}
-use Rattle.refal_tree.specs.Typed.{getBlock, getCondition, getRight, getNs, getN, getP, programOf}
+use Rattle.refal_tree.specs.Typed.{leafR, plain, forTerm, forT, forTerms, forRight, forCondition, forC, forEnd, forSentence, forS, nameR, forN, forItem, forP, toForest}
+use Rattle.refal_tree.specs.Typed.{termOf, getT, getS, getSentence, getTail, getBlock, getCondition, getRight, getNs, getN, itemOf, getP, programOf}
 use Rattle.refal_tree.specs.TypedRules.{ending-is, leaf-back, entry-back}
 use Rattle.refal_tree.specs.Views.{never, TermRow, isLeaf, isBracket, isCall, ItemRow, isDeclaration, isFunction, NameRow, isName, PlainRow, isPlain, TermsRow}
 use Rattle.refal_tree.specs.Views.{isTerms, TailRow, isCondition, isResult, isEnding, RightRow, isRight, isBlock, Kept, kept, item-row, name-row, names-row}
@@ -66,27 +68,27 @@ AllT f = (left : ℕ) (t : Terms) → okG atTerms left f ≡ true → TermsOf le
 term-step : (r : Row) (f g : Forest) (left : ℕ) (t : Terms) → TermRow r → Parts atTerms left r f g → AllT f → AllT g → TermsOf left t (tree r f g)
 unfolding forT getT depthT
 term-step _ f g left t (isLeaf x a b) p kids rest =
-    let n = rest left (tLeaf t x a b) (ap (λ (st : ℕ). okG st left g) (sym (leaf-after x a b)) ∙ p .rest) in
-    let q = leaf-back t x a b (getT t0 f) in
+    let n = rest left (tMore t (leaf x a b)) (ap (λ (st : ℕ). okG st left g) (sym (leaf-after x a b)) ∙ p .rest) in
+    let q = leaf-back x a b (getT t0 f) in
     record {
       forest =
-          ap (λ (y : Terms). forT (getT y g) empty) q
+          ap (λ (y : Term). forT (getT (tMore t y) g) empty) q
           ∙ n .forest
           ∙ ap (λ (y : Forest). forT t (tree (leafR x a b) y g)) (sym (leaf-kids x a b (below atTerms (leafR x a b .kind) left) f (p .kids)));
-      deep = λ d. subst (λ (y : Terms). depthT (getT y g) ≤ left) (sym q) (n .deep d);
+      deep = λ d. subst (λ (y : Term). depthT (getT (tMore t y) g) ≤ left) (sym q) (n .deep (omega arith));
     }
 term-step _ f g left t (isBracket a b) p kids rest =
     let k = kids (lower left) t0 (p .kids) in
-    let n = rest left (tBracket t a (getT t0 f) b) (p .rest) in
+    let n = rest left (tMore t (bracket a (getT t0 f) b)) (p .rest) in
     record {
-      forest = n .forest ∙ ap (λ (y : Forest). forT t (tree (plain 13 a b) y g)) (k .forest);
+      forest = n .forest ∙ ap (λ (y : Forest). forT t (tree (plain nodeBracket a b) y g)) (k .forest);
       deep = λ d. let i = raise (depthT (getT t0 f)) left (p .here .deep) (k .deep (omega arith)) in n .deep (omega arith);
     }
 term-step _ f g left t (isCall s l a b) p kids rest =
     let k = kids (lower left) t0 (p .kids) in
-    let n = rest left (tCall t a s l (getT t0 f) b) (p .rest) in
+    let n = rest left (tMore t (call a s l (getT t0 f) b)) (p .rest) in
     record {
-      forest = n .forest ∙ ap (λ (y : Forest). forT t (tree (row 14 0 s l a b) y g)) (k .forest);
+      forest = n .forest ∙ ap (λ (y : Forest). forT t (tree (row nodeCall 0 s l a b) y g)) (k .forest);
       deep = λ d. let i = raise (depthT (getT t0 f)) left (p .here .deep) (k .deep (omega arith)) in n .deep (omega arith);
     }
 
@@ -111,135 +113,134 @@ pub record SentencesOf (left : ℕ) (s : Sentences) (f : Forest) : Type 0 where
   pub deep : depthS s ≤ left → depthS (getS s f) ≤ left
 
 -- a sentence, of the row r
-pub record SentenceOf (left : ℕ) (s : Sentences) (r : Row) (f : Forest) : Type 0 where
-  pub forest : (g : Forest) → forS (getSentence s r f) g ≡ forS s (tree (plain 4 (r .from) (r .to)) f g)
-  pub deep : depthS s ≤ left → depthS (getSentence s r f) ≤ left
+pub record SentenceOf (left : ℕ) (r : Row) (f : Forest) : Type 0 where
+  pub forest : (g : Forest) → forSentence (getSentence r f) g ≡ tree (plain nodeSentence (r .from) (r .to)) f g
+  pub deep : depthSentence (getSentence r f) ≤ left
 
 -- the rest of a sentence, after its pattern p and conditions cs
-pub record TailOf (left : ℕ) (s : Sentences) (r : Row) (p : Terms) (cs : Conditions) (f : Forest) : Type 0 where
-  pub forest : (g : Forest) → forS (getTail s r p cs f) g ≡ forS s (tree (plain 4 (r .from) (r .to)) (forTerms p (forC cs f)) g)
-  pub deep : depthS s ≤ left → depthT p ≤ left → depthC cs ≤ left → depthS (getTail s r p cs f) ≤ left
+pub record TailOf (left : ℕ) (r : Row) (p : Terms) (cs : Conditions) (f : Forest) : Type 0 where
+  pub forest : (g : Forest) → forSentence (getTail r p cs f) g ≡ tree (plain nodeSentence (r .from) (r .to)) (forTerms p (forC cs f)) g
+  pub deep : depthT p ≤ left → depthC cs ≤ left → depthSentence (getTail r p cs f) ≤ left
 
 -- an ending block, of the row q
-pub record BlockOf (left : ℕ) (s : Sentences) (r : Row) (p : Terms) (cs : Conditions) (q : Row) (f : Forest) : Type 0 where
-  pub forest : (g : Forest) → forS (getBlock s r p cs q f) g ≡ forS s (tree (plain 4 (r .from) (r .to)) (forTerms p (forC cs (tree (plain 7 (q .from) (q .to)) f empty))) g)
-  pub deep : leb 1 left ≡ true → depthS s ≤ left → depthT p ≤ left → depthC cs ≤ left → depthS (getBlock s r p cs q f) ≤ left
+pub record BlockOf (left : ℕ) (q : Row) (f : Forest) : Type 0 where
+  pub forest : forEnd (getBlock q f) empty ≡ tree (plain nodeEndingBlock (q .from) (q .to)) f empty
+  pub deep : leb 1 left ≡ true → depthEnd (getBlock q f) ≤ left
 
 -- a condition, of the row r
-pub record ConditionOf (left : ℕ) (cs : Conditions) (r : Row) (f : Forest) : Type 0 where
-  pub forest : (g : Forest) → forC (getCondition cs r f) g ≡ forC cs (tree (plain 5 (r .from) (r .to)) f g)
-  pub deep : depthC cs ≤ left → depthC (getCondition cs r f) ≤ left
+pub record ConditionOf (left : ℕ) (r : Row) (f : Forest) : Type 0 where
+  pub forest : (g : Forest) → forCondition (getCondition r f) g ≡ tree (plain nodeCondition (r .from) (r .to)) f g
+  pub deep : depthCondition (getCondition r f) ≤ left
 
--- the rest of a condition, after its first terms p
-pub record RightOf (left : ℕ) (cs : Conditions) (r : Row) (p : Terms) (f : Forest) : Type 0 where
-  pub forest : (g : Forest) → forC (getRight cs r p f) g ≡ forC cs (tree (plain 5 (r .from) (r .to)) (forTerms p f) g)
-  pub deep : depthC cs ≤ left → depthT p ≤ left → depthC (getRight cs r p f) ≤ left
+-- what stands after a condition's first terms
+pub record RightOf (left : ℕ) (f : Forest) : Type 0 where
+  pub forest : forRight (getRight f) empty ≡ f
+  pub deep : depthRight (getRight f) ≤ left
 
 -- the same for a forest's part, whatever stands before it
 abbrev AllS : Forest → Type 0
 AllS f = (left : ℕ) (s : Sentences) → okG atSentences left f ≡ true → SentencesOf left s f
 
 abbrev AllSentence : Forest → Type 0
-AllSentence f = (left : ℕ) (s : Sentences) (r : Row) → okG atPattern left f ≡ true → SentenceOf left s r f
+AllSentence f = (left : ℕ) (r : Row) → okG atPattern left f ≡ true → SentenceOf left r f
 
 abbrev AllTail : Forest → Type 0
-AllTail f = (left : ℕ) (s : Sentences) (r : Row) (p : Terms) (cs : Conditions) → okG atConditions left f ≡ true → TailOf left s r p cs f
+AllTail f = (left : ℕ) (r : Row) (p : Terms) (cs : Conditions) → okG atConditions left f ≡ true → TailOf left r p cs f
 
 abbrev AllBlock : Forest → Type 0
-AllBlock f = (left : ℕ) (s : Sentences) (r : Row) (p : Terms) (cs : Conditions) (q : Row) → okG atArgument left f ≡ true → BlockOf left s r p cs q f
+AllBlock f = (left : ℕ) (q : Row) → okG atArgument left f ≡ true → BlockOf left q f
 
 abbrev AllCondition : Forest → Type 0
-AllCondition f = (left : ℕ) (cs : Conditions) (r : Row) → okG atCondition left f ≡ true → ConditionOf left cs r f
+AllCondition f = (left : ℕ) (r : Row) → okG atCondition left f ≡ true → ConditionOf left r f
 
 abbrev AllRight : Forest → Type 0
-AllRight f = (left : ℕ) (cs : Conditions) (r : Row) (p : Terms) → okG atColon left f ≡ true → RightOf left cs r p f
+AllRight f = (left : ℕ) → okG atColon left f ≡ true → RightOf left f
 
-sentence-step : (r : Row) (f g : Forest) (left : ℕ) (s : Sentences) → PlainRow 4 r → Parts atSentences left r f g → AllSentence f → AllS g → SentencesOf left s (tree r f g)
-unfolding getS
+sentence-step : (r : Row) (f g : Forest) (left : ℕ) (s : Sentences) → PlainRow nodeSentence r → Parts atSentences left r f g → AllSentence f → AllS g → SentencesOf left s (tree r f g)
+unfolding getS forS depthS
 sentence-step _ f g left s (isPlain a b) p kids rest =
-    let k = kids left s (plain 4 a b) (p .kids) in
-    let n = rest left (getSentence s (plain 4 a b) f) (p .rest) in
-    record { forest = n .forest ∙ k .forest g; deep = λ d. n .deep (k .deep d) }
+    let k = kids left (plain nodeSentence a b) (p .kids) in
+    let n = rest left (sMore s (getSentence (plain nodeSentence a b) f)) (p .rest) in
+    let e : depthSentence (getSentence (plain nodeSentence a b) f) ≤ left = k .deep in
+    record { forest = n .forest ∙ ap (forS s) (k .forest g); deep = λ d. n .deep (omega arith) }
 
-pattern-step : (z : Row) (f g : Forest) (left : ℕ) (s : Sentences) (r : Row) → TermsRow z → Parts atPattern left z f g → AllTail g → SentenceOf left s r (tree z f g)
+pattern-step : (z : Row) (f g : Forest) (left : ℕ) (r : Row) → TermsRow z → Parts atPattern left z f g → AllTail g → SentenceOf left r (tree z f g)
 unfolding getSentence forC depthC
-pattern-step _ f g left s r isTerms p rest =
-    let n = rest left s r (getT t0 f) c0 (p .rest) in
+pattern-step _ f g left r isTerms p rest =
+    let n = rest left r (getT t0 f) c0 (p .rest) in
     let t = terms-deep f left (p .kids) in
     record {
-      forest = λ h. n .forest h ∙ ap (λ (y : Forest). forS s (tree (plain 4 (r .from) (r .to)) (tree (plain 6 0 0) y g) h)) (terms-of f left (p .kids));
-      deep = λ d. n .deep d t (omega arith);
+      forest = λ h. n .forest h ∙ ap (λ (y : Forest). tree (plain nodeSentence (r .from) (r .to)) (tree (plain nodeTerms 0 0) y g) h) (terms-of f left (p .kids));
+      deep = n .deep t (omega arith);
     }
 
-tail-step : (z : Row) (f g : Forest) (left : ℕ) (s : Sentences) (r : Row) (p : Terms) (cs : Conditions) → TailRow z → Parts atConditions left z f g → AllCondition f → AllBlock f
-    → AllTail g → TailOf left s r p cs (tree z f g)
-unfolding getTail forC forS depthS
-tail-step _ f g left s r p cs (isCondition a b) q kids blocks rest =
-    let k = kids left cs (plain 5 a b) (q .kids) in
-    let n = rest left s r p (getCondition cs (plain 5 a b) f) (q .rest) in
+tail-step : (z : Row) (f g : Forest) (left : ℕ) (r : Row) (p : Terms) (cs : Conditions) → TailRow z → Parts atConditions left z f g → AllCondition f → AllBlock f → AllTail g
+    → TailOf left r p cs (tree z f g)
+unfolding getTail forSentence depthSentence
+tail-step _ f g left r p cs (isCondition a b) q kids blocks rest =
+    let k = kids left (plain nodeCondition a b) (q .kids) in
+    let n = rest left r p (cMore cs (getCondition (plain nodeCondition a b) f)) (q .rest) in
+    let e : depthCondition (getCondition (plain nodeCondition a b) f) ≤ left = k .deep in
     record {
-      forest = λ h. n .forest h ∙ ap (λ (y : Forest). forS s (tree (plain 4 (r .from) (r .to)) (forTerms p y) h)) (k .forest g);
-      deep = λ d t c. n .deep d t (k .deep c);
+      forest = λ h. n .forest h ∙ ap (λ (y : Forest). tree (plain nodeSentence (r .from) (r .to)) (forTerms p (forC cs y)) h) (k .forest g);
+      deep = λ t c. n .deep t (omega arith);
     }
-tail-step _ f g left s r p cs isResult q kids blocks rest =
+tail-step _ f g left r p cs isResult q kids blocks rest =
     let t = terms-deep f left (q .kids) in
     record {
       forest = λ h.
-          ap (λ (y : Forest). forS s (tree (plain 4 (r .from) (r .to)) (forTerms p (forC cs (tree (plain 6 0 0) y empty))) h)) (terms-of f left (q .kids))
-          ∙ ap (λ (y : Forest). forS s (tree (plain 4 (r .from) (r .to)) (forTerms p (forC cs (tree (plain 6 0 0) f y))) h)) (sym (closed-empty left g (q .rest)));
-      deep = λ d u c. omega arith;
+          ap (λ (y : Forest). tree (plain nodeSentence (r .from) (r .to)) (forTerms p (forC cs (tree (plain nodeTerms 0 0) y empty))) h) (terms-of f left (q .kids))
+          ∙ ap (λ (y : Forest). tree (plain nodeSentence (r .from) (r .to)) (forTerms p (forC cs (tree (plain nodeTerms 0 0) f y))) h) (sym (closed-empty left g (q .rest)));
+      deep = λ u c. omega arith;
     }
-tail-step _ f g left s r p cs (isEnding a b) q kids blocks rest =
-    let k = blocks left s r p cs (plain 7 a b) (q .kids) in
+tail-step _ f g left r p cs (isEnding a b) q kids blocks rest =
+    let k = blocks left (plain nodeEndingBlock a b) (q .kids) in
+    let d : depthEnd (getBlock (plain nodeEndingBlock a b) f) ≤ left = k .deep (q .here .deep) in
     record {
       forest = λ h.
-          k .forest h
-          ∙ ap (λ (y : Forest). forS s (tree (plain 4 (r .from) (r .to)) (forTerms p (forC cs (tree (plain 7 a b) f y))) h)) (sym (closed-empty left g (q .rest)));
-      deep = k .deep (q .here .deep);
+          ap (λ (y : Forest). tree (plain nodeSentence (r .from) (r .to)) (forTerms p (forC cs y)) h) (k .forest)
+          ∙ ap (λ (y : Forest). tree (plain nodeSentence (r .from) (r .to)) (forTerms p (forC cs (tree (plain nodeEndingBlock a b) f y))) h) (sym (closed-empty left g (q .rest)));
+      deep = λ u c. omega arith;
     }
 
-block-step : (z : Row) (f g : Forest) (left : ℕ) (s : Sentences) (r : Row) (p : Terms) (cs : Conditions) (q : Row) → TermsRow z → Parts atArgument left z f g → AllS g
-    → BlockOf left s r p cs q (tree z f g)
+block-step : (z : Row) (f g : Forest) (left : ℕ) (q : Row) → TermsRow z → Parts atArgument left z f g → AllS g → BlockOf left q (tree z f g)
 unfolding getBlock forS depthS
-block-step _ f g left s r p cs q isTerms o rest =
+block-step _ f g left q isTerms o rest =
     let t = terms-deep f left (o .kids) in
     let n = rest (lower left) s0 (sym (ending-is left g) ∙ o .rest) in
-    let whole : Forest → Forest → Forest = λ h y. forS s (tree (plain 4 (r .from) (r .to)) (forTerms p (forC cs (tree (plain 7 (q .from) (q .to)) y empty))) h) in
     record {
-      forest = λ h.
-          ap (λ (y : Forest). whole h (tree (plain 6 0 0) y (forS (getS s0 g) empty))) (terms-of f left (o .kids))
-          ∙ ap (λ (y : Forest). whole h (tree (plain 6 0 0) f y)) (n .forest);
-      deep = λ some d u c. let v = raise (depthS (getS s0 g)) left some (n .deep (omega arith)) in omega arith;
+      forest =
+          ap (λ (y : Forest). tree (plain nodeEndingBlock (q .from) (q .to)) (tree (plain nodeTerms 0 0) y (forS (getS s0 g) empty)) empty) (terms-of f left (o .kids))
+          ∙ ap (λ (y : Forest). tree (plain nodeEndingBlock (q .from) (q .to)) (tree (plain nodeTerms 0 0) f y) empty) (n .forest);
+      deep = λ some. let v = raise (depthS (getS s0 g)) left some (n .deep (omega arith)) in omega arith;
     }
 
-condition-step : (z : Row) (f g : Forest) (left : ℕ) (cs : Conditions) (r : Row) → TermsRow z → Parts atCondition left z f g → AllRight g → ConditionOf left cs r (tree z f g)
-unfolding getCondition
-condition-step _ f g left cs r isTerms q rest =
-    let n = rest left cs r (getT t0 f) (q .rest) in
+condition-step : (z : Row) (f g : Forest) (left : ℕ) (r : Row) → TermsRow z → Parts atCondition left z f g → AllRight g → ConditionOf left r (tree z f g)
+unfolding getCondition forC depthC
+condition-step _ f g left r isTerms q rest =
+    let n = rest left (q .rest) in
     let t = terms-deep f left (q .kids) in
-    record {
-      forest = λ h. n .forest h ∙ ap (λ (y : Forest). forC cs (tree (plain 5 (r .from) (r .to)) (tree (plain 6 0 0) y g) h)) (terms-of f left (q .kids));
-      deep = λ d. n .deep d t;
-    }
-
-right-step : (z : Row) (f g : Forest) (left : ℕ) (cs : Conditions) (r : Row) (p : Terms) → RightRow z → Parts atColon left z f g → AllS f → RightOf left cs r p (tree z f g)
-unfolding getRight forC forS depthC depthS
-right-step _ f g left cs r p isRight q kids =
-    let t = terms-deep f left (q .kids) in
+    let e : depthRight (getRight g) ≤ left = n .deep in
     record {
       forest = λ h.
-          ap (λ (y : Forest). forC cs (tree (plain 5 (r .from) (r .to)) (forTerms p (tree (plain 6 0 0) y empty)) h)) (terms-of f left (q .kids))
-          ∙ ap (λ (y : Forest). forC cs (tree (plain 5 (r .from) (r .to)) (forTerms p (tree (plain 6 0 0) f y)) h)) (sym (closed-empty left g (q .rest)));
-      deep = λ d u. omega arith;
+          ap (λ (y : Forest). tree (plain nodeCondition (r .from) (r .to)) (tree (plain nodeTerms 0 0) y (forRight (getRight g) empty)) h) (terms-of f left (q .kids))
+          ∙ ap (λ (y : Forest). tree (plain nodeCondition (r .from) (r .to)) (tree (plain nodeTerms 0 0) f y) h) (n .forest);
+      deep = omega arith;
     }
-right-step _ f g left cs r p (isBlock a b) q kids =
+
+right-step : (z : Row) (f g : Forest) (left : ℕ) → RightRow z → Parts atColon left z f g → AllS f → RightOf left (tree z f g)
+unfolding getRight forS depthS
+right-step _ f g left isRight q kids = record {
+  forest =
+      ap (λ (y : Forest). tree (plain nodeTerms 0 0) y empty) (terms-of f left (q .kids))
+      ∙ ap (λ (y : Forest). tree (plain nodeTerms 0 0) f y) (sym (closed-empty left g (q .rest)));
+  deep = terms-deep f left (q .kids);
+}
+right-step _ f g left (isBlock a b) q kids =
     let n = kids (lower left) s0 (q .kids) in
-    let i = raise (depthS (getS s0 f)) left (q .here .deep) (n .deep (omega arith)) in
     record {
-      forest = λ h.
-          ap (λ (y : Forest). forC cs (tree (plain 5 (r .from) (r .to)) (forTerms p (tree (plain 8 a b) y empty)) h)) (n .forest)
-          ∙ ap (λ (y : Forest). forC cs (tree (plain 5 (r .from) (r .to)) (forTerms p (tree (plain 8 a b) f y)) h)) (sym (closed-empty left g (q .rest)));
-      deep = λ d u. omega arith;
+      forest = ap (λ (y : Forest). tree (plain nodeConditionBlock a b) y empty) (n .forest) ∙ ap (λ (y : Forest). tree (plain nodeConditionBlock a b) f y) (sym (closed-empty left g (q .rest)));
+      deep = raise (depthS (getS s0 f)) left (q .here .deep) (n .deep (omega arith));
     }
 
 mutual
@@ -250,36 +251,36 @@ mutual
   sound-S (tree r f g) left s h =
       let p = parts atSentences left r f g h in
       sentence-step r f g left s (sentence-row (p .here)) p
-      (λ (l : ℕ) (s : Sentences) (r : Row). λ h. sound-sentence f l s r h) (λ (l : ℕ) (s : Sentences). λ h. sound-S g l s h)
+      (λ (l : ℕ) (r : Row). λ h. sound-sentence f l r h) (λ (l : ℕ) (s : Sentences). λ h. sound-S g l s h)
 
-  sound-sentence : (f : Forest) (left : ℕ) (s : Sentences) (r : Row) → okG atPattern left f ≡ true → SentenceOf left s r f
-  sound-sentence empty left s r h = never h
-  sound-sentence (tree z f g) left s r h =
-      let p = parts atPattern left z f g h in pattern-step z f g left s r (pattern-row (p .here)) p (λ (l : ℕ) (s : Sentences) (r : Row) (p : Terms) (cs : Conditions). λ h. sound-tail g l s r p cs h)
+  sound-sentence : (f : Forest) (left : ℕ) (r : Row) → okG atPattern left f ≡ true → SentenceOf left r f
+  sound-sentence empty left r h = never h
+  sound-sentence (tree z f g) left r h =
+      let p = parts atPattern left z f g h in pattern-step z f g left r (pattern-row (p .here)) p (λ (l : ℕ) (r : Row) (p : Terms) (cs : Conditions). λ h. sound-tail g l r p cs h)
 
-  sound-tail : (f : Forest) (left : ℕ) (s : Sentences) (r : Row) (p : Terms) (cs : Conditions) → okG atConditions left f ≡ true → TailOf left s r p cs f
-  sound-tail empty left s r p cs h = never h
-  sound-tail (tree z f g) left s r p cs h =
+  sound-tail : (f : Forest) (left : ℕ) (r : Row) (p : Terms) (cs : Conditions) → okG atConditions left f ≡ true → TailOf left r p cs f
+  sound-tail empty left r p cs h = never h
+  sound-tail (tree z f g) left r p cs h =
       let q = parts atConditions left z f g h in
-      tail-step z f g left s r p cs (tail-row (q .here)) q
-      (λ (l : ℕ) (cs : Conditions) (r : Row). λ h. sound-condition f l cs r h)
-      (λ (l : ℕ) (s : Sentences) (r : Row) (p : Terms) (cs : Conditions) (q : Row). λ h. sound-block f l s r p cs q h)
-      (λ (l : ℕ) (s : Sentences) (r : Row) (p : Terms) (cs : Conditions). λ h. sound-tail g l s r p cs h)
+      tail-step z f g left r p cs (tail-row (q .here)) q
+      (λ (l : ℕ) (r : Row). λ h. sound-condition f l r h)
+      (λ (l : ℕ) (q : Row). λ h. sound-block f l q h)
+      (λ (l : ℕ) (r : Row) (p : Terms) (cs : Conditions). λ h. sound-tail g l r p cs h)
 
-  sound-block : (f : Forest) (left : ℕ) (s : Sentences) (r : Row) (p : Terms) (cs : Conditions) (q : Row) → okG atArgument left f ≡ true → BlockOf left s r p cs q f
-  sound-block empty left s r p cs q h = never h
-  sound-block (tree z f g) left s r p cs q h =
-      let o = parts atArgument left z f g h in block-step z f g left s r p cs q (argument-row (o .here)) o (λ (l : ℕ) (s : Sentences). λ h. sound-S g l s h)
+  sound-block : (f : Forest) (left : ℕ) (q : Row) → okG atArgument left f ≡ true → BlockOf left q f
+  sound-block empty left q h = never h
+  sound-block (tree z f g) left q h =
+      let o = parts atArgument left z f g h in block-step z f g left q (argument-row (o .here)) o (λ (l : ℕ) (s : Sentences). λ h. sound-S g l s h)
 
-  sound-condition : (f : Forest) (left : ℕ) (cs : Conditions) (r : Row) → okG atCondition left f ≡ true → ConditionOf left cs r f
-  sound-condition empty left cs r h = never h
-  sound-condition (tree z f g) left cs r h =
-      let q = parts atCondition left z f g h in condition-step z f g left cs r (condition-row (q .here)) q (λ (l : ℕ) (cs : Conditions) (r : Row) (p : Terms). λ h. sound-right g l cs r p h)
+  sound-condition : (f : Forest) (left : ℕ) (r : Row) → okG atCondition left f ≡ true → ConditionOf left r f
+  sound-condition empty left r h = never h
+  sound-condition (tree z f g) left r h =
+      let q = parts atCondition left z f g h in condition-step z f g left r (condition-row (q .here)) q (λ (l : ℕ). λ h. sound-right g l h)
 
-  sound-right : (f : Forest) (left : ℕ) (cs : Conditions) (r : Row) (p : Terms) → okG atColon left f ≡ true → RightOf left cs r p f
-  sound-right empty left cs r p h = never h
-  sound-right (tree z f g) left cs r p h =
-      let q = parts atColon left z f g h in right-step z f g left cs r p (right-row (q .here)) q (λ (l : ℕ) (s : Sentences). λ h. sound-S f l s h)
+  sound-right : (f : Forest) (left : ℕ) → okG atColon left f ≡ true → RightOf left f
+  sound-right empty left h = never h
+  sound-right (tree z f g) left h =
+      let q = parts atColon left z f g h in right-step z f g left (right-row (q .here)) q (λ (l : ℕ) (s : Sentences). λ h. sound-S f l s h)
 
 -- ---- names
 names-step : (r : Row) (f g : Forest) (left : ℕ) (ns : Names) → NameRow r → Parts atNames left r f g → ((ns : Names) → okG atNames left g ≡ true → forN (getNs ns g) empty ≡ forN ns g)
@@ -313,18 +314,21 @@ AllP left f = (p : Program) → okG atItems left f ≡ true → ProgramOf left p
 item-step : (r : Row) (f g : Forest) (left : ℕ) (p : Program) → ItemRow r → Parts atItems left r f g → AllP left g → ProgramOf left p (tree r f g)
 unfolding forP getP forS depthP depthS
 item-step _ f g left p (isDeclaration a b) q rest =
-    let n = rest (pDeclaration p a (getN f) b) (q .rest) in
-    record { forest = n .forest ∙ ap (λ (y : Forest). forP p (tree (plain 1 a b) y g)) (sound-N f left (q .kids)); deep = n .deep }
+    let n = rest (pMore p (declaration a (getN f) b)) (q .rest) in
+    record {
+      forest = n .forest ∙ ap (λ (y : Forest). forP p (tree (plain nodeDeclaration a b) y g)) (sound-N f left (q .kids));
+      deep = λ d. n .deep (omega arith);
+    }
 item-step _ f g left p (isFunction x s l a b) q rest =
     let k = sound-S f left s0 (q .kids) in
-    let n = rest (pFunction p a x s l (getS s0 f) b) (q .rest) in
+    let n = rest (pMore p (function a x s l (getS s0 f) b)) (q .rest) in
     let e : eqb (entryWord x) 1 ≡ x = entry-back x in
     record {
       forest =
-          ap (λ (y : Bool). forP (getP (pFunction p a y s l (getS s0 f) b) g) empty) e
+          ap (λ (y : Bool). forP (getP (pMore p (function a y s l (getS s0 f) b)) g) empty) e
           ∙ n .forest
-          ∙ ap (λ (y : Forest). forP p (tree (row 3 (entryWord x) s l a b) y g)) (k .forest);
-      deep = λ d. subst (λ (y : Bool). depthP (getP (pFunction p a y s l (getS s0 f) b) g) ≤ left) (sym e)
+          ∙ ap (λ (y : Forest). forP p (tree (row nodeFunction (entryWord x) s l a b) y g)) (k .forest);
+      deep = λ d. subst (λ (y : Bool). depthP (getP (pMore p (function a y s l (getS s0 f) b)) g) ≤ left) (sym e)
           (let i = k .deep (omega arith) in n .deep (omega arith));
     }
 

@@ -4,8 +4,8 @@ use mathlib.Core.Bool.{Bool, true, false}
 use lib.Dec.{eqb}
 use Rattle.refal_ast.specs.Kinds.{nodeDeclaration, nodeName, nodeFunction, nodeSentence, nodeCondition, nodeTerms, nodeEndingBlock, nodeConditionBlock, nodeIdentifier}
 use Rattle.refal_ast.specs.Kinds.{nodeNumber, nodeChar, nodeVariable, nodeBracket, nodeCall}
-use Rattle.refal_ast.specs.Tree.{Leaf, symbol, variable, Terms, t0, tLeaf, tBracket, tCall, Conditions, c0, cTerms, cBlock, Sentences, s0, sTerms, sBlock, Names, nOne}
-use Rattle.refal_ast.specs.Tree.{nMore, Program, p0, pDeclaration, pFunction}
+use Rattle.refal_ast.specs.Tree.{Leaf, symbol, variable, Term, leaf, bracket, call, Terms, t0, tMore, Right, rTerms, rBlock, Condition, condition, Conditions, c0, cMore}
+use Rattle.refal_ast.specs.Tree.{End, eTerms, eBlock, Sentence, sentence, Sentences, s0, sMore, Names, nOne, nMore, Item, declaration, function, Program, p0, pMore}
 use Rattle.refal_ast.specs.Encode.{letterOf, entryWord}
 use Rattle.refal_ast.specs.declared.tree.Symbol.the-variants.{Char, Identifier, Number}
 use Rattle.refal_ast.specs.declared.tree.VariableKind.{VariableKind}
@@ -25,28 +25,42 @@ leafR (variable v s l) a b = row nodeVariable (letterOf v) s l a b
 abbrev pub plain : ℕ → ℕ → ℕ → Row
 plain k a b = row k 0 0 0 a b
 
-unfoldable pub forT : Terms → Forest → Forest
-forT t0 g = g
-forT (tLeaf f x a b) g = forT f (tree (leafR x a b) empty g)
-forT (tBracket f a t b) g = forT f (tree (plain nodeBracket a b) (forT t empty) g)
-forT (tCall f a s l t b) g = forT f (tree (row nodeCall 0 s l a b) (forT t empty) g)
+unfoldable mutual
+  pub forTerm : Term → Forest → Forest
+  forTerm (leaf x a b) g = tree (leafR x a b) empty g
+  forTerm (bracket a f b) g = tree (plain nodeBracket a b) (forT f empty) g
+  forTerm (call a s l f b) g = tree (row nodeCall 0 s l a b) (forT f empty) g
+
+  pub forT : Terms → Forest → Forest
+  forT t0 g = g
+  forT (tMore f x) g = forT f (forTerm x g)
 
 -- a Terms row and its terms
 abbrev pub forTerms : Terms → Forest → Forest
 forTerms f g = tree (plain nodeTerms 0 0) (forT f empty) g
 
 unfoldable mutual
+  pub forRight : Right → Forest → Forest
+  forRight (rTerms f) g = forTerms f g
+  forRight (rBlock a v b) g = tree (plain nodeConditionBlock a b) (forS v empty) g
+
+  pub forCondition : Condition → Forest → Forest
+  forCondition (condition a f r b) g = tree (plain nodeCondition a b) (forTerms f (forRight r empty)) g
+
   pub forC : Conditions → Forest → Forest
   forC c0 g = g
-  forC (cTerms cs a f t b) g = forC cs (tree (plain nodeCondition a b) (forTerms f (forTerms t empty)) g)
-  forC (cBlock cs a f o v e b) g =
-      forC cs (tree (plain nodeCondition a b) (forTerms f (tree (plain nodeConditionBlock o e) (forS v empty) empty)) g)
+  forC (cMore cs x) g = forC cs (forCondition x g)
+
+  pub forEnd : End → Forest → Forest
+  forEnd (eTerms f) g = forTerms f g
+  forEnd (eBlock a f v b) g = tree (plain nodeEndingBlock a b) (forTerms f (forS v empty)) g
+
+  pub forSentence : Sentence → Forest → Forest
+  forSentence (sentence a f cs x b) g = tree (plain nodeSentence a b) (forTerms f (forC cs (forEnd x empty))) g
 
   pub forS : Sentences → Forest → Forest
   forS s0 g = g
-  forS (sTerms s a f cs t b) g = forS s (tree (plain nodeSentence a b) (forTerms f (forC cs (forTerms t empty))) g)
-  forS (sBlock s a f cs o t v e b) g =
-      forS s (tree (plain nodeSentence a b) (forTerms f (forC cs (tree (plain nodeEndingBlock o e) (forTerms t (forS v empty)) empty))) g)
+  forS (sMore s x) g = forS s (forSentence x g)
 
 abbrev pub nameR : ℕ → ℕ → Row
 nameR s l = row nodeName 0 s l 0 0
@@ -55,15 +69,18 @@ unfoldable pub forN : Names → Forest → Forest
 forN (nOne s l) g = tree (nameR s l) empty g
 forN (nMore ns s l) g = forN ns (tree (nameR s l) empty g)
 
+abbrev pub forItem : Item → Forest → Forest
+forItem (declaration a ns b) g = tree (plain nodeDeclaration a b) (forN ns empty) g
+forItem (function a x s l v b) g = tree (row nodeFunction (entryWord x) s l a b) (forS v empty) g
+
 unfoldable pub forP : Program → Forest → Forest
 forP p0 g = g
-forP (pDeclaration p a ns b) g = forP p (tree (plain nodeDeclaration a b) (forN ns empty) g)
-forP (pFunction p a x s l v b) g = forP p (tree (row nodeFunction (entryWord x) s l a b) (forS v empty) g)
+forP (pMore p x) g = forP p (forItem x g)
 
 abbrev pub toForest : Program → Forest
 toForest p = forP p empty
 
--- ---- from forests to trees: each takes what stands before it. Where the rows are not lawful, what comes out means nothing.
+-- ---- from forests to trees: lists take what stands before them. Where the rows are not lawful, what comes out means nothing.
 
 abbrev pub kindOf : ℕ → VariableKind
 kindOf d = go (eqb d 115) (eqb d 116)
@@ -72,10 +89,6 @@ kindOf d = go (eqb d 115) (eqb d 116)
     go true y = kindS
     go false true = kindT
     go false false = kindE
-
-abbrev pub pickTerms : Bool → Terms → Terms → Terms
-pickTerms true x y = x
-pickTerms false x y = y
 
 abbrev pub pickLeaf : Bool → Leaf → Leaf → Leaf
 pickLeaf true x y = x
@@ -88,60 +101,64 @@ leafOf r =
     (pickLeaf (eqb (r .kind) nodeNumber) (symbol (Number (r .start) (r .len)))
     (variable (kindOf (r .detail)) (r .start) (r .len))))
 
--- one more term: its row, and the terms inside it
-abbrev pub addTerm : Terms → Row → Terms → Terms
-addTerm f r t =
-    pickTerms (eqb (r .kind) nodeBracket) (tBracket f (r .from) t (r .to))
-    (pickTerms (eqb (r .kind) nodeCall) (tCall f (r .from) (r .start) (r .len) t (r .to))
-    (tLeaf f (leafOf r) (r .from) (r .to)))
+abbrev pub pickTerm : Bool → Term → Term → Term
+pickTerm true x y = x
+pickTerm false x y = y
+
+-- a term, of its row and the terms inside it
+abbrev pub termOf : Row → Terms → Term
+termOf r f =
+    pickTerm (eqb (r .kind) nodeBracket) (bracket (r .from) f (r .to))
+    (pickTerm (eqb (r .kind) nodeCall) (call (r .from) (r .start) (r .len) f (r .to))
+    (leaf (leafOf r) (r .from) (r .to)))
 
 unfoldable pub getT : Terms → Forest → Terms
 getT f empty = f
-getT f (tree r t g) = getT (addTerm f r (getT t0 t)) g
+getT f (tree r t g) = getT (tMore f (termOf r (getT t0 t))) g
 
-abbrev pub pickC : Bool → Conditions → Conditions → Conditions
-pickC true x y = x
-pickC false x y = y
+abbrev pub pickRight : Bool → Right → Right → Right
+pickRight true x y = x
+pickRight false x y = y
 
-abbrev pub pickS : Bool → Sentences → Sentences → Sentences
-pickS true x y = x
-pickS false x y = y
+abbrev pub pickEnd : Bool → End → End → End
+pickEnd true x y = x
+pickEnd false x y = y
+
+abbrev pub pickSentence : Bool → Sentence → Sentence → Sentence
+pickSentence true x y = x
+pickSentence false x y = y
 
 unfoldable mutual
-  -- sentences
   pub getS : Sentences → Forest → Sentences
   getS s empty = s
-  getS s (tree r f g) = getS (getSentence s r f) g
+  getS s (tree r f g) = getS (sMore s (getSentence r f)) g
 
-  -- one more sentence, of the row r, from its pattern on
-  pub getSentence : Sentences → Row → Forest → Sentences
-  getSentence s r empty = s
-  getSentence s r (tree q f g) = getTail s r (getT t0 f) c0 g
+  -- the sentence of the row r, from its pattern on
+  pub getSentence : Row → Forest → Sentence
+  getSentence r empty = sentence (r .from) t0 c0 (eTerms t0) (r .to)
+  getSentence r (tree q f g) = getTail r (getT t0 f) c0 g
 
   -- the same, from the place after some of its conditions on
-  pub getTail : Sentences → Row → Terms → Conditions → Forest → Sentences
-  getTail s r p cs empty = s
-  getTail s r p cs (tree q f g) =
-      pickS (eqb (q .kind) nodeCondition) (getTail s r p (getCondition cs q f) g)
-      (pickS (eqb (q .kind) nodeEndingBlock) (getBlock s r p cs q f)
-      (sTerms s (r .from) p cs (getT t0 f) (r .to)))
+  pub getTail : Row → Terms → Conditions → Forest → Sentence
+  getTail r p cs empty = sentence (r .from) p cs (eTerms t0) (r .to)
+  getTail r p cs (tree q f g) =
+      pickSentence (eqb (q .kind) nodeCondition) (getTail r p (cMore cs (getCondition q f)) g)
+      (sentence (r .from) p cs (pickEnd (eqb (q .kind) nodeEndingBlock) (getBlock q f) (eTerms (getT t0 f))) (r .to))
 
-  -- the same, from the argument of its ending block, of the row q, on
-  pub getBlock : Sentences → Row → Terms → Conditions → Row → Forest → Sentences
-  getBlock s r p cs q empty = s
-  getBlock s r p cs q (tree z f g) = sBlock s (r .from) p cs (q .from) (getT t0 f) (getS s0 g) (q .to) (r .to)
+  -- the ending block of the row q
+  pub getBlock : Row → Forest → End
+  getBlock q empty = eTerms t0
+  getBlock q (tree z f g) = eBlock (q .from) (getT t0 f) (getS s0 g) (q .to)
 
-  -- one more condition, of the row r
-  pub getCondition : Conditions → Row → Forest → Conditions
-  getCondition cs r empty = cs
-  getCondition cs r (tree q f g) = getRight cs r (getT t0 f) g
+  -- the condition of the row r
+  pub getCondition : Row → Forest → Condition
+  getCondition r empty = condition (r .from) t0 (rTerms t0) (r .to)
+  getCondition r (tree q f g) = condition (r .from) (getT t0 f) (getRight g) (r .to)
 
-  -- the same, from the place after its first terms on
-  pub getRight : Conditions → Row → Terms → Forest → Conditions
-  getRight cs r p empty = cs
-  getRight cs r p (tree q f g) =
-      pickC (eqb (q .kind) nodeConditionBlock) (cBlock cs (r .from) p (q .from) (getS s0 f) (q .to) (r .to))
-      (cTerms cs (r .from) p (getT t0 f) (r .to))
+  -- what stands after its first terms
+  pub getRight : Forest → Right
+  getRight empty = rTerms t0
+  getRight (tree q f g) = pickRight (eqb (q .kind) nodeConditionBlock) (rBlock (q .from) (getS s0 f) (q .to)) (rTerms (getT t0 f))
 
 -- names after others
 unfoldable pub getNs : Names → Forest → Names
@@ -152,19 +169,19 @@ unfoldable pub getN : Forest → Names
 getN empty = nOne 0 0
 getN (tree r f g) = getNs (nOne (r .start) (r .len)) g
 
-abbrev pub pickP : Bool → Program → Program → Program
-pickP true x y = x
-pickP false x y = y
+abbrev pub pickItem : Bool → Item → Item → Item
+pickItem true x y = x
+pickItem false x y = y
 
--- one more item: its row, and what is inside it
-abbrev pub addItem : Program → Row → Forest → Program
-addItem p r f =
-    pickP (eqb (r .kind) nodeDeclaration) (pDeclaration p (r .from) (getN f) (r .to))
-    (pFunction p (r .from) (eqb (r .detail) 1) (r .start) (r .len) (getS s0 f) (r .to))
+-- an item, of its row and what is inside it
+abbrev pub itemOf : Row → Forest → Item
+itemOf r f =
+    pickItem (eqb (r .kind) nodeDeclaration) (declaration (r .from) (getN f) (r .to))
+    (function (r .from) (eqb (r .detail) 1) (r .start) (r .len) (getS s0 f) (r .to))
 
 unfoldable pub getP : Program → Forest → Program
 getP p empty = p
-getP p (tree r f g) = getP (addItem p r f) g
+getP p (tree r f g) = getP (pMore p (itemOf r f)) g
 
 abbrev pub programOf : Forest → Program
 programOf f = getP p0 f

@@ -5,17 +5,19 @@ use mathlib.Core.Path.{_≡_, refl, ap, _∙_}
 use native.Mathlib.Omega.{arith}
 use lib.Dec.{eqb, leb}
 use borrow.Author.Tests.{le-leb, eqb-true}
+use Rattle.refal_ast.specs.Kinds.{nodeDeclaration, nodeFunction, nodeCondition, nodeTerms, nodeEndingBlock, nodeConditionBlock, nodeBracket, nodeCall}
 use Rattle.refal_ast.specs.Kinds.{nodeSentence}
-use Rattle.refal_ast.specs.Tree.{Leaf, symbol, variable, Terms, t0, tLeaf, tBracket, tCall, Conditions, c0, cTerms, cBlock, Sentences, s0, sTerms, sBlock, Names, nOne}
-use Rattle.refal_ast.specs.Tree.{nMore, Program, p0, pDeclaration, pFunction, depthT, depthC, depthS, depthP}
+use Rattle.refal_ast.specs.Tree.{Leaf, symbol, variable, Term, leaf, bracket, call, Terms, t0, tMore, Right, rTerms, rBlock, Condition, condition, Conditions, c0, cMore}
+use Rattle.refal_ast.specs.Tree.{End, eTerms, eBlock, Sentence, sentence, Sentences, s0, sMore, Names, nOne, nMore, Item, declaration, function, Program, p0, pMore}
+use Rattle.refal_ast.specs.Tree.{depthTerm, depthT, depthRight, depthCondition, depthC, depthEnd, depthSentence, depthS, depthItem, depthP}
 use Rattle.refal_ast.specs.Encode.{entryWord}
 use Rattle.refal_ast.specs.declared.tree.Symbol.the-variants.{Char, Identifier, Number}
 use Rattle.refal_ast.specs.declared.tree.VariableKind.the-variants.{Symbol as kindS, Term as kindT, Expression as kindE}
 use Rattle.refal_tree.specs.Forest.{Row, row, Forest, empty, tree}
 use Rattle.refal_tree.specs.States.{atItems, atName, atNames, atSentences, atPattern, atConditions, atCondition, atColon, atTerms, atArgument, atEnding, inside, after, below, lower}
 use Rattle.refal_tree.specs.Rules.{rowOk, okG}
-use Rattle.refal_tree.specs.Typed.{leafR, plain, forT, forTerms, forC, forS, nameR, forN, forP, toForest, addTerm, getT, getS, getSentence}
-use Rattle.refal_tree.specs.Typed.{getTail, getBlock, getCondition, getRight, getNs, getN, getP, programOf}
+use Rattle.refal_tree.specs.Typed.{leafR, plain, forTerm, forT, forTerms, forRight, forCondition, forC, forEnd, forSentence, forS, nameR, forN, forItem, forP, toForest, termOf, getT, getS}
+use Rattle.refal_tree.specs.Typed.{getSentence, getTail, getBlock, getCondition, getRight, getNs, getN, itemOf, getP, programOf}
 
 -- a row that keeps the rules, over children that do
 pub ok-tree : (st left : ℕ) (r : Row) (f g : Forest) → rowOk st left r ≡ true → okG (inside (r .kind)) (below st (r .kind) left) f ≡ true
@@ -53,18 +55,19 @@ ok-leaf (variable kindS s l) a b left g = refl
 ok-leaf (variable kindT s l) a b left g = refl
 ok-leaf (variable kindE s l) a b left g = refl
 
-pub ok-T : (f : Terms) (left : ℕ) (g : Forest) → depthT f ≤ left → okG atTerms left (forT f g) ≡ okG atTerms left g
-unfolding forT depthT okG
-ok-T t0 left g h = refl
-ok-T (tLeaf f x a b) left g h = ok-T f left (tree (leafR x a b) empty g) h ∙ ok-leaf x a b left g
-ok-T (tBracket f a t b) left g h =
-    let i : suc (depthT t) ≤ left = omega arith in
-    ok-T f left (tree (plain 13 a b) (forT t empty) g) (omega arith)
-    ∙ ok-tree atTerms left (plain 13 a b) (forT t empty) g (some-left (depthT t) left i) (ok-T t (lower left) empty (lower-le (depthT t) left i))
-ok-T (tCall f a s l t b) left g h =
-    let i : suc (depthT t) ≤ left = omega arith in
-    ok-T f left (tree (row 14 0 s l a b) (forT t empty) g) (omega arith)
-    ∙ ok-tree atTerms left (row 14 0 s l a b) (forT t empty) g (some-left (depthT t) left i) (ok-T t (lower left) empty (lower-le (depthT t) left i))
+mutual
+  unfolding forT depthT okG
+
+  ok-term : (x : Term) (left : ℕ) (g : Forest) → depthTerm x ≤ left → okG atTerms left (forTerm x g) ≡ okG atTerms left g
+  ok-term (leaf x a b) left g h = ok-leaf x a b left g
+  ok-term (bracket a f b) left g h =
+      ok-tree atTerms left (plain nodeBracket a b) (forT f empty) g (some-left (depthT f) left h) (ok-T f (lower left) empty (lower-le (depthT f) left h))
+  ok-term (call a s l f b) left g h =
+      ok-tree atTerms left (row nodeCall 0 s l a b) (forT f empty) g (some-left (depthT f) left h) (ok-T f (lower left) empty (lower-le (depthT f) left h))
+
+  ok-T : (f : Terms) (left : ℕ) (g : Forest) → depthT f ≤ left → okG atTerms left (forT f g) ≡ okG atTerms left g
+  ok-T t0 left g h = refl
+  ok-T (tMore f x) left g h = ok-T f left (forTerm x g) (omega arith) ∙ ok-term x left g (omega arith)
 
 -- the terms of a Terms row
 ok-inner : (f : Terms) (left : ℕ) → depthT f ≤ left → okG atTerms left (forT f empty) ≡ true
@@ -72,41 +75,41 @@ unfolding okG
 ok-inner f left h = ok-T f left empty h
 
 mutual
-  unfolding forC forS depthC depthS okG
+  unfolding forC depthC okG
 
-  pub ok-C : (cs : Conditions) (left : ℕ) (g : Forest) → depthC cs ≤ left → okG atConditions left (forC cs g) ≡ okG atConditions left g
+  ok-right : (r : Right) (left : ℕ) → depthRight r ≤ left → okG atColon left (forRight r empty) ≡ true
+  ok-right (rTerms f) left h = ok-tree atColon left (plain nodeTerms 0 0) (forT f empty) empty refl (ok-inner f left h)
+  ok-right (rBlock a v b) left h =
+      ok-tree atColon left (plain nodeConditionBlock a b) (forS v empty) empty (some-left (depthS v) left h) (ok-S v (lower left) empty (lower-le (depthS v) left h))
+
+  ok-condition : (x : Condition) (left : ℕ) (g : Forest) → depthCondition x ≤ left → okG atConditions left (forCondition x g) ≡ okG atConditions left g
+  ok-condition (condition a f r b) left g h =
+      ok-tree atConditions left (plain nodeCondition a b) (forTerms f (forRight r empty)) g refl
+      (ok-tree atCondition left (plain nodeTerms 0 0) (forT f empty) (forRight r empty) refl (ok-inner f left (omega arith)) ∙ ok-right r left (omega arith))
+
+  ok-C : (cs : Conditions) (left : ℕ) (g : Forest) → depthC cs ≤ left → okG atConditions left (forC cs g) ≡ okG atConditions left g
   ok-C c0 left g h = refl
-  ok-C (cTerms cs a f t b) left g h =
-      ok-C cs left (tree (plain 5 a b) (forTerms f (forTerms t empty)) g) (omega arith)
-      ∙ ok-tree atConditions left (plain 5 a b) (forTerms f (forTerms t empty)) g refl
-      (ok-tree atCondition left (plain 6 0 0) (forT f empty) (forTerms t empty) refl (ok-inner f left (omega arith))
-      ∙ ok-tree atColon left (plain 6 0 0) (forT t empty) empty refl (ok-inner t left (omega arith)))
-  ok-C (cBlock cs a f o v e b) left g h =
-      let i : suc (depthS v) ≤ left = omega arith in
-      ok-C cs left (tree (plain 5 a b) (forTerms f (tree (plain 8 o e) (forS v empty) empty)) g) (omega arith)
-      ∙ ok-tree atConditions left (plain 5 a b) (forTerms f (tree (plain 8 o e) (forS v empty) empty)) g refl
-      (ok-tree atCondition left (plain 6 0 0) (forT f empty) (tree (plain 8 o e) (forS v empty) empty) refl (ok-inner f left (omega arith))
-      ∙ ok-tree atColon left (plain 8 o e) (forS v empty) empty (some-left (depthS v) left i) (ok-S v (lower left) empty (lower-le (depthS v) left i)))
+  ok-C (cMore cs x) left g h = ok-C cs left (forCondition x g) (omega arith) ∙ ok-condition x left g (omega arith)
 
-  pub ok-S : (s : Sentences) (left : ℕ) (g : Forest) → depthS s ≤ left → okG atSentences left (forS s g) ≡ okG atSentences left g
-  ok-S s0 left g h = refl
-  ok-S (sTerms s a f cs t b) left g h =
-      ok-S s left (tree (plain 4 a b) (forTerms f (forC cs (forTerms t empty))) g) (omega arith)
-      ∙ ok-tree atSentences left (plain 4 a b) (forTerms f (forC cs (forTerms t empty))) g refl
-      (ok-tree atPattern left (plain 6 0 0) (forT f empty) (forC cs (forTerms t empty)) refl (ok-inner f left (omega arith))
-      ∙ ok-C cs left (forTerms t empty) (omega arith)
-      ∙ ok-tree atConditions left (plain 6 0 0) (forT t empty) empty refl (ok-inner t left (omega arith)))
-  ok-S (sBlock s a f cs o t v e b) left g h =
+  ok-end : (x : End) (left : ℕ) → depthEnd x ≤ left → okG atConditions left (forEnd x empty) ≡ true
+  ok-end (eTerms f) left h = ok-tree atConditions left (plain nodeTerms 0 0) (forT f empty) empty refl (ok-inner f left h)
+  ok-end (eBlock a f v b) left h =
       let i : suc (depthS v) ≤ left = omega arith in
-      let B : Forest = tree (plain 7 o e) (forTerms t (forS v empty)) empty in
-      ok-S s left (tree (plain 4 a b) (forTerms f (forC cs B)) g) (omega arith)
-      ∙ ok-tree atSentences left (plain 4 a b) (forTerms f (forC cs B)) g refl
-      (ok-tree atPattern left (plain 6 0 0) (forT f empty) (forC cs B) refl (ok-inner f left (omega arith))
-      ∙ ok-C cs left B (omega arith)
-      ∙ ok-tree atConditions left (plain 7 o e) (forTerms t (forS v empty)) empty (some-left (depthS v) left i)
-      (ok-tree atArgument left (plain 6 0 0) (forT t empty) (forS v empty) refl (ok-inner t left (omega arith))
+      ok-tree atConditions left (plain nodeEndingBlock a b) (forTerms f (forS v empty)) empty (some-left (depthS v) left i)
+      (ok-tree atArgument left (plain nodeTerms 0 0) (forT f empty) (forS v empty) refl (ok-inner f left (omega arith))
       ∙ ending-is left (forS v empty)
-      ∙ ok-S v (lower left) empty (lower-le (depthS v) left i)))
+      ∙ ok-S v (lower left) empty (lower-le (depthS v) left i))
+
+  ok-sentence : (x : Sentence) (left : ℕ) (g : Forest) → depthSentence x ≤ left → okG atSentences left (forSentence x g) ≡ okG atSentences left g
+  ok-sentence (sentence a f cs x b) left g h =
+      ok-tree atSentences left (plain nodeSentence a b) (forTerms f (forC cs (forEnd x empty))) g refl
+      (ok-tree atPattern left (plain nodeTerms 0 0) (forT f empty) (forC cs (forEnd x empty)) refl (ok-inner f left (omega arith))
+      ∙ ok-C cs left (forEnd x empty) (omega arith)
+      ∙ ok-end x left (omega arith))
+
+  ok-S : (s : Sentences) (left : ℕ) (g : Forest) → depthS s ≤ left → okG atSentences left (forS s g) ≡ okG atSentences left g
+  ok-S s0 left g h = refl
+  ok-S (sMore s x) left g h = ok-S s left (forSentence x g) (omega arith) ∙ ok-sentence x left g (omega arith)
 
 -- names after others, and names
 ok-Ns : (ns : Names) (left : ℕ) (g : Forest) → okG atName left (forN ns g) ≡ okG atNames left g
@@ -114,69 +117,78 @@ unfolding forN okG
 ok-Ns (nOne s l) left g = refl
 ok-Ns (nMore ns s l) left g = ok-Ns ns left (tree (nameR s l) empty g)
 
-ok-function : (x : Bool) (left s l a b : ℕ) → rowOk atItems left (row 3 (entryWord x) s l a b) ≡ true
+ok-function : (x : Bool) (left s l a b : ℕ) → rowOk atItems left (row nodeFunction (entryWord x) s l a b) ≡ true
 ok-function true left s l a b = refl
 ok-function false left s l a b = refl
 
-pub ok-P : (p : Program) (left : ℕ) (g : Forest) → depthP p ≤ left → okG atItems left (forP p g) ≡ okG atItems left g
-unfolding forP depthP okG
+ok-item : (x : Item) (left : ℕ) (g : Forest) → depthItem x ≤ left → okG atItems left (forItem x g) ≡ okG atItems left g
+unfolding okG
+ok-item (declaration a ns b) left g h = ok-tree atItems left (plain nodeDeclaration a b) (forN ns empty) g refl (ok-Ns ns left empty)
+ok-item (function a x s l v b) left g h =
+    ok-tree atItems left (row nodeFunction (entryWord x) s l a b) (forS v empty) g (ok-function x left s l a b) (ok-S v left empty h)
+
+ok-P : (p : Program) (left : ℕ) (g : Forest) → depthP p ≤ left → okG atItems left (forP p g) ≡ okG atItems left g
+unfolding forP depthP
 ok-P p0 left g h = refl
-ok-P (pDeclaration p a ns b) left g h =
-    ok-P p left (tree (plain 1 a b) (forN ns empty) g) h
-    ∙ ok-tree atItems left (plain 1 a b) (forN ns empty) g refl (ok-Ns ns left empty)
-ok-P (pFunction p a x s l v b) left g h =
-    ok-P p left (tree (row 3 (entryWord x) s l a b) (forS v empty) g) (omega arith)
-    ∙ ok-tree atItems left (row 3 (entryWord x) s l a b) (forS v empty) g (ok-function x left s l a b) (ok-S v left empty (omega arith))
+ok-P (pMore p x) left g h = ok-P p left (forItem x g) (omega arith) ∙ ok-item x left g (omega arith)
 
 -- ---- the tree of a tree's forest
-pub leaf-back : (f : Terms) (x : Leaf) (a b : ℕ) (t : Terms) → addTerm f (leafR x a b) t ≡ tLeaf f x a b
-leaf-back f (symbol (Char x)) a b t = refl
-leaf-back f (symbol (Identifier s l)) a b t = refl
-leaf-back f (symbol (Number s l)) a b t = refl
-leaf-back f (variable kindS s l) a b t = refl
-leaf-back f (variable kindT s l) a b t = refl
-leaf-back f (variable kindE s l) a b t = refl
+pub leaf-back : (x : Leaf) (a b : ℕ) (f : Terms) → termOf (leafR x a b) f ≡ leaf x a b
+leaf-back (symbol (Char x)) a b f = refl
+leaf-back (symbol (Identifier s l)) a b f = refl
+leaf-back (symbol (Number s l)) a b f = refl
+leaf-back (variable kindS s l) a b f = refl
+leaf-back (variable kindT s l) a b f = refl
+leaf-back (variable kindE s l) a b f = refl
 
-pub back-T : (f : Terms) (g : Forest) → getT t0 (forT f g) ≡ getT f g
-unfolding forT getT
-back-T t0 g = refl
-back-T (tLeaf f x a b) g = back-T f (tree (leafR x a b) empty g) ∙ ap (λ (t : Terms). getT t g) (leaf-back f x a b t0)
-back-T (tBracket f a t b) g = back-T f (tree (plain 13 a b) (forT t empty) g) ∙ ap (λ (y : Terms). getT (tBracket f a y b) g) (back-T t empty)
-back-T (tCall f a s l t b) g = back-T f (tree (row 14 0 s l a b) (forT t empty) g) ∙ ap (λ (y : Terms). getT (tCall f a s l y b) g) (back-T t empty)
+mutual
+  unfolding forT getT
+
+  back-term : (x : Term) (f : Terms) (g : Forest) → getT f (forTerm x g) ≡ getT (tMore f x) g
+  back-term (leaf x a b) f g = ap (λ (y : Term). getT (tMore f y) g) (leaf-back x a b t0)
+  back-term (bracket a t b) f g = ap (λ (y : Terms). getT (tMore f (bracket a y b)) g) (back-T t empty)
+  back-term (call a s l t b) f g = ap (λ (y : Terms). getT (tMore f (call a s l y b)) g) (back-T t empty)
+
+  back-T : (f : Terms) (g : Forest) → getT t0 (forT f g) ≡ getT f g
+  back-T t0 g = refl
+  back-T (tMore f x) g = back-T f (forTerm x g) ∙ back-term x f g
 
 inner-T : (f : Terms) → getT t0 (forT f empty) ≡ f
 unfolding getT
 inner-T f = back-T f empty
 
 mutual
-  unfolding forC forS getS getSentence getTail getBlock getCondition getRight
+  unfolding forC getS
 
-  pub back-C : (s : Sentences) (r : Row) (p : Terms) (cs : Conditions) (g : Forest) → getTail s r p c0 (forC cs g) ≡ getTail s r p cs g
-  back-C s r p c0 g = refl
-  back-C s r p (cTerms cs a f t b) g =
-      back-C s r p cs (tree (plain 5 a b) (forTerms f (forTerms t empty)) g)
-      ∙ ap (λ (y : Terms). getTail s r p (cTerms cs a y (getT t0 (forT t empty)) b) g) (inner-T f)
-      ∙ ap (λ (y : Terms). getTail s r p (cTerms cs a f y b) g) (inner-T t)
-  back-C s r p (cBlock cs a f o v e b) g =
-      back-C s r p cs (tree (plain 5 a b) (forTerms f (tree (plain 8 o e) (forS v empty) empty)) g)
-      ∙ ap (λ (y : Terms). getTail s r p (cBlock cs a y o (getS s0 (forS v empty)) e b) g) (inner-T f)
-      ∙ ap (λ (y : Sentences). getTail s r p (cBlock cs a f o y e b) g) (back-S v empty)
+  back-right : (r : Right) → getRight (forRight r empty) ≡ r
+  back-right (rTerms f) = ap rTerms (inner-T f)
+  back-right (rBlock a v b) = ap (λ (y : Sentences). rBlock a y b) (back-S v empty)
 
-  pub back-S : (s : Sentences) (g : Forest) → getS s0 (forS s g) ≡ getS s g
+  back-condition : (r : Row) (p : Terms) (cs : Conditions) (x : Condition) (g : Forest) → getTail r p cs (forCondition x g) ≡ getTail r p (cMore cs x) g
+  back-condition r p cs (condition a f x b) g =
+      ap (λ (y : Terms). getTail r p (cMore cs (condition a y (getRight (forRight x empty)) b)) g) (inner-T f)
+      ∙ ap (λ (y : Right). getTail r p (cMore cs (condition a f y b)) g) (back-right x)
+
+  back-C : (r : Row) (p : Terms) (cs : Conditions) (g : Forest) → getTail r p c0 (forC cs g) ≡ getTail r p cs g
+  back-C r p c0 g = refl
+  back-C r p (cMore cs x) g = back-C r p cs (forCondition x g) ∙ back-condition r p cs x g
+
+  back-end : (r : Row) (p : Terms) (cs : Conditions) (x : End) → getTail r p cs (forEnd x empty) ≡ sentence (r .from) p cs x (r .to)
+  back-end r p cs (eTerms f) = ap (λ (y : Terms). sentence (r .from) p cs (eTerms y) (r .to)) (inner-T f)
+  back-end r p cs (eBlock a f v b) =
+      ap (λ (y : Terms). sentence (r .from) p cs (eBlock a y (getS s0 (forS v empty)) b) (r .to)) (inner-T f)
+      ∙ ap (λ (y : Sentences). sentence (r .from) p cs (eBlock a f y b) (r .to)) (back-S v empty)
+
+  back-sentence : (s : Sentences) (x : Sentence) (g : Forest) → getS s (forSentence x g) ≡ getS (sMore s x) g
+  back-sentence s (sentence a f cs x b) g =
+      ap (λ (y : Sentence). getS (sMore s y) g)
+      (ap (λ (y : Terms). getTail (plain nodeSentence a b) y c0 (forC cs (forEnd x empty))) (inner-T f)
+      ∙ back-C (plain nodeSentence a b) f cs (forEnd x empty)
+      ∙ back-end (plain nodeSentence a b) f cs x)
+
+  back-S : (s : Sentences) (g : Forest) → getS s0 (forS s g) ≡ getS s g
   back-S s0 g = refl
-  back-S (sTerms s a f cs t b) g =
-      back-S s (tree (plain 4 a b) (forTerms f (forC cs (forTerms t empty))) g)
-      ∙ ap (λ (y : Sentences). getS y g)
-      (back-C s (plain 4 a b) (getT t0 (forT f empty)) cs (forTerms t empty)
-      ∙ ap (λ (y : Terms). sTerms s a y cs (getT t0 (forT t empty)) b) (inner-T f)
-      ∙ ap (λ (y : Terms). sTerms s a f cs y b) (inner-T t))
-  back-S (sBlock s a f cs o t v e b) g =
-      back-S s (tree (plain 4 a b) (forTerms f (forC cs (tree (plain 7 o e) (forTerms t (forS v empty)) empty))) g)
-      ∙ ap (λ (y : Sentences). getS y g)
-      (back-C s (plain 4 a b) (getT t0 (forT f empty)) cs (tree (plain 7 o e) (forTerms t (forS v empty)) empty)
-      ∙ ap (λ (y : Terms). sBlock s a y cs o (getT t0 (forT t empty)) (getS s0 (forS v empty)) e b) (inner-T f)
-      ∙ ap (λ (y : Terms). sBlock s a f cs o y (getS s0 (forS v empty)) e b) (inner-T t)
-      ∙ ap (λ (y : Sentences). sBlock s a f cs o t y e b) (back-S v empty))
+  back-S (sMore s x) g = back-S s (forSentence x g) ∙ back-sentence s x g
 
 back-N : (ns : Names) (g : Forest) → getN (forN ns g) ≡ getNs ns g
 unfolding forN getN getNs
@@ -187,14 +199,17 @@ pub entry-back : (x : Bool) → eqb (entryWord x) 1 ≡ x
 entry-back true = refl
 entry-back false = refl
 
-pub back-P : (p : Program) (g : Forest) → getP p0 (forP p g) ≡ getP p g
-unfolding forP getP getNs getS
+back-item : (x : Item) → (p : Program) (g : Forest) → getP p (forItem x g) ≡ getP (pMore p x) g
+unfolding getP getNs getS
+back-item (declaration a ns b) p g = ap (λ (y : Names). getP (pMore p (declaration a y b)) g) (back-N ns empty)
+back-item (function a x s l v b) p g =
+    ap (λ (y : Bool). getP (pMore p (function a y s l (getS s0 (forS v empty)) b)) g) (entry-back x)
+    ∙ ap (λ (y : Sentences). getP (pMore p (function a x s l y b)) g) (back-S v empty)
+
+back-P : (p : Program) (g : Forest) → getP p0 (forP p g) ≡ getP p g
+unfolding forP
 back-P p0 g = refl
-back-P (pDeclaration p a ns b) g = back-P p (tree (plain 1 a b) (forN ns empty) g) ∙ ap (λ (y : Names). getP (pDeclaration p a y b) g) (back-N ns empty)
-back-P (pFunction p a x s l v b) g =
-    back-P p (tree (row 3 (entryWord x) s l a b) (forS v empty) g)
-    ∙ ap (λ (y : Bool). getP (pFunction p a y s l (getS s0 (forS v empty)) b) g) (entry-back x)
-    ∙ ap (λ (y : Sentences). getP (pFunction p a x s l y b) g) (back-S v empty)
+back-P (pMore p x) g = back-P p (forItem x g) ∙ back-item x p g
 
 -- ---- whole trees
 pub ok-program : (p : Program) (left : ℕ) → depthP p ≤ left → okG atItems left (toForest p) ≡ true

@@ -3,12 +3,14 @@ use Prim.Native.Nat.{ℕ, _+_}
 use mathlib.Core.List.{List, [], _++_, append-assoc, append-nil}
 use mathlib.Core.Path.{_≡_, refl, sym, ap, subst, _∙_}
 use native.Mathlib.Omega.{arith}
-use Rattle.refal_ast.specs.Tree.{Leaf, symbol, variable, Terms, t0, tLeaf, tBracket, tCall, Conditions, c0, cTerms, cBlock, Sentences, s0, sTerms, sBlock, Names, nOne}
-use Rattle.refal_ast.specs.Tree.{nMore, Program, p0, pDeclaration, pFunction, sizeT, sizeC, sizeS, sizeN, sizeP}
-use Rattle.refal_ast.specs.Encode.{entryWord, leafRow, encT, encTerms, encC, encS, encN, encP}
+use Rattle.refal_ast.specs.Kinds.{nodeDeclaration, nodeFunction, nodeSentence, nodeCondition, nodeTerms, nodeEndingBlock, nodeConditionBlock, nodeBracket, nodeCall}
+use Rattle.refal_ast.specs.Tree.{Leaf, symbol, variable, Term, leaf, bracket, call, Terms, t0, tMore, Right, rTerms, rBlock, Condition, condition, Conditions, c0, cMore}
+use Rattle.refal_ast.specs.Tree.{End, eTerms, eBlock, Sentence, sentence, Sentences, s0, sMore, Names, nOne, nMore, Item, declaration, function, Program, p0, pMore}
+use Rattle.refal_ast.specs.Tree.{sizeTerm, sizeT, sizeRight, sizeCondition, sizeC, sizeEnd, sizeSentence, sizeS, sizeN, sizeItem, sizeP}
+use Rattle.refal_ast.specs.Encode.{entryWord, leafRow, endTerms, encTerm, encT, encTerms, encRight, encCondition, encC, encEnd, encSentence, encS, encN, encItem, encP}
 use Rattle.refal_ast.specs.declared.tree.Symbol.the-variants.{Char, Identifier, Number}
 use Rattle.refal_tree.specs.Forest.{Row, row, Forest, empty, tree, sizeG, rowWords, encG}
-use Rattle.refal_tree.specs.Typed.{leafR, plain, forT, forTerms, forC, forS, nameR, forN, forP, toForest}
+use Rattle.refal_tree.specs.Typed.{leafR, plain, forTerm, forT, forTerms, forRight, forCondition, forC, forEnd, forSentence, forS, nameR, forN, forItem, forP, toForest}
 
 -- op puts k rows, with the words E, before a forest; the first is row n
 pub record Part (op : Forest → Forest) (n k : ℕ) (E : List ℕ) : Type 0 where
@@ -58,67 +60,68 @@ leaf-words (symbol (Identifier s l)) a b next = refl
 leaf-words (symbol (Number s l)) a b next = refl
 leaf-words (variable v s l) a b next = refl
 
-pub part-T : (f : Terms) (n : ℕ) → Part (forT f) n (sizeT f) (encT f n)
-unfolding forT sizeT encT
-part-T t0 n = part-none n
-part-T (tLeaf f x a b) n =
-    subst (λ (l : List ℕ). Part (λ (g : Forest). forT f (tree (leafR x a b) empty g)) n (sizeT f + 1) (encT f n ++ l)) (leaf-words x a b (n + sizeT f + 1))
-    (part-then (part-T f n) refl (part-leaf (leafR x a b) (n + sizeT f) (n + sizeT f + 1) refl))
-part-T (tBracket f a t b) n = part-then (part-T f n) refl (part-row (plain 13 a b) refl refl (part-T t (n + sizeT f + 1)))
-part-T (tCall f a s l t b) n = part-then (part-T f n) refl (part-row (row 14 0 s l a b) refl refl (part-T t (n + sizeT f + 1)))
+mutual
+  unfolding forT sizeT encT
 
-pub part-terms : (f : Terms) (n : ℕ) → Part (forTerms f) n (1 + sizeT f) (encTerms f n)
-part-terms f n = part-row (plain 6 0 0) refl refl (part-T f (n + 1))
+  part-term : (x : Term) (n : ℕ) → Part (forTerm x) n (sizeTerm x) (encTerm x n)
+  part-term (leaf x a b) n =
+      subst (λ (l : List ℕ). Part (λ (g : Forest). tree (leafR x a b) empty g) n 1 l) (leaf-words x a b (n + 1)) (part-leaf (leafR x a b) n (n + 1) refl)
+  part-term (bracket a f b) n = part-row (plain nodeBracket a b) refl refl (part-T f (n + 1))
+  part-term (call a s l f b) n = part-row (row nodeCall 0 s l a b) refl refl (part-T f (n + 1))
+
+  pub part-T : (f : Terms) (n : ℕ) → Part (forT f) n (sizeT f) (encT f n)
+  part-T t0 n = part-none n
+  part-T (tMore f x) n = part-then (part-T f n) refl (part-term x (n + sizeT f))
+
+part-terms : (f : Terms) (n : ℕ) → Part (forTerms f) n (1 + sizeT f) (encTerms f n)
+part-terms f n = part-row (plain nodeTerms 0 0) refl refl (part-T f (n + 1))
 
 mutual
-  unfolding forC sizeC encC forS sizeS encS
+  unfolding forC sizeC encC
+
+  part-right : (r : Right) (n : ℕ) → Part (forRight r) n (sizeRight r) (encRight r n)
+  part-right (rTerms f) n = part-terms f n
+  part-right (rBlock a v b) n = part-row (plain nodeConditionBlock a b) refl refl (part-S v (n + 1))
+
+  part-condition : (x : Condition) (n : ℕ) → Part (forCondition x) n (sizeCondition x) (encCondition x n)
+  part-condition (condition a f r b) n =
+      part-size (omega arith)
+      (part-row (plain nodeCondition a b) refl (omega arith) (part-then (part-terms f (n + 1)) (omega arith) (part-right r (endTerms f (n + 1)))))
 
   pub part-C : (cs : Conditions) (n : ℕ) → Part (forC cs) n (sizeC cs) (encC cs n)
   part-C c0 n = part-none n
-  part-C (cTerms cs a f t b) n =
-      let m : ℕ = n + sizeC cs + 1 in
-      part-size (let z : sizeC cs + (1 + (1 + sizeT f + (1 + sizeT t))) ≡ sizeC cs + (3 + sizeT f + sizeT t) = omega arith in z)
-      (part-then (part-C cs n) refl
-      (part-row (plain 5 a b) refl (let z : m + 1 + sizeT f + 1 + sizeT t ≡ m + (1 + sizeT f + (1 + sizeT t)) = omega arith in z)
-      (part-then (part-terms f m) (let z : m + 1 + sizeT f ≡ m + (1 + sizeT f) = omega arith in z) (part-terms t (m + 1 + sizeT f)))))
-  part-C (cBlock cs a f o v e b) n =
-      let m : ℕ = n + sizeC cs + 1 in
-      part-size (let z : sizeC cs + (1 + (1 + sizeT f + (1 + sizeS v))) ≡ sizeC cs + (3 + sizeT f + sizeS v) = omega arith in z)
-      (part-then (part-C cs n) refl
-      (part-row (plain 5 a b) refl (let z : m + 1 + sizeT f + 1 + sizeS v ≡ m + (1 + sizeT f + (1 + sizeS v)) = omega arith in z)
-      (part-then (part-terms f m) (let z : m + 1 + sizeT f ≡ m + (1 + sizeT f) = omega arith in z)
-      (part-row (plain 8 o e) refl refl (part-S v (m + 1 + sizeT f + 1))))))
+  part-C (cMore cs x) n = part-then (part-C cs n) refl (part-condition x (n + sizeC cs))
+
+  part-end : (x : End) (n : ℕ) → Part (forEnd x) n (sizeEnd x) (encEnd x n)
+  part-end (eTerms f) n = part-terms f n
+  part-end (eBlock a f v b) n =
+      part-size (omega arith)
+      (part-row (plain nodeEndingBlock a b) refl (omega arith) (part-then (part-terms f (n + 1)) (omega arith) (part-S v (endTerms f (n + 1)))))
+
+  part-sentence : (x : Sentence) (n : ℕ) → Part (forSentence x) n (sizeSentence x) (encSentence x n)
+  part-sentence (sentence a f cs x b) n =
+      part-size (omega arith)
+      (part-row (plain nodeSentence a b) refl (omega arith)
+      (part-then (part-terms f (n + 1)) (omega arith)
+      (part-then (part-C cs (endTerms f (n + 1))) refl (part-end x (endTerms f (n + 1) + sizeC cs)))))
 
   pub part-S : (s : Sentences) (n : ℕ) → Part (forS s) n (sizeS s) (encS s n)
   part-S s0 n = part-none n
-  part-S (sTerms s a f cs t b) n =
-      let m : ℕ = n + sizeS s + 1 in
-      part-size (let z : sizeS s + (1 + (1 + sizeT f + (sizeC cs + (1 + sizeT t)))) ≡ sizeS s + (3 + sizeT f + sizeC cs + sizeT t) = omega arith in z)
-      (part-then (part-S s n) refl
-      (part-row (plain 4 a b) refl (let z : m + 1 + sizeT f + sizeC cs + 1 + sizeT t ≡ m + (1 + sizeT f + (sizeC cs + (1 + sizeT t))) = omega arith in z)
-      (part-then (part-terms f m) (let z : m + 1 + sizeT f ≡ m + (1 + sizeT f) = omega arith in z)
-      (part-then (part-C cs (m + 1 + sizeT f)) refl (part-terms t (m + 1 + sizeT f + sizeC cs))))))
-  part-S (sBlock s a f cs o t v e b) n =
-      let m : ℕ = n + sizeS s + 1 in
-      let j : ℕ = m + 1 + sizeT f + sizeC cs in
-      part-size (let z : sizeS s + (1 + (1 + sizeT f + (sizeC cs + (1 + (1 + sizeT t + sizeS v))))) ≡ sizeS s + (4 + sizeT f + sizeC cs + sizeT t + sizeS v) = omega arith in z)
-      (part-then (part-S s n) refl
-      (part-row (plain 4 a b) refl (let z : j + 1 + 1 + sizeT t + sizeS v ≡ m + (1 + sizeT f + (sizeC cs + (1 + (1 + sizeT t + sizeS v)))) = omega arith in z)
-      (part-then (part-terms f m) (let z : m + 1 + sizeT f ≡ m + (1 + sizeT f) = omega arith in z)
-      (part-then (part-C cs (m + 1 + sizeT f)) refl
-      (part-row (plain 7 o e) refl (let z : j + 1 + 1 + sizeT t + sizeS v ≡ j + 1 + (1 + sizeT t + sizeS v) = omega arith in z)
-      (part-then (part-terms t (j + 1)) (let z : j + 1 + 1 + sizeT t ≡ j + 1 + (1 + sizeT t) = omega arith in z) (part-S v (j + 1 + 1 + sizeT t))))))))
+  part-S (sMore s x) n = part-then (part-S s n) refl (part-sentence x (n + sizeS s))
 
-pub part-N : (ns : Names) (n : ℕ) → Part (forN ns) n (sizeN ns) (encN ns n)
+part-N : (ns : Names) (n : ℕ) → Part (forN ns) n (sizeN ns) (encN ns n)
 unfolding forN sizeN encN
 part-N (nOne s l) n = part-leaf (nameR s l) n (n + 1) refl
 part-N (nMore ns s l) n = part-then (part-N ns n) refl (part-leaf (nameR s l) (n + sizeN ns) (n + sizeN ns + 1) refl)
 
+part-item : (x : Item) (n : ℕ) → Part (forItem x) n (sizeItem x) (encItem x n)
+part-item (declaration a ns b) n = part-row (plain nodeDeclaration a b) refl refl (part-N ns (n + 1))
+part-item (function a x s l v b) n = part-row (row nodeFunction (entryWord x) s l a b) refl refl (part-S v (n + 1))
+
 pub part-P : (p : Program) (n : ℕ) → Part (forP p) n (sizeP p) (encP p n)
 unfolding forP sizeP encP
 part-P p0 n = part-none n
-part-P (pDeclaration p a ns b) n = part-then (part-P p n) refl (part-row (plain 1 a b) refl refl (part-N ns (n + sizeP p + 1)))
-part-P (pFunction p a x s l v b) n = part-then (part-P p n) refl (part-row (row 3 (entryWord x) s l a b) refl refl (part-S v (n + sizeP p + 1)))
+part-P (pMore p x) n = part-then (part-P p n) refl (part-item x (n + sizeP p))
 
 -- the words of a tree, and the count of its rows
 pub enc-tree : (p : Program) (n : ℕ) → encG (toForest p) n ≡ encP p n

@@ -6,6 +6,7 @@ use native.Mathlib.Omega.{arith}
 use lib.Dec.{eqb, leb}
 use borrow.Author.Tests.{eqb-true, eqb-false, leb-true}
 use Rattle.refal_rows.specs.Tests.{and-left, and-right}
+use Rattle.refal_ast.specs.Kinds.{nodeDeclaration, nodeName, nodeFunction, nodeSentence, nodeCondition, nodeTerms, nodeEndingBlock, nodeConditionBlock, nodeIdentifier, nodeNumber, nodeChar, nodeVariable, nodeBracket, nodeCall}
 use Rattle.refal_ast.specs.Tree.{Leaf, symbol, variable}
 use Rattle.refal_ast.specs.Encode.{entryWord, letterOf}
 use Rattle.refal_ast.specs.declared.tree.Symbol.the-variants.{Char, Identifier, Number}
@@ -22,12 +23,12 @@ never {A} e = let z : _≡_ {A = ℕ} 0 1 = cc in absurd (omega arith)
 -- ---- the forms
 pub data TermRow : Row → Type 0 where
   isLeaf : (x : Leaf) (a b : ℕ) → TermRow (leafR x a b)
-  isBracket : (a b : ℕ) → TermRow (plain 13 a b)
-  isCall : (s l a b : ℕ) → TermRow (row 14 0 s l a b)
+  isBracket : (a b : ℕ) → TermRow (plain nodeBracket a b)
+  isCall : (s l a b : ℕ) → TermRow (row nodeCall 0 s l a b)
 
 pub data ItemRow : Row → Type 0 where
-  isDeclaration : (a b : ℕ) → ItemRow (plain 1 a b)
-  isFunction : (x : Bool) (s l a b : ℕ) → ItemRow (row 3 (entryWord x) s l a b)
+  isDeclaration : (a b : ℕ) → ItemRow (plain nodeDeclaration a b)
+  isFunction : (x : Bool) (s l a b : ℕ) → ItemRow (row nodeFunction (entryWord x) s l a b)
 
 pub data NameRow : Row → Type 0 where
   isName : (s l : ℕ) → NameRow (nameR s l)
@@ -38,16 +39,16 @@ pub data PlainRow (k : ℕ) : Row → Type 0 where
 
 -- a Terms row
 pub data TermsRow : Row → Type 0 where
-  isTerms : TermsRow (plain 6 0 0)
+  isTerms : TermsRow (plain nodeTerms 0 0)
 
 pub data TailRow : Row → Type 0 where
-  isCondition : (a b : ℕ) → TailRow (plain 5 a b)
-  isResult : TailRow (plain 6 0 0)
-  isEnding : (a b : ℕ) → TailRow (plain 7 a b)
+  isCondition : (a b : ℕ) → TailRow (plain nodeCondition a b)
+  isResult : TailRow (plain nodeTerms 0 0)
+  isEnding : (a b : ℕ) → TailRow (plain nodeEndingBlock a b)
 
 pub data RightRow : Row → Type 0 where
-  isRight : RightRow (plain 6 0 0)
-  isBlock : (a b : ℕ) → RightRow (plain 8 a b)
+  isRight : RightRow (plain nodeTerms 0 0)
+  isBlock : (a b : ℕ) → RightRow (plain nodeConditionBlock a b)
 
 -- ---- a row is known by its six words
 row-is : (r : Row) (k d s l a b : ℕ) → r .kind ≡ k → r .detail ≡ d → r .start ≡ s → r .len ≡ l → r .from ≡ a → r .to ≡ b → r ≡ row k d s l a b
@@ -66,8 +67,8 @@ on-cases {A} k n x y h f g = go (eqb k n) refl h
     go false e h = g h
 
 -- the kinds of terms, one by one
-term-on : (k : ℕ) → not (eqb (on k 9 atTerms (on k 10 atTerms (on k 11 atTerms (on k 12 atTerms (on k 13 atTerms (on k 14 atTerms wrong)))))) wrong) ≡ fits atTerms k
-term-on k = go (eqb k 9) (eqb k 10) (eqb k 11) (eqb k 12) (eqb k 13) (eqb k 14)
+term-on : (k : ℕ) → not (eqb (on k nodeIdentifier atTerms (on k nodeNumber atTerms (on k nodeChar atTerms (on k nodeVariable atTerms (on k nodeBracket atTerms (on k nodeCall atTerms wrong)))))) wrong) ≡ fits atTerms k
+term-on k = go (eqb k nodeIdentifier) (eqb k nodeNumber) (eqb k nodeChar) (eqb k nodeVariable) (eqb k nodeBracket) (eqb k nodeCall)
   where
     go : (a b c d e f : Bool) → not (eqb (pick a 9 (pick b 9 (pick c 9 (pick d 9 (pick e 9 (pick f 9 0)))))) 0) ≡ not (eqb (pick (((((a || b) || c) || d) || e) || f) 9 0) 0)
     go true b c d e f = refl
@@ -140,10 +141,10 @@ module _ (r : Row) where
       let q = letter-is (r .detail) (and-left (letter (r .detail)) true h) in
       subst TermRow (sym (row-is r 12 (letterOf (q .0)) (r .start) (r .len) (r .from) (r .to) e (q .1) refl refl refl refl)) (isLeaf (variable (q .0) (r .start) (r .len)) (r .from) (r .to))
 
-  plain-term : PlainRow 13 r → TermRow r
+  plain-term : PlainRow nodeBracket r → TermRow r
   plain-term p = go r p
     where
-      go : (q : Row) → PlainRow 13 q → TermRow q
+      go : (q : Row) → PlainRow nodeBracket q → TermRow q
       go _ (isPlain a b) = isBracket a b
 
   module _ (good : Fields (r .kind)) where
@@ -172,72 +173,72 @@ module _ {left : ℕ} {r : Row} where
   pub item-row : Kept atItems left r → ItemRow r
   item-row p =
       on-cases (r .kind) 1 atItems (on (r .kind) 3 atItems wrong) (p .fit)
-      (λ e. go r (plain-is r 1 e (at r (p .good) 1 e)))
-      (λ h. let e = only (r .kind) 3 atItems h in function-is r e (at r (p .good) 3 e))
+      (λ e. go r (plain-is r nodeDeclaration e (at r (p .good) nodeDeclaration e)))
+      (λ h. let e = only (r .kind) nodeFunction atItems h in function-is r e (at r (p .good) nodeFunction e))
     where
-      go : (q : Row) → PlainRow 1 q → ItemRow q
+      go : (q : Row) → PlainRow nodeDeclaration q → ItemRow q
       go _ (isPlain a b) = isDeclaration a b
 
   pub name-row : Kept atName left r → NameRow r
-  name-row p = let e = only (r .kind) 2 atNames (p .fit) in name-is r e (at r (p .good) 2 e)
+  name-row p = let e = only (r .kind) nodeName atNames (p .fit) in name-is r e (at r (p .good) nodeName e)
 
   pub names-row : Kept atNames left r → NameRow r
-  names-row p = let e = only (r .kind) 2 atNames (p .fit) in name-is r e (at r (p .good) 2 e)
+  names-row p = let e = only (r .kind) nodeName atNames (p .fit) in name-is r e (at r (p .good) nodeName e)
 
-  pub sentence-row : Kept atSentences left r → PlainRow 4 r
-  sentence-row p = let e = only (r .kind) 4 atSentences (p .fit) in plain-is r 4 e (at r (p .good) 4 e)
+  pub sentence-row : Kept atSentences left r → PlainRow nodeSentence r
+  sentence-row p = let e = only (r .kind) nodeSentence atSentences (p .fit) in plain-is r nodeSentence e (at r (p .good) nodeSentence e)
 
   pub pattern-row : Kept atPattern left r → TermsRow r
-  pattern-row p = let e = only (r .kind) 6 atConditions (p .fit) in terms-is r e (at r (p .good) 6 e)
+  pattern-row p = let e = only (r .kind) nodeTerms atConditions (p .fit) in terms-is r e (at r (p .good) nodeTerms e)
 
   pub condition-row : Kept atCondition left r → TermsRow r
-  condition-row p = let e = only (r .kind) 6 atColon (p .fit) in terms-is r e (at r (p .good) 6 e)
+  condition-row p = let e = only (r .kind) nodeTerms atColon (p .fit) in terms-is r e (at r (p .good) nodeTerms e)
 
   pub argument-row : Kept atArgument left r → TermsRow r
-  argument-row p = let e = only (r .kind) 6 atEnding (p .fit) in terms-is r e (at r (p .good) 6 e)
+  argument-row p = let e = only (r .kind) nodeTerms atEnding (p .fit) in terms-is r e (at r (p .good) nodeTerms e)
 
   pub tail-row : Kept atConditions left r → TailRow r
   tail-row p =
       on-cases (r .kind) 5 atConditions (on (r .kind) 6 closed (on (r .kind) 7 closed wrong)) (p .fit)
-      (λ e. five r (plain-is r 5 e (at r (p .good) 5 e)))
+      (λ e. five r (plain-is r nodeCondition e (at r (p .good) nodeCondition e)))
       (λ h. on-cases (r .kind) 6 closed (on (r .kind) 7 closed wrong) h
-      (λ e. six r (terms-is r e (at r (p .good) 6 e)))
-      (λ h. let e = only (r .kind) 7 closed h in seven r (plain-is r 7 e (at r (p .good) 7 e))))
+      (λ e. six r (terms-is r e (at r (p .good) nodeTerms e)))
+      (λ h. let e = only (r .kind) nodeEndingBlock closed h in seven r (plain-is r nodeEndingBlock e (at r (p .good) nodeEndingBlock e))))
     where
-      five : (q : Row) → PlainRow 5 q → TailRow q
+      five : (q : Row) → PlainRow nodeCondition q → TailRow q
       five _ (isPlain a b) = isCondition a b
 
       six : (q : Row) → TermsRow q → TailRow q
       six _ isTerms = isResult
 
-      seven : (q : Row) → PlainRow 7 q → TailRow q
+      seven : (q : Row) → PlainRow nodeEndingBlock q → TailRow q
       seven _ (isPlain a b) = isEnding a b
 
   pub right-row : Kept atColon left r → RightRow r
   right-row p =
       on-cases (r .kind) 6 closed (on (r .kind) 8 closed wrong) (p .fit)
-      (λ e. six r (terms-is r e (at r (p .good) 6 e)))
-      (λ h. let e = only (r .kind) 8 closed h in eight r (plain-is r 8 e (at r (p .good) 8 e)))
+      (λ e. six r (terms-is r e (at r (p .good) nodeTerms e)))
+      (λ h. let e = only (r .kind) nodeConditionBlock closed h in eight r (plain-is r nodeConditionBlock e (at r (p .good) nodeConditionBlock e)))
     where
       six : (q : Row) → TermsRow q → RightRow q
       six _ isTerms = isRight
 
-      eight : (q : Row) → PlainRow 8 q → RightRow q
+      eight : (q : Row) → PlainRow nodeConditionBlock q → RightRow q
       eight _ (isPlain a b) = isBlock a b
 
   pub term-row : Kept atTerms left r → TermRow r
   term-row p =
       let k : ℕ = r .kind in
-      let c14 : ℕ = on k 14 atTerms wrong in
-      let c13 : ℕ = on k 13 atTerms c14 in
-      let c12 : ℕ = on k 12 atTerms c13 in
-      let c11 : ℕ = on k 11 atTerms c12 in
-      let c10 : ℕ = on k 10 atTerms c11 in
+      let c14 : ℕ = on k nodeCall atTerms wrong in
+      let c13 : ℕ = on k nodeBracket atTerms c14 in
+      let c12 : ℕ = on k nodeVariable atTerms c13 in
+      let c11 : ℕ = on k nodeChar atTerms c12 in
+      let c10 : ℕ = on k nodeNumber atTerms c11 in
       on-cases k 9 atTerms c10 (term-on k ∙ p .fit)
-      (λ e. subst TermRow (sym (texted-is r 9 e (at r (p .good) 9 e))) (isLeaf (symbol (Identifier (r .start) (r .len))) (r .from) (r .to)))
+      (λ e. subst TermRow (sym (texted-is r 9 e (at r (p .good) nodeIdentifier e))) (isLeaf (symbol (Identifier (r .start) (r .len))) (r .from) (r .to)))
       (λ h. on-cases k 10 atTerms c11 h
-      (λ e. subst TermRow (sym (texted-is r 10 e (at r (p .good) 10 e))) (isLeaf (symbol (Number (r .start) (r .len))) (r .from) (r .to)))
-      (λ h. on-cases k 11 atTerms c12 h (λ e. char-is r e (at r (p .good) 11 e))
-      (λ h. on-cases k 12 atTerms c13 h (λ e. variable-is r e (at r (p .good) 12 e))
-      (λ h. on-cases k 13 atTerms c14 h (λ e. plain-term r (plain-is r 13 e (at r (p .good) 13 e)))
-      (λ h. let e = only k 14 atTerms h in subst TermRow (sym (texted-is r 14 e (at r (p .good) 14 e))) (isCall (r .start) (r .len) (r .from) (r .to)))))))
+      (λ e. subst TermRow (sym (texted-is r 10 e (at r (p .good) nodeNumber e))) (isLeaf (symbol (Number (r .start) (r .len))) (r .from) (r .to)))
+      (λ h. on-cases k 11 atTerms c12 h (λ e. char-is r e (at r (p .good) nodeChar e))
+      (λ h. on-cases k 12 atTerms c13 h (λ e. variable-is r e (at r (p .good) nodeVariable e))
+      (λ h. on-cases k 13 atTerms c14 h (λ e. plain-term r (plain-is r nodeBracket e (at r (p .good) nodeBracket e)))
+      (λ h. let e = only k 14 atTerms h in subst TermRow (sym (texted-is r 14 e (at r (p .good) nodeCall e))) (isCall (r .start) (r .len) (r .from) (r .to)))))))

@@ -3,13 +3,14 @@ use mathlib.Core.Path.{_≡_, refl, sym, ap, _∙_}
 use Prim.Native.Nat.{ℕ, _+_, _-_, _<_}
 use native.Mathlib.Omega.{arith}
 use lib.ListN.{length, getD}
-use Rattle.refal_ast.specs.Tree.{Terms, c0, cTerms, cBlock, s0, sTerms, sizeC, sizeS}
+use Rattle.refal_ast.specs.Tree.{Terms, rTerms, rBlock, condition as theCondition, c0, cMore, eTerms, eBlock, sentence as theSentence, s0, sMore, sizeC, sizeS}
 use Rattle.refal_parser.specs.Machine.{pattern as inPattern, argument, matching, result, ending as inArgument, inCondition, inEnding, between, matched, conditioned, blocked, ended, lastEnd}
 use Rattle.refal_parser.specs.Ready.{tok}
-use Rattle.refal_parser.specs.Writers.{wC, wS, withTerms, withBlock, addC, plain, block as endBlock, addS}
+use Rattle.refal_parser.specs.Writers.{wC, wS}
 use Rattle.refal_parser.specs.PostBlock.{CondsInv, BlockInv}
 use Rattle.refal_parser.proofs.TokenLaws.{ready-next, end-before}
-use Rattle.refal_parser.proofs.Rows.{block-condition, terms-condition, block-ending, more-conditions, size-conditions, more-sentences, size-sentences}
+use Rattle.refal_parser.proofs.Rows.{block-condition, terms-condition, block-ending, terms-ending, whole-sentence, more-conditions, more-sentences}
+use Rattle.refal_parser.proofs.Rows.{size-block-condition, size-terms-condition, size-block-ending, size-terms-ending, size-sentence, size-conditions, size-sentences}
 use Rattle.refal_parser.proofs.Steps.{is-at, is-no, other, leveled, moved, open-none, open-some, cond-start, cond-equals, match-block, match-terms}
 use Rattle.refal_parser.proofs.Steps.{end-terms, end-start, end-block, end-unopened, end-closed, end-unclosed, block-close, block-eof, block-more}
 use borrow.Author.Needs.{needs}
@@ -165,13 +166,13 @@ block-loop-again t c = let w = c .before .before .before .before .before .before
     let I = c .before .before .before .before .before .before .before .before .before .before .before .loop .inv in
     let S = c .before .before .before .before .before .sentence .ensures .at _ _ (c .before .r .given .1) in
     record {
-      v = addS (I .v) (getD w (i₀ + 4) 0) (S .f) (S .cs) (S .x) (S .e);
+      v = sMore (I .v) (S .x);
       ready = S .ready;
       on = let h = S .on in let g = I .on in omega arith;
       few = S .few;
       same = c .before .before .before .before .before .sentence .kept .1 .0 ∙ I .same;
-      rows = more-sentences (I .v) _ _ (S .f) (S .cs) (S .x) _ _ _ _ _ (I .count) (I .rows) (S .rows);
-      count = size-sentences (I .v) (getD w (i₀ + 4) 0) (S .e) (S .f) (S .cs) (S .x) _ _ _ (I .count) (S .count);
+      rows = more-sentences _ _ (I .v) (S .x) (I .count) (I .rows) (S .rows);
+      count = size-sentences _ (I .v) (S .x) (I .count) (S .count);
       means = λ p. I .means p ∙ block-more _ _ (I .ready) _ p (I .v) (λ e. c .before .before .before .before .before .before .before .before .before .if2 .taken (c .before .before .before .before .before .before .before .before .before .before .kind .ensures
           ∙ e)) (λ e. c .before .before .before .before .before .before .before .if3 .left (c .before .before .before .before .before .before .before .before .kind2 .ensures ∙ e)) ∙ S .means p (I .v);
     }
@@ -316,27 +317,27 @@ condition-returns-3 t c = let w = c .before .before .before .before .before .bef
       at = λ j m e.
           let N = c .joins .ensures .at j m e in
           record {
-            x = withBlock (getD w (at₀ + 6 + 4) 0) (K .g) (B .v) (B .t .to);
+            x = theCondition (getD w (at₀ + 6 + 4) 0) (K .g) (rBlock (getD w (at₀ + 6 + 4) 0) (B .v) (B .t .to)) (B .t .to);
             ready = N .ready;
             on = let o = K .closed .on in let q = B .on in let y = N .stays in omega arith;
             few = let v = B .few in let y = N .stays in let z = N .rows in omega arith;
-            rows = block-condition n₀ (K .g) b₀ (c .before .before .before .before .before .before .before .before .before .before .before .before .before .before .before .before .before .before .before .before .before .before .before .before .before .before .span-from .ensures) (c .before .before .before .before .before .before .before .before .before .end-before .ensures
+            rows = block-condition _ _ (K .g) (c .before .before .before .before .before .before .before .before .before .before .before .before .before .before .before .before .before .before .before .before .before .before .before .before .before .before .span-from .ensures) (c .before .before .before .before .before .before .before .before .before .end-before .ensures
                 ∙ sym (B .last)) (K .rows) (K .count) (B .v) (B .rows) (B .count) (c .before .before .before .before .before .before .before .put-span .ensures) (c .before .before .before .put-span2 .ensures);
-            count = let h₃ = K .count in let h₄ = B .count in let z = N .rows in omega arith;
+            count = N .rows ∙ size-block-condition _ _ _ (K .g) (K .count) (B .v) (B .count);
             joint = N .joint;
             means = λ p s st f cs. cond-start _ _ (pre₀ .0) _ p s st f cs (ready-next _ _ (pre₀ .0) (other _ _ _ (pre₀ .2) refl)) (pre₀ .2)
                 ∙ K .closed .means (argument p s st f cs (getD w (at₀ + 6 + 4) 0)) (λ (g : Terms) (e : ℕ). matched left₀ p s st f cs (getD w (at₀ + 6 + 4) 0) g e) (λ h t y z. refl)
                 ∙ match-block _ _ (K .closed .ready) _ p s st f cs (getD w (at₀ + 6 + 4) 0) (K .g) (K .closed .e) k₇
                 ∙ B .means (inCondition p s st f cs (getD w (at₀ + 6 + 4) 0) (K .g))
-                ∙ leveled w j₂ left₀ (λ (d : ℕ). conditioned d p s st f (cBlock cs (getD w (at₀ + 6 + 4) 0) (K .g) (getD w (at₀ + 6 + 4) 0) (B .v) (B .t .to) (B .t .to))) (B .some)
-                ∙ moved w j₂ j (conditioned left₀ p s st f (cBlock cs (getD w (at₀ + 6 + 4) 0) (K .g) (getD w (at₀ + 6 + 4) 0) (B .v) (B .t .to) (B .t .to))) (N .stays);
+                ∙ leveled w j₂ left₀ (λ (d : ℕ). conditioned d p s st f (cMore cs (theCondition (getD w (at₀ + 6 + 4) 0) (K .g) (rBlock (getD w (at₀ + 6 + 4) 0) (B .v) (B .t .to)) (B .t .to)))) (B .some)
+                ∙ moved w j₂ j (conditioned left₀ p s st f (cMore cs (theCondition (getD w (at₀ + 6 + 4) 0) (K .g) (rBlock (getD w (at₀ + 6 + 4) 0) (B .v) (B .t .to)) (B .t .to)))) (N .stays);
           };
       no = λ a b k d e q. λ p s st f cs. cond-start _ _ (pre₀ .0) _ p s st f cs (ready-next _ _ (pre₀ .0) (other _ _ _ (pre₀ .2) refl)) (pre₀ .2)
           ∙ K .closed .means (argument p s st f cs (getD w (at₀ + 6 + 4) 0)) (λ (g : Terms) (e : ℕ). matched left₀ p s st f cs (getD w (at₀ + 6 + 4) 0) g e) (λ h t y z. refl)
           ∙ match-block _ _ (K .closed .ready) _ p s st f cs (getD w (at₀ + 6 + 4) 0) (K .g) (K .closed .e) k₇
           ∙ B .means (inCondition p s st f cs (getD w (at₀ + 6 + 4) 0) (K .g))
-          ∙ leveled w j₂ left₀ (λ (d : ℕ). conditioned d p s st f (cBlock cs (getD w (at₀ + 6 + 4) 0) (K .g) (getD w (at₀ + 6 + 4) 0) (B .v) (B .t .to) (B .t .to))) (B .some)
-          ∙ c .joins .ensures .no a b k d e q left₀ p s st f (cBlock cs (getD w (at₀ + 6 + 4) 0) (K .g) (getD w (at₀ + 6 + 4) 0) (B .v) (B .t .to) (B .t .to));
+          ∙ leveled w j₂ left₀ (λ (d : ℕ). conditioned d p s st f (cMore cs (theCondition (getD w (at₀ + 6 + 4) 0) (K .g) (rBlock (getD w (at₀ + 6 + 4) 0) (B .v) (B .t .to)) (B .t .to)))) (B .some)
+          ∙ c .joins .ensures .no a b k d e q left₀ p s st f (cMore cs (theCondition (getD w (at₀ + 6 + 4) 0) (K .g) (rBlock (getD w (at₀ + 6 + 4) 0) (B .v) (B .t .to)) (B .t .to)));
     }
 
 condition-pattern-requires : (t : ℕ) → condition-lts.Need-pattern-requires (condition-claims t) (condition-at t) condition.Post
@@ -362,7 +363,7 @@ condition-returns-4 t c = let w = c .before .before .before .before .before .bef
     ∙ K .closed .means (argument p s st f cs (getD w (at₀ + 6 + 4) 0)) (λ (g : Terms) (e : ℕ). matched left₀ p s st f cs (getD w (at₀ + 6 + 4) 0) g e) (λ h t y z. refl)
     ∙ match-terms _ _ (K .closed .ready) _ p s st f cs (getD w (at₀ + 6 + 4) 0) (K .g) (K .closed .e) (λ e. c .before .before .before .before .before .before .if1 .left (c .before .before .before .before .before .before .before .kind .ensures
     ∙ e))
-    ∙ c .before .before .before .before .pattern .ensures .no _ _ _ _ _ (c .enum-told3 .given .1) (matching p s st f cs (getD w (at₀ + 6 + 4) 0) (K .g) (K .closed .e)) p s st (λ (h : Terms). f) (λ (h : Terms). cTerms cs (getD w (at₀ + 6 + 4) 0) (K .g) h (lastEnd h (K .closed .e))) (λ h t y z. refl))
+    ∙ c .before .before .before .before .pattern .ensures .no _ _ _ _ _ (c .enum-told3 .given .1) (matching p s st f cs (getD w (at₀ + 6 + 4) 0) (K .g) (K .closed .e)) p s st (λ (h : Terms). f) (λ (h : Terms). cMore cs (theCondition (getD w (at₀ + 6 + 4) 0) (K .g) (rTerms h) (lastEnd h (K .closed .e)))) (λ h t y z. refl))
 
 condition-put-span-requires-3 : (t : ℕ) → condition-lts.Need-put-span-requires-3 (condition-claims t) (condition-at t) condition.Post
 condition-put-span-requires-3 t c κs = let pre₀ = c .before .before .before .before .before .before .before .before .before .before .before .before .before .before .before .before .before .before .before .before .before .pre .1 in
@@ -382,20 +383,20 @@ condition-returns-5 t c = let w = c .before .before .before .before .before .bef
     let K = c .before .before .before .before .before .before .before .before .before .before .before .before .before .before .before .before .before .before .before .clause .ensures .at _ _ (c .before .before .before .before .before .before .before .before .before .before .before .before .before .before .before .r .given .1) in
     let Q = c .before .before .before .before .before .before .before .before .before .before .pattern .ensures .at _ _ (c .before .before .before .before .before .before .r3 .given .1) in
     is-at refl (record {
-      x = withTerms (getD w (at₀ + 6 + 4) 0) (K .g) (Q .g) (lastEnd (Q .g) (K .closed .e));
+      x = theCondition (getD w (at₀ + 6 + 4) 0) (K .g) (rTerms (Q .g)) (lastEnd (Q .g) (K .closed .e));
       ready = Q .ready;
       on = let o = K .closed .on in let q = Q .on in omega arith;
       few = Q .few;
       rows = let l = ap (λ (z : ℕ). lastEnd (Q .g) z) (K .closed .last) ∙ Q .last in
-          terms-condition n₀ (K .g) b₀ (c .before .before .before .before .before .before .before .before .before .before .before .before .before .before .before .before .before .before .before .before .before .span-from .ensures) (c .before .before .before .before .end-before2 .ensures
+          terms-condition _ _ (K .g) (c .before .before .before .before .before .before .before .before .before .before .before .before .before .before .before .before .before .before .before .before .before .span-from .ensures) (c .before .before .before .before .end-before2 .ensures
           ∙ sym l) (K .rows) (K .count) (Q .g) (Q .rows) (Q .count) (c .before .before .put-span3 .ensures);
-      count = let h₃ = K .count in let h₄ = Q .count in omega arith;
+      count = size-terms-condition _ _ _ (K .g) (K .count) (Q .g) (Q .count);
       joint = Q .joint;
       means = λ p s st f cs. cond-start _ _ (pre₀ .0) _ p s st f cs (ready-next _ _ (pre₀ .0) (other _ _ _ (pre₀ .2) refl)) (pre₀ .2)
           ∙ K .closed .means (argument p s st f cs (getD w (at₀ + 6 + 4) 0)) (λ (g : Terms) (e : ℕ). matched left₀ p s st f cs (getD w (at₀ + 6 + 4) 0) g e) (λ h t y z. refl)
           ∙ match-terms _ _ (K .closed .ready) _ p s st f cs (getD w (at₀ + 6 + 4) 0) (K .g) (K .closed .e) (λ e. c .before .before .before .before .before .before .before .before .before .before .before .before .if1 .left (c .before .before .before .before .before .before .before .before .before .before .before .before .before .kind .ensures
           ∙ e))
-          ∙ Q .means (matching p s st f cs (getD w (at₀ + 6 + 4) 0) (K .g) (K .closed .e)) p s st (λ (h : Terms). f) (λ (h : Terms). cTerms cs (getD w (at₀ + 6 + 4) 0) (K .g) h (lastEnd h (K .closed .e))) (λ h t y z. refl);
+          ∙ Q .means (matching p s st f cs (getD w (at₀ + 6 + 4) 0) (K .g) (K .closed .e)) p s st (λ (h : Terms). f) (λ (h : Terms). cMore cs (theCondition (getD w (at₀ + 6 + 4) 0) (K .g) (rTerms h) (lastEnd h (K .closed .e)))) (λ h t y z. refl);
     })
 
 ending-kind-requires : (t : ℕ) → ending-lts.Need-kind-requires (ending-claims t) (ending-at t) ending.Post
@@ -416,19 +417,19 @@ ending-returns t c = let left₀ = c .before .before .before .before .before .be
       at = λ j m e.
           let K = c .before .before .clause .ensures .at j m e in
           record {
-            x = plain (K .g);
+            x = eTerms (K .g);
             e = K .closed .e;
             ready = K .closed .ready;
             on = K .closed .on;
             few = K .few;
-            rows = K .rows;
-            count = K .count;
+            rows = terms-ending (K .g) _ _ (K .rows);
+            count = size-terms-ending (K .g) _ (K .count);
             last = K .closed .last;
             means = λ p s st f cs. end-terms _ _ (pre₀ .0) _ p s st f cs (λ e. c .before .before .before .before .if1 .taken (c .before .before .before .before .before .kind .ensures ∙ e))
-                ∙ K .closed .means (result p s st f cs) (λ (g : Terms) (b : ℕ). between left₀ p (sTerms s st f cs g b)) (λ h t y z. refl);
+                ∙ K .closed .means (result p s st f cs) (λ (g : Terms) (b : ℕ). between left₀ p (sMore s (theSentence st f cs (eTerms g) b))) (λ h t y z. refl);
           };
       no = λ a b k d e q. λ p s st f cs. end-terms _ _ (pre₀ .0) _ p s st f cs (λ e. c .before .before .before .before .if1 .taken (c .before .before .before .before .before .kind .ensures ∙ e))
-          ∙ c .before .before .clause .ensures .no a b k d e q (result p s st f cs) (λ (g : Terms) (b : ℕ). between left₀ p (sTerms s st f cs g b)) (λ h t y z. refl);
+          ∙ c .before .before .clause .ensures .no a b k d e q (result p s st f cs) (λ (g : Terms) (b : ℕ). between left₀ p (sMore s (theSentence st f cs (eTerms g) b))) (λ h t y z. refl);
     }
 
 ending-add-start : (t : ℕ) → ending-lts.Need-add-start (ending-claims t) (ending-at t) ending.Post
@@ -582,14 +583,14 @@ ending-returns-6 t c = let w = c .before .before .before .before .before .before
     let k₇ : getD w j₁ 0 ≡ 7 = sym (c .before .before .before .before .before .before .before .before .before .before .before .before .before .before .before .kind2 .ensures) ∙ c .before .before .before .before .before .before .before .before .before .before .before .before .before .before .if2 .left in
     let k₁₆ : getD w j₂ 0 ≡ 16 = sym (c .before .before .before .before .before .before .kind3 .ensures) ∙ c .before .before .before .before .before .if3 .left in
     is-at refl (record {
-      x = endBlock (getD w (at₀ + 6 + 4) 0) (K .g) (B .v) (B .t .to);
+      x = eBlock (getD w (at₀ + 6 + 4) 0) (K .g) (B .v) (B .t .to);
       e = getD w (j₂ + 5) 0;
       ready = ready-next _ _ (B .ready) (other _ _ _ k₁₆ refl);
       on = let o = K .closed .on in let q = B .on in omega arith;
       few = let v = B .few in omega arith;
-      rows = block-ending n₀ (K .g) b₀ (c .before .before .before .before .before .before .before .before .before .before .before .before .before .before .before .before .before .before .before .before .before .before .before .span-from .ensures) (c .before .before .before .before .end-before .ensures
+      rows = block-ending _ _ (K .g) (c .before .before .before .before .before .before .before .before .before .before .before .before .before .before .before .before .before .before .before .before .before .before .before .span-from .ensures) (c .before .before .before .before .end-before .ensures
           ∙ sym (B .last)) (K .rows) (K .count) (B .v) (B .rows) (B .count) (c .before .before .put-span .ensures);
-      count = let h₃ = K .count in let h₄ = B .count in omega arith;
+      count = size-block-ending _ _ _ (K .g) (K .count) (B .v) (B .count);
       last = end-before w j₂;
       means = λ p s st f cs. end-start _ _ (pre₀ .0) _ p s st f cs (ready-next _ _ (pre₀ .0) (other _ _ _ k₁₃ refl)) k₁₃
           ∙ K .closed .means (inArgument p s st f cs (getD w (at₀ + 6 + 4) 0)) (λ (g : Terms) (e : ℕ). blocked left₀ p s st f cs (getD w (at₀ + 6 + 4) 0) g) (λ h t y z. refl)
@@ -672,14 +673,14 @@ sentence-loop-again : (t : ℕ) → sentence-lts.Need-loop-again (sentence-claim
 sentence-loop-again t c = let I = c .before .before .before .before .before .before .before .before .before .loop .inv in
     let X = c .before .before .before .before .before .condition .ensures .at _ _ (c .before .r2 .given .1) in
     record {
-      cs = addC (I .cs) (X .x);
+      cs = cMore (I .cs) (X .x);
       ready = X .ready;
       joint = X .joint;
       on = let h = X .on in let g = I .on in omega arith;
       few = X .few;
       same = c .before .before .before .before .before .condition .kept .1 .0 ∙ I .same;
-      rows = more-conditions (I .cs) (X .x) _ _ _ _ _ (I .count) (I .rows) (X .rows);
-      count = let h = X .count in let g = I .count in omega (arith, size-conditions (I .cs) (X .x));
+      rows = more-conditions _ _ (I .cs) (X .x) (I .count) (I .rows) (X .rows);
+      count = size-conditions _ (I .cs) (X .x) (I .count) (X .count);
       means = λ p s st f. I .means p s st f ∙ X .means p s st f (I .cs);
     }
 
@@ -749,15 +750,12 @@ sentence-returns-4 t c = let w = c .before .before .before .before .before .befo
     let N = c .before .before .before .before .before .before .before .before .before .before .before .ending .ensures .at _ _ (c .before .before .before .before .before .before .before .r3 .given .1) in
     let k₁₅ : getD w i₀ 0 ≡ 15 = c .before .before .before .before .before .before .before .before .before .before .before .before .before .before .before .loop .inv .joint (λ e. c .before .before .before .before .before .before .before .before .before .before .before .before .before .if1 .left (c .before .before .before .before .before .before .before .before .before .before .before .before .before .before .kind .ensures ∙ e)) in
     is-at refl (record {
-      f = Q .g;
-      cs = I .cs;
-      x = N .x;
-      e = N .e;
+      x = theSentence (getD w (at₀ + 4) 0) (Q .g) (I .cs) (N .x) (N .e);
       ready = N .ready;
       on = let h₁ = Q .on in let h₂ = I .on in let h₃ = N .on in omega arith;
       few = N .few;
-      rows = let h₁ = Q .rows in let h₂ = I .rows in let h₃ = N .rows in let h₄ = Q .count in let h₅ = I .count in let h₆ = N .count in let h₇ = N .last in cc;
-      count = let h₄ = Q .count in let h₅ = I .count in let h₆ = N .count in cc;
+      rows = whole-sentence _ _ _ (Q .g) (Q .count) _ (I .cs) (N .x) (I .count) (N .count) (let h₁ = Q .rows in let h₂ = I .rows in let h₃ = N .rows in let h₇ = N .last in cc);
+      count = size-sentence _ _ _ (Q .g) (Q .count) (I .cs) (N .x) (I .count) (N .count);
       means = λ p s. Q .means (inPattern p s (getD w (at₀ + 4) 0)) p s (getD w (at₀ + 4) 0) (λ (g : Terms). g) (λ (g : Terms). c0) (λ h t y z. refl)
           ∙ I .means p s (getD w (at₀ + 4) 0) (Q .g) ∙ cond-equals _ _ (I .ready) _ p s (getD w (at₀ + 4) 0) (Q .g) (I .cs) k₁₅
           ∙ N .means p s (getD w (at₀ + 4) 0) (Q .g) (I .cs);

@@ -5,7 +5,8 @@ use native.Mathlib.Omega.{arith}
 use lib.ListN.{length, getD}
 use Rattle.refal_parser.proofs.TokenLaws.{ready-next, end-before}
 use Rattle.refal_ast.specs.Tree.{nOne, nMore, sizeN}
-use Rattle.refal_parser.specs.Writers.{wN, declaration as itemDeclaration}
+use Rattle.refal_ast.specs.Tree.{declaration as itemDeclaration}
+use Rattle.refal_parser.specs.Writers.{wN}
 use Rattle.refal_parser.specs.PostItems.{NamesInv}
 use Rattle.refal_parser.proofs.Steps.{is-at, is-no, other, items-extern, named-comma, named-end, named-none}
 use borrow.Author.Needs.{needs}

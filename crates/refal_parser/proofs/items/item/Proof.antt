@@ -5,7 +5,7 @@ use native.Mathlib.Omega.{arith}
 use lib.ListN.{getD}
 use Rattle.refal_parser.proofs.TokenLaws.{ready-next}
 use mathlib.Core.Bool.{true, false}
-use Rattle.refal_parser.specs.Writers.{function as itemFunction}
+use Rattle.refal_ast.specs.Tree.{function as itemFunction}
 use Rattle.refal_parser.proofs.Steps.{is-no, other, items-name, items-entry, items-none, entry-name, entry-none}
 use borrow.Author.Needs.{needs}
 use Rattle.refal_parser.proofs.items.item.Statement.{statement}

@@ -5,8 +5,8 @@ use native.Mathlib.Omega.{arith}
 use lib.ListN.{length, getD}
 use Rattle.refal_parser.proofs.TokenLaws.{ready-next}
 use native.Mathlib.Nat.{zero-add}
-use Rattle.refal_ast.specs.Tree.{p0, sizeP}
-use Rattle.refal_parser.specs.Writers.{wP, addP}
+use Rattle.refal_ast.specs.Tree.{p0, pMore, sizeP}
+use Rattle.refal_parser.specs.Writers.{wP}
 use Rattle.refal_parser.specs.PostItems.{ProgramInv}
 use Rattle.refal_parser.proofs.Rows.{more-items, size-items}
 use Rattle.refal_parser.proofs.Steps.{is-at, is-no, other, items-eof, items-pass}
@@ -87,12 +87,12 @@ loop-again-2 : tie.Need-loop-again-2 Inv-loop μ-loop
 loop-again-2 c = let I = c .before .before .before .before .before .before .before .before .before .before .before .loop .inv in
     let X = c .before .before .before .before .before .item .ensures .at _ _ (c .before .r .given .1) in
     record {
-      t = addP (I .t) (X .x);
+      t = pMore (I .t) (X .x);
       ready = X .ready;
       few = X .few;
       same = c .before .before .before .before .before .item .kept .1 .0 ∙ I .same;
-      rows = more-items (I .t) (X .x) 0 _ _ _ _ (I .count ∙ sym (zero-add (sizeP (I .t)))) (I .rows) (X .rows);
-      count = let h = X .count in let k = I .count in omega (arith, size-items (I .t) (X .x));
+      rows = more-items 0 _ (I .t) (X .x) (I .count ∙ sym (zero-add (sizeP (I .t)))) (I .rows) (X .rows);
+      count = size-items 0 (I .t) (X .x) (I .count ∙ sym (zero-add (sizeP (I .t)))) (X .count) ∙ zero-add _;
       means = I .means ∙ X .means (I .t);
     }
 

@@ -3,16 +3,17 @@ use mathlib.Core.Path.{_≡_, refl, sym, ap, _∙_}
 use Prim.Native.Nat.{ℕ, suc, _+_, _-_, _<_}
 use native.Mathlib.Omega.{arith}
 use lib.ListN.{length, getD}
-use Rattle.refal_ast.specs.Tree.{Terms, t0, tBracket, tCall, symbol, variable, sizeT}
+use Rattle.refal_ast.specs.Tree.{Terms, t0, tMore, bracket as theBracket, call as theCall, symbol, variable, sizeT}
 use Rattle.refal_ast.specs.declared.tree.Term.the-variants.{NoTerm}
-use Rattle.refal_parser.specs.Machine.{Step, within, bracket as inBracket, call as inCall}
+use Rattle.refal_parser.specs.Machine.{Step, within, inBracket, inCall}
 use Rattle.refal_parser.specs.Ready.{tok, afterFrom, afterTo}
 use Rattle.refal_parser.specs.Post.{after}
 use Rattle.refal_parser.specs.Writers.{wT}
 use Rattle.refal_parser.specs.PostTerms.{TermsInv}
 use Rattle.refal_parser.proofs.TokenLaws.{ready-next}
 use Rattle.refal_parser.proofs.Steps.{is-at, is-no, ready-term, other, leveled, term-step, bracket-deep, bracket-open, call-deep, call-open, call-name, call-nameless}
-use Rattle.refal_parser.proofs.TermLaws.{one-leaf, one-bracket, one-call}
+use Rattle.refal_parser.proofs.TermLaws.{one-leaf, one-term}
+use Rattle.refal_parser.proofs.Rows.{whole-bracket, size-bracket, whole-call, size-call}
 use borrow.Author.Needs.{needs}
 use borrow.Fn.Kinds.{In}
 use borrow.Fn.PlainCycle.{Measures, is, falls, and}
@@ -131,7 +132,7 @@ bracket-returns-2 t c = let w = c .before .before .before .before .before .befor
     let left₀ = c .before .before .before .before .before .before .before .before .before .args .left in
     let pre₀ = c .before .before .before .before .before .before .before .before .before .pre .1 in
     is-no (c .enum-told .given .1) (λ x f. bracket-open _ _ (pre₀ .0) _ x f (pre₀ .2) (c .before .before .before .before .before .before .if1 .left)
-    ∙ c .before .before .before .before .until .ensures .no _ _ _ _ _ (c .enum-told .given .1) (inBracket x f (getD w (at₀ + 4) 0)) (λ (g : Terms) (e : ℕ). within (suc (left₀ - 1)) x (tBracket f (getD w (at₀ + 4) 0) g e)) (λ h t y z. refl))
+    ∙ c .before .before .before .before .until .ensures .no _ _ _ _ _ (c .enum-told .given .1) (inBracket x f (getD w (at₀ + 4) 0)) (λ (g : Terms) (e : ℕ). within (suc (left₀ - 1)) x (tMore f (theBracket (getD w (at₀ + 4) 0) g e))) (λ h t y z. refl))
 
 bracket-span-from-requires : (t : ℕ) → bracket-lts.Need-span-from-requires (bracket-claims t) (bracket-at t) bracket.Post
 bracket-span-from-requires t c κs = let pre₀ = c .before .before .before .before .before .before .before .before .before .before .pre .1 in
@@ -156,17 +157,16 @@ bracket-returns-3 t c = let w = c .before .before .before .before .before .befor
     let pre₀ = c .before .before .before .before .before .before .before .before .before .before .before .before .before .before .before .before .pre .1 in
     let U = c .before .before .before .before .before .before .before .before .before .before .before .until .ensures .at _ _ (c .before .before .before .before .before .before .before .r .given .1) in
     is-at refl (record {
-      g = U .g;
-      e = U .closed .e;
+      x = theBracket (getD w (at₀ + 4) 0) (U .g) (U .closed .e);
       ready = U .closed .ready;
       on = let h = U .closed .on in omega arith;
       few = U .few;
-      rows = let h = U .rows in let l = U .closed .last in cc;
-      count = U .count;
+      rows = whole-bracket _ _ _ (U .g) (U .count) _ (let h = U .rows in let l = U .closed .last in cc);
+      count = size-bracket _ _ _ (U .g) (U .count);
       last = U .closed .last;
       means = λ x f. bracket-open _ _ (pre₀ .0) _ x f (pre₀ .2) (c .before .before .before .before .before .before .before .before .before .before .before .before .before .if1 .left)
-          ∙ U .closed .means (inBracket x f (getD w (at₀ + 4) 0)) (λ (g : Terms) (e : ℕ). within (suc (left₀ - 1)) x (tBracket f (getD w (at₀ + 4) 0) g e)) (λ h t y z. refl)
-          ∙ leveled w j₁ left₀ (λ (d : ℕ). within d x (tBracket f (getD w (at₀ + 4) 0) (U .g) (U .closed .e))) (c .before .before .before .before .before .before .before .before .before .before .before .before .before .if1 .left);
+          ∙ U .closed .means (inBracket x f (getD w (at₀ + 4) 0)) (λ (g : Terms) (e : ℕ). within (suc (left₀ - 1)) x (tMore f (theBracket (getD w (at₀ + 4) 0) g e))) (λ h t y z. refl)
+          ∙ leveled w j₁ left₀ (λ (d : ℕ). within d x (tMore f (theBracket (getD w (at₀ + 4) 0) (U .g) (U .closed .e)))) (c .before .before .before .before .before .before .before .before .before .before .before .before .before .if1 .left);
     })
 
 call-present-requires : (t : ℕ) → call-lts.Need-present-requires (call-claims t) (call-at t) call.Post
@@ -229,7 +229,7 @@ call-returns-3 t c = let w = c .before .before .before .before .before .before .
     let k₃ : getD w (at₀ + 6) 0 ≡ 3 = sym (c .before .before .before .before .before .before .before .kind .ensures) ∙ c .before .before .before .before .before .before .if2 .left in
     is-no (c .enum-told .given .1) (λ x f. call-open _ _ (pre₀ .0) _ x f (pre₀ .2) (c .before .before .before .before .before .before .before .before .if1 .left)
     ∙ call-name _ _ (ready-term _ _ _ (pre₀ .0) (pre₀ .2) refl) _ x f _ k₃
-    ∙ c .before .before .before .before .until .ensures .no _ _ _ _ _ (c .enum-told .given .1) (inCall x f (getD w (at₀ + 4) 0) (getD w (at₀ + 6 + 2) 0) (getD w (at₀ + 6 + 3) 0)) (λ (g : Terms) (e : ℕ). within (suc (left₀ - 1)) x (tCall f (getD w (at₀ + 4) 0) (getD w (at₀ + 6 + 2) 0) (getD w (at₀ + 6 + 3) 0) g e)) (λ h t y z. refl))
+    ∙ c .before .before .before .before .until .ensures .no _ _ _ _ _ (c .enum-told .given .1) (inCall x f (getD w (at₀ + 4) 0) (getD w (at₀ + 6 + 2) 0) (getD w (at₀ + 6 + 3) 0)) (λ (g : Terms) (e : ℕ). within (suc (left₀ - 1)) x (tMore f (theCall (getD w (at₀ + 4) 0) (getD w (at₀ + 6 + 2) 0) (getD w (at₀ + 6 + 3) 0) g e))) (λ h t y z. refl))
 
 call-text-start-requires : (t : ℕ) → call-lts.Need-text-start-requires (call-claims t) (call-at t) call.Post
 call-text-start-requires t c κs = let pre₀ = c .before .before .before .before .before .before .before .before .before .before .before .before .pre .1 in
@@ -263,18 +263,17 @@ call-returns-4 t c = let w = c .before .before .before .before .before .before .
     let U = c .before .before .before .before .before .before .before .before .before .before .before .before .before .until .ensures .at _ _ (c .before .before .before .before .before .before .before .before .before .r .given .1) in
     let k₃ : getD w (at₀ + 6) 0 ≡ 3 = sym (c .before .before .before .before .before .before .before .before .before .before .before .before .before .before .before .before .kind .ensures) ∙ c .before .before .before .before .before .before .before .before .before .before .before .before .before .before .before .if2 .left in
     is-at refl (record {
-      g = U .g;
-      e = U .closed .e;
+      x = theCall (getD w (at₀ + 4) 0) (getD w (at₀ + 6 + 2) 0) (getD w (at₀ + 6 + 3) 0) (U .g) (U .closed .e);
       ready = U .closed .ready;
       on = let h = U .closed .on in omega arith;
       few = U .few;
-      rows = let h = U .rows in let l = U .closed .last in cc;
-      count = U .count;
+      rows = whole-call _ _ _ (U .g) (U .count) _ _ _ (let h = U .rows in let l = U .closed .last in cc);
+      count = size-call _ _ _ (U .g) (U .count) _ _;
       last = U .closed .last;
       means = λ x f. call-open _ _ (pre₀ .0) _ x f (pre₀ .2) (c .before .before .before .before .before .before .before .before .before .before .before .before .before .before .before .before .before .if1 .left)
           ∙ call-name _ _ (ready-term _ _ _ (pre₀ .0) (pre₀ .2) refl) _ x f _ k₃
-          ∙ U .closed .means (inCall x f (getD w (at₀ + 4) 0) (getD w (at₀ + 6 + 2) 0) (getD w (at₀ + 6 + 3) 0)) (λ (g : Terms) (e : ℕ). within (suc (left₀ - 1)) x (tCall f (getD w (at₀ + 4) 0) (getD w (at₀ + 6 + 2) 0) (getD w (at₀ + 6 + 3) 0) g e)) (λ h t y z. refl)
-          ∙ leveled w j₁ left₀ (λ (d : ℕ). within d x (tCall f (getD w (at₀ + 4) 0) (getD w (at₀ + 6 + 2) 0) (getD w (at₀ + 6 + 3) 0) (U .g) (U .closed .e))) (c .before .before .before .before .before .before .before .before .before .before .before .before .before .before .before .before .before .if1 .left);
+          ∙ U .closed .means (inCall x f (getD w (at₀ + 4) 0) (getD w (at₀ + 6 + 2) 0) (getD w (at₀ + 6 + 3) 0)) (λ (g : Terms) (e : ℕ). within (suc (left₀ - 1)) x (tMore f (theCall (getD w (at₀ + 4) 0) (getD w (at₀ + 6 + 2) 0) (getD w (at₀ + 6 + 3) 0) g e))) (λ h t y z. refl)
+          ∙ leveled w j₁ left₀ (λ (d : ℕ). within d x (tMore f (theCall (getD w (at₀ + 4) 0) (getD w (at₀ + 6 + 2) 0) (getD w (at₀ + 6 + 3) 0) (U .g) (U .closed .e)))) (c .before .before .before .before .before .before .before .before .before .before .before .before .before .before .before .before .before .if1 .left);
     })
 
 abbrev terms-Inv-loop : terms-lts.InvT-loop
@@ -367,7 +366,7 @@ terms-loop-less-3 : (t : ℕ) → terms-lts.Need-loop-less-3 (terms-claims t) (t
 terms-loop-less-3 t c = let L = c .before .before .before .before .before .before .before .before .before .before .before .before .leaves .ensures in let o = L .on in let b = c .before .before .before .before .before .bracket .ensures .at _ _ (c .before .r .given .1) in let R = b .ready in let h = b .on in omega arith
 
 terms-loop-again-3 : (t : ℕ) → terms-lts.Need-loop-again-3 (terms-claims t) (terms-at t) terms.Post terms-Inv-loop terms-μ-loop
-terms-loop-again-3 t c = one-bracket (c .before .before .before .before .before .bracket .kept .1 .0) (c .before .before .before .before .before .bracket .ensures .at _ _ (c .before .r .given .1)) (c .before .before .before .before .before .before .before .before .before .before .before .before .leaves .ensures .more _ _ _ _ (c .before .before .before .before .before .before .before .before .before .before .before .before .before .before .loop .inv))
+terms-loop-again-3 t c = one-term (c .before .before .before .before .before .bracket .kept .1 .0) (c .before .before .before .before .before .bracket .ensures .at _ _ (c .before .r .given .1)) (c .before .before .before .before .before .before .before .before .before .before .before .before .leaves .ensures .more _ _ _ _ (c .before .before .before .before .before .before .before .before .before .before .before .before .before .before .loop .inv))
 
 terms-enum-told-3 : (t : ℕ) → terms-lts.Need-enum-told-3 (terms-claims t) (terms-at t) terms.Post terms-Inv-loop terms-μ-loop
 terms-enum-told-3 t c = search needs
@@ -392,7 +391,7 @@ terms-loop-less-4 : (t : ℕ) → terms-lts.Need-loop-less-4 (terms-claims t) (t
 terms-loop-less-4 t c = let L = c .before .before .before .before .before .before .before .before .before .before .before .before .leaves .ensures in let o = L .on in let b = c .before .before .before .before .before .call .ensures .at _ _ (c .before .r2 .given .1) in let R = b .ready in let h = b .on in omega arith
 
 terms-loop-again-4 : (t : ℕ) → terms-lts.Need-loop-again-4 (terms-claims t) (terms-at t) terms.Post terms-Inv-loop terms-μ-loop
-terms-loop-again-4 t c = one-call (c .before .before .before .before .before .call .kept .1 .0) (c .before .before .before .before .before .call .ensures .at _ _ (c .before .r2 .given .1)) (c .before .before .before .before .before .before .before .before .before .before .before .before .leaves .ensures .more _ _ _ _ (c .before .before .before .before .before .before .before .before .before .before .before .before .before .before .loop .inv))
+terms-loop-again-4 t c = one-term (c .before .before .before .before .before .call .kept .1 .0) (c .before .before .before .before .before .call .ensures .at _ _ (c .before .r2 .given .1)) (c .before .before .before .before .before .before .before .before .before .before .before .before .leaves .ensures .more _ _ _ _ (c .before .before .before .before .before .before .before .before .before .before .before .before .before .before .loop .inv))
 
 terms-enum-told-5 : (t : ℕ) → terms-lts.Need-enum-told-5 (terms-claims t) (terms-at t) terms.Post terms-Inv-loop terms-μ-loop
 terms-enum-told-5 t c = search needs
