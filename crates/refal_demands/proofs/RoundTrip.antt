@@ -15,7 +15,9 @@ use Rattle.refal_ast.specs.Encode.{encP}
 use Rattle.refal_ast.specs.Tree.{Program, sizeP, depthP}
 use Rattle.refal_ast.specs.Flatten.{Flat, mark, flatOf, flatsOf, flattenP, Loose}
 use Rattle.refal_ast.specs.declared.Answer.the-variants.{Done, Refused}
-use Rattle.refal_lexer.specs.Lex.{Out, lex}
+use Rattle.refal_lexer.specs.Lex.{Out}
+use Rattle.refal_lexer.specs.Stars.{source}
+use Rattle.refal_lexer.specs.StarLaws.{source-is}
 use Rattle.refal_parser.specs.Machine.{Outcome, tree}
 use Rattle.refal_parser.specs.Parse.{parsed, answerOf}
 use Rattle.refal_ast.specs.Limits.{mostRows}
@@ -118,8 +120,8 @@ parsed-back s t w l d g e v a =
     }
 
 -- how many tokens reading finds in the text of good ones
-pub count-text : (ts : List Spelled) → AllGood ts → length (lex 0 0 true (text ts) .tokens) ≡ length ts + 1
-count-text ts a = ap (λ (o : Out). length (o .tokens)) (text-reads ts a) ∙ length-append (tokensAt 0 ts) _ ∙ ap (λ (k : ℕ). k + 1) (length-at ts 0)
+pub count-text : (ts : List Spelled) → AllGood ts → length (source (text ts) .tokens) ≡ length ts + 1
+count-text ts a = ap (λ (o : Out). length (o .tokens)) (source-is (text ts) ∙ text-reads ts a) ∙ length-append (tokensAt 0 ts) _ ∙ ap (λ (k : ℕ). k + 1) (length-at ts 0)
 
 -- the text of sound tokens of a tree no deeper than 64
 pub reads-back : (s : List ℕ) (t : Program) → AllSound s (flattenP t) → (M : List ℕ) → Suffices (views s (flattenP t)) M → ReadsBack (views s (flattenP t)) M

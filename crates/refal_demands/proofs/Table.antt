@@ -8,7 +8,7 @@ use Rattle.refal_ast.specs.Encode.{encT, encC, encS, encN, encP}
 use Rattle.refal_text.specs.Utf8.{decode, wellTo}
 use Rattle.refal_lexer.specs.Blanks.{closeFrom}
 use Rattle.refal_lexer.specs.Literals.{litChar, litFrom, charTokens}
-use Rattle.refal_lexer.specs.Lex.{lex}
+use Rattle.refal_lexer.specs.Stars.{onlyWhite, lex01}
 use Rattle.refal_parser.specs.Machine.{run}
 use Rattle.refal_parser.specs.Parse.{parsed}
 use Rattle.refal_ast.specs.Flatten.{flattenT, flattenC, flattenS, flattenP}
@@ -24,6 +24,6 @@ use Rattle.refal_writer.specs.Write.{written, writeAnswer, writeBytes}
 
 pub table-holds : AllHold table
 unfolding table tokensOf okTokens wellFormed sizeT sizeC sizeS sizeN sizeP encT encC encS encN encP run parsed decode wellTo closeFrom litChar litFrom
-    charTokens lex flattenT flattenC flattenS flattenP sizeG joinG cut nodesOf forestN forestOf okG getT getS getSentence getTail getBlock getCondition getRight getN
+    charTokens lex01 onlyWhite flattenT flattenC flattenS flattenP sizeG joinG cut nodesOf forestN forestOf okG getT getS getSentence getTail getBlock getCondition getRight getN
     getNs getP treeOf lawful body spelling text spells rowSpelled nodesSpelled allSpelled written writeAnswer writeBytes
 table-holds = refl

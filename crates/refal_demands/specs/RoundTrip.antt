@@ -7,7 +7,7 @@ use lib.ListN.{length, take}
 use Rattle.refal_ast.specs.Nodes.{nodeWidth}
 use Rattle.refal_ast.specs.Flatten.{flattenP}
 use Rattle.refal_ast.specs.declared.Answer.the-variants.{Done}
-use Rattle.refal_lexer.specs.Lex.{lex}
+use Rattle.refal_lexer.specs.Stars.{source}
 use Rattle.refal_lexer.specs.Read.{readAnswer, readRows}
 use Rattle.refal_parser.specs.Parse.{parseAnswer}
 use Rattle.refal_spelling.specs.Spell.{Spelled, views}
@@ -41,7 +41,7 @@ pub record SameAsSpelled (s T s′ U : List ℕ) : Type 0 where
 
 -- Rows suffice: the token rows lent are at least the tokens of the source s, Eof included, and the node rows lent at least the m nodes.
 pub record RowsSuffice (s : List ℕ) (m : ℕ) (M B : List ℕ) : Type 0 where
-  pub tokens : 6 * length (lex 0 0 true s .tokens) ≤ length M
+  pub tokens : 6 * length (source s .tokens) ≤ length M
   pub nodes : nodeWidth * m ≤ length B
 
 -- reading and then parsing the source s′, with M and B lent, accept it and give a tree with the flattening of the rows T, as spelled

@@ -18,7 +18,7 @@ use Rattle.refal_text.specs.declared.Char.{Char}
 use Rattle.refal_lexer.specs.Boundaries.{Boundary, first, later, Well}
 
 -- a boundary lies within the bytes
-past-in : (n : ℕ) (s : List ℕ) → decode s .len ≡ suc n → suc n ≤ length s
+pub past-in : (n : ℕ) (s : List ℕ) → decode s .len ≡ suc n → suc n ≤ length s
 unfolding decode
 past-in n [] e = absurd (omega arith)
 past-in n (b ∷ s) e = let d = decode-in (b ∷ s) 0 (omega arith) in omega arith
@@ -83,11 +83,11 @@ behind a s =
     each n (suc (suc zero)) l h p q r = r (omega arith)
     each n (suc (suc (suc j))) l h p q r = absurd (omega arith)
 
-decode-front : (b n : ℕ) (s : List ℕ) → decode (b ∷ s) .len ≡ suc n → cont b ≡ false
+pub decode-front : (b n : ℕ) (s : List ℕ) → decode (b ∷ s) .len ≡ suc n → cont b ≡ false
 unfolding decode
 decode-front b n s e = front-byte b (getD s 0 0) (getD s 1 0) (getD s 2 0) n e
 
-decode-behind : (b n j : ℕ) (s : List ℕ) → decode (b ∷ s) .len ≡ suc n → j < n → cont (getD s j 0) ≡ true
+pub decode-behind : (b n j : ℕ) (s : List ℕ) → decode (b ∷ s) .len ≡ suc n → j < n → cont (getD s j 0) ≡ true
 unfolding decode
 decode-behind b n j s e h = behind b s n j e h
 

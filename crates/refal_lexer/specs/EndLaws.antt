@@ -38,26 +38,26 @@ Ends s (Literal end) = Boundary s end
 Ends s (Bad number end) = Boundary s end
 
 -- ---- bytes below 128
-either : {A : Type 0} (x y : Bool) → (x ≡ true → A) → (y ≡ true → A) → x || y ≡ true → A
+pub either : {A : Type 0} (x y : Bool) → (x ≡ true → A) → (y ≡ true → A) → x || y ≡ true → A
 either true y f g h = f refl
 either false y f g h = g h
 
-abbrev Low : ℕ → Type 0
+abbrev pub Low : ℕ → Type 0
 Low b = ltb b 128 ≡ true
 
-range-low : (a b c : ℕ) → c < 128 → leb a b && leb b c ≡ true → Low b
+pub range-low : (a b c : ℕ) → c < 128 → leb a b && leb b c ≡ true → Low b
 range-low a b c l h = let k = range-hi a b c h in lt-ltb b 128 (omega arith)
 
-is-low : (b n : ℕ) → n < 128 → eqb b n ≡ true → Low b
+pub is-low : (b n : ℕ) → n < 128 → eqb b n ≡ true → Low b
 is-low b n l h = let k : b ≡ n = eqb-true b n h in lt-ltb b 128 (omega arith)
 
-digit-low : (b : ℕ) → digit b ≡ true → Low b
+pub digit-low : (b : ℕ) → digit b ≡ true → Low b
 digit-low b = range-low 48 b 57 (omega arith)
 
-letter-low : (b : ℕ) → letter b ≡ true → Low b
+pub letter-low : (b : ℕ) → letter b ≡ true → Low b
 letter-low b = either (leb 65 b && leb b 90) (leb 97 b && leb b 122) (range-low 65 b 90 (omega arith)) (range-low 97 b 122 (omega arith))
 
-name-low : (b : ℕ) → nameByte b ≡ true → Low b
+pub name-low : (b : ℕ) → nameByte b ≡ true → Low b
 name-low b =
     either ((letter b || digit b) || eqb b 95) (eqb b 45)
     (either (letter b || digit b) (eqb b 95) (either (letter b) (digit b) (letter-low b) (digit-low b)) (is-low b 95 (omega arith))) (is-low b 45 (omega arith))

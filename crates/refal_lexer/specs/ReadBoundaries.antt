@@ -18,7 +18,8 @@ use Rattle.refal_lexer.specs.declared.Scan.the-variants.{Blank, Token, L
 use Rattle.refal_lexer.specs.Literals.{litChar, charStep, charTokens}
 use Rattle.refal_lexer.specs.Scans.{scanByte}
 use Rattle.refal_lexer.specs.Lex.{Stop, fine, bad, Out, after, lex, stopped}
-use Rattle.refal_lexer.specs.Read.{fitted, readAnswer, kept, readRows}
+use Rattle.refal_lexer.specs.Read.{fitted, answerBy, readAnswer, kept, rowsBy, readRows}
+use Rattle.refal_lexer.specs.StarLaws.{source-is}
 use Rattle.refal_lexer.specs.PlaceLaws.{Placed, scan-placed}
 use Rattle.refal_lexer.specs.Boundaries.{Boundary, first, Well, AllOn, all-none, all-more, StopOn, OutOn, AnswerOn}
 use Rattle.refal_lexer.specs.BoundaryLaws.{boundary-in, well-boundary}
@@ -77,9 +78,8 @@ module _ (src : List ℕ) (w : Well src) where
 pub lex-boundaries : (s : List ℕ) → Well s → OutOn s (lex 0 0 true s)
 lex-boundaries s w = lex-on s w 0 0 true s (omega arith) (record { at = record { inside = omega arith; rest = refl }; well = w })
 
--- whatever reading answers, of any bytes and any words lent
-pub read-boundaries : (s m : List ℕ) → AnswerOn s (readRows s m) (readAnswer s (length m))
-read-boundaries s m =
+by-lex : (s m : List ℕ) → AnswerOn s (rowsBy (lex 0 0 true s) s m) (answerBy (lex 0 0 true s) s (length m))
+by-lex s m =
     split P (ltb 16777216 (length s)) _ _ (λ _. (first, first)) (λ _.
     split P (ltb (wellTo 0 s) (length s)) _ _ (λ _. (well-boundary s, well-boundary s)) (λ t.
     let l = ltb-false (wellTo 0 s) (length s) t in
@@ -100,3 +100,7 @@ read-boundaries s m =
     go : Well s → AllOn s ts → (x : Stop) → StopOn s x → P (fitted (stopped x (length ts)) (length m / 6))
     go w h fine z = split P (leb (length ts) (length m / 6)) _ _ (λ _. (w, subst (AllOn s) (sym rows) h)) (λ _. (first, first))
     go w h (bad number from to) z = z
+
+-- whatever reading answers, of any bytes and any words lent
+pub read-boundaries : (s m : List ℕ) → AnswerOn s (readRows s m) (readAnswer s (length m))
+read-boundaries s m = subst (λ (o : Out). AnswerOn s (rowsBy o s m) (answerBy o s (length m))) (sym (source-is s)) (by-lex s m)

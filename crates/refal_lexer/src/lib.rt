@@ -4,6 +4,7 @@ ghost use Prim.Native.Nat.{_+_, _≤_, _<_};
 ghost use lib.ListN.{length};
 ghost use Rattle.refal_lexer.specs.ClassLaws.{Table};
 ghost use Rattle.refal_lexer.specs.Lex.{lex, stopAnswer};
+ghost use Rattle.refal_lexer.specs.Stars.{source};
 ghost use Rattle.refal_lexer.specs.Read.{readAnswer, readRows};
 ghost use Rattle.refal_lexer.specs.Puts.{putTokens};
 ghost use Rattle.refal_ast.specs.Answers.{refusal};
@@ -178,8 +179,8 @@ fn lex_by(src: &[u8], rows: &mut [u32], table: &[u8]) -> Answer
 
 fn lex_all(src: &[u8], rows: &mut [u32]) -> Answer
     requires { ⌜ length (now src) ≤ 16777216 ⌝ }
-    ensures { λ r. ⌜ r ≡ stopAnswer (lex 0 0 true (now (src .entry))) ⌝ }
-    ensures { λ r. ⌜ now (rows .exit) ≡ putTokens (now (rows .entry)) 0 (lex 0 0 true (now (src .entry)) .tokens) ⌝ }
+    ensures { λ r. ⌜ r ≡ stopAnswer (source (now (src .entry))) ⌝ }
+    ensures { λ r. ⌜ now (rows .exit) ≡ putTokens (now (rows .entry)) 0 (source (now (src .entry)) .tokens) ⌝ }
 {
     let table = class::CLASS;
     lex_by(src, rows, &table)

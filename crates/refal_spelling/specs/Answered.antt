@@ -4,7 +4,7 @@ use native.Mathlib.Omega.{arith}
 use borrow.Author.Tests.{le-leb, le-ltb, leb-true, ltb-false}
 use mathlib.Core.Bool.{Bool, true, false}
 use mathlib.Core.List.{List, _++_}
-use mathlib.Core.Path.{_≡_, refl, ap, subst, _∙_}
+use mathlib.Core.Path.{_≡_, refl, ap, sym, subst, _∙_}
 use lib.Dec.{leb, ltb}
 use lib.ListN.{length, drop}
 use Rattle.refal_text.specs.Pick.{pick}
@@ -14,8 +14,10 @@ use Rattle.refal_ast.specs.Tokens.{flat}
 use Rattle.refal_ast.specs.declared.Answer.{Answer}
 use Rattle.refal_ast.specs.declared.Refusal.{Refusal}
 use Rattle.refal_ast.specs.declared.Answer.the-variants.{Done, Refused}
-use Rattle.refal_lexer.specs.Lex.{Stop, fine, bad, lex, stopped, stopAnswer}
-use Rattle.refal_lexer.specs.Read.{fitted, readAnswer, kept, readRows}
+use Rattle.refal_lexer.specs.Lex.{Stop, fine, bad, Out, lex, stopped, stopAnswer}
+use Rattle.refal_lexer.specs.Stars.{source}
+use Rattle.refal_lexer.specs.StarLaws.{source-is}
+use Rattle.refal_lexer.specs.Read.{fitted, answerBy, readAnswer, kept, readRows}
 
 -- reading s with w words lent answers n
 pub record Answered (s : List ℕ) (w n : ℕ) : Type 0 where
@@ -31,8 +33,11 @@ not-done r n e = let z : _≡_ {A = ℕ} 0 1 = cc in absurd (omega arith)
 same-done : (k n : ℕ) → Done k ≡ Done n → k ≡ n
 same-done k n e = cc
 
-pub answered : (s : List ℕ) (w n : ℕ) → readAnswer s w ≡ Done n → Answered s w n
-answered s w n = long (ltb 16777216 (length s)) refl
+by-lex : (s : List ℕ) (w : ℕ) → readAnswer s w ≡ answerBy (lex 0 0 true s) s w
+by-lex s w = ap (λ (o : Out). answerBy o s w) (source-is s)
+
+lexed : (s : List ℕ) (w n : ℕ) → answerBy (lex 0 0 true s) s w ≡ Done n → Answered s w n
+lexed s w n = long (ltb 16777216 (length s)) refl
   where
     fits : (k : ℕ) (b : Bool) → leb k (w / 6) ≡ b → pick b (Done k) (Refused (refusal 25 0 0 0 0 k)) ≡ Done n → (k ≡ n) × (k ≤ w / 6)
     fits k true e f = (same-done k n f, leb-true _ _ e)
@@ -56,11 +61,14 @@ answered s w n = long (ltb 16777216 (length s)) refl
     long true e f = not-done _ n f
     long false e f = ill (ltb (wellTo 0 s) (length s)) refl (ltb-false _ _ e) f
 
+pub answered : (s : List ℕ) (w n : ℕ) → readAnswer s w ≡ Done n → Answered s w n
+answered s w n e = lexed s w n (sym (by-lex s w) ∙ e)
+
 -- and back
 pub answers : (s : List ℕ) (w n : ℕ) → Answered s w n → readAnswer s w ≡ Done n
 answers s w n a =
-    rw (le-ltb _ _ (a .short), le-ltb _ _ (a .well), a .stops, a .count, le-leb _ _ (a .room)) refl
+    by-lex s w ∙ rw (le-ltb _ _ (a .short), le-ltb _ _ (a .well), a .stops, a .count, le-leb _ _ (a .room)) refl
 
 -- the words left: the tokens' rows, and behind them what was there
 pub rows-left : (s m : List ℕ) (n : ℕ) → readAnswer s (length m) ≡ Done n → readRows s m ≡ flat (lex 0 0 true s .tokens) ++ drop (6 * n) m
-rows-left s m n e = ap (λ (x : Answer). kept x (lex 0 0 true s .tokens) m) e
+rows-left s m n e = ap (λ (x : Answer). kept x (source s .tokens) m) e ∙ ap (λ (o : Out). flat (o .tokens) ++ drop (6 * n) m) (source-is s)

@@ -1,10 +1,13 @@
 -- `refal_lexer::lex_all` meets its contract: the table's rule, computed at each entry.
 use mathlib.Core.List.{List, [], _∷_}
 use Prim.Native.Nat.{ℕ}
-use mathlib.Core.Path.{refl}
+use mathlib.Core.Path.{refl, ap, sym, _∙_}
 use Rattle.refal_rows.specs.Tests.{table-is}
 use Rattle.refal_lexer.specs.Classes.{classOf}
 use Rattle.refal_lexer.specs.ClassLaws.{Table}
+use Rattle.refal_lexer.specs.Lex.{Out, stopAnswer}
+use Rattle.refal_lexer.specs.Puts.{putTokens}
+use Rattle.refal_lexer.specs.StarLaws.{source-is}
 use borrow.Author.Needs.{needs}
 use Rattle.refal_lexer.proofs.lex_all.Statement.{statement}
 use Rattle.refal_lexer.proofs.lex_all.Tie as tie
@@ -40,7 +43,11 @@ same-length c = search needs
 
 -- src/lib.rt:114:1
 returns : tie.Need-returns
-returns c = search needs
+returns c =
+    let a = c .before .before .before .before .before .before .before .args in
+    let l = c .before .before .lex-by .ensures in
+    let e = sym (source-is (a .src .now)) in
+    (l .0 ∙ ap stopAnswer e, l .1 ∙ ap (λ (o : Out). putTokens (a .rows .now) 0 (o .tokens)) e)
 
 pub lex-all-spec : {M : Type 1} → statement M
 lex-all-spec = tie.close (tie.spec slice-aggregate-lex-by lex-by-requires same-length returns)
