@@ -1,6 +1,8 @@
 // Replays a sample of the fixed lists (docs/VECTORS.md). Standard input holds records of 64 bytes: a letter for the call, the
-// lengths of its input and of what is lent in two decimal digits each, the input, points up to 63 bytes, a newline. For each
-// the seven words of the answer are written, then all that was lent for output, which held a5 in each byte before the call.
+// lengths of its input and of what is lent in two decimal digits each, the input, points up to 63 bytes, a newline. Behind a
+// record of the letter t stand 256 bytes more, the tree to be written: the number of its words in two digits, the words of
+// four bytes each, the highest first, points up to 255 bytes, a newline. For each record the seven words of the answer are
+// written, then all that was lent for output, which held a5 in each byte before the call.
 use libc::STDOUT_FILENO;
 ghost use Prim.Native.Nat.{_≤_};
 
@@ -184,6 +186,44 @@ fn write(input: &[u8], out: &mut [u8]) {
     write_parsed(&tokens, n, input, out);
 }
 
+// A word of four bytes, the highest first.
+fn word(a: u8, b: u8, c: u8, d: u8) -> u32 {
+    let high = (a as u32) * 256 + b as u32;
+    let low = (c as u32) * 256 + d as u32;
+    high * 65536 + low
+}
+
+// The words that stand in a block behind its two digits, as many as both have.
+fn put_tree(block: &[u8], tree: &mut [u32]) {
+    let mut last = 5;
+    let mut i = 0;
+    while i < tree.len() {
+        if last >= block.len() {
+            return;
+        }
+        tree[i] = word(
+            block[last - 3],
+            block[last - 2],
+            block[last - 1],
+            block[last],
+        );
+        last += 4;
+        i += 1;
+    }
+}
+
+// Writes the tree that the next 256 bytes hold.
+fn write_tree(input: &[u8], out: &mut [u8]) {
+    let mut block = [0u8; 256];
+    if io::read_full(0, &mut block) < 256 {
+        return;
+    }
+    let n = two(block[0], block[1]);
+    let mut tree = [0u32; 63];
+    put_tree(&block, &mut tree);
+    write_first(&tree, n, input, out);
+}
+
 // The call that leaves bytes that the letter stands for, with as much of the space as is to be lent.
 fn call(letter: u8, input: &[u8], space: &mut [u8], lent: usize) {
     if lent > space.len() {
@@ -199,6 +239,10 @@ fn call(letter: u8, input: &[u8], space: &mut [u8], lent: usize) {
     }
     if letter == b'w' {
         write(input, &mut space[..lent]);
+        return;
+    }
+    if letter == b't' {
+        write_tree(input, &mut space[..lent]);
         return;
     }
     if letter == b'e' {

@@ -11,6 +11,9 @@ const RECORD: usize = 64;
 const AROUND: usize = 6;
 /// Two digits hold this much.
 const MOST_LENT: usize = 99;
+/// Bytes of the block that holds a tree, behind its record, and the most words that fit.
+const BLOCK: usize = 256;
+const MOST_WORDS: usize = 63;
 
 /// Standard input and standard output of the program.
 pub fn sample() -> (Vec<u8>, String) {
@@ -32,7 +35,46 @@ pub fn sample() -> (Vec<u8>, String) {
     }
     put(parsed());
     put(written());
+    for number in [0, 40, 41, 42] {
+        put(trees_answered(number));
+    }
     (input, output)
+}
+
+/// The trees of the list of writing that are small enough and get this refusal; 0 for none.
+fn trees_answered(number: u64) -> Vec<(Vec<u8>, String)> {
+    let mut lines = Vec::new();
+    for case in writing::cases() {
+        let Case::Write { tree, src, lent } = &case else {
+            continue;
+        };
+        if let (Some(record), Some(block)) = (line(b't', src, *lent), block(tree))
+            && refused(&case) == number
+        {
+            lines.push(([record, block].concat(), expected(&case)));
+        }
+    }
+    lines
+}
+
+/// The number of the case's refusal; 0 for none.
+fn refused(case: &Case) -> u64 {
+    match run(case, &Reference) {
+        Outcome::Bytes(answer, _) | Outcome::Words(answer, _) => answer[0],
+        Outcome::Truth(_) => 0,
+    }
+}
+
+/// A tree's words as they stand behind its record, if it is small enough.
+fn block(tree: &[u32]) -> Option<Vec<u8>> {
+    if tree.len() > MOST_WORDS {
+        return None;
+    }
+    let mut block = format!("{:02}", tree.len()).into_bytes();
+    block.extend(tree.iter().flat_map(|word| word.to_be_bytes()));
+    block.resize(BLOCK - 1, b'.');
+    block.push(b'\n');
+    Some(block)
 }
 
 /// Sources that are read, parsed and then written.
