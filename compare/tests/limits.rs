@@ -1,9 +1,10 @@
-//! The largest inputs of parsing and writing, and one more. They take some gigabytes, so they run
-//! only when asked: cargo test --release -p compare --test limits -- --ignored --test-threads 1
+//! The largest inputs of parsing and writing, and one more. Those that take some gigabytes run only
+//! when asked: cargo test --release -p compare --test limits -- --ignored --test-threads 1
 
 use compare::Library;
 use oracle::cases::Functions;
-use oracle::terms::{MAX_NODES, MAX_TEXT, MAX_TOKENS, node, token};
+use oracle::reference;
+use oracle::terms::{MAX_NODES, MAX_SOURCE, MAX_TEXT, MAX_TOKENS, node, token};
 
 /// Semicolons and Eof, as many rows as asked.
 fn semicolons(rows: usize) -> Vec<u32> {
@@ -77,4 +78,31 @@ fn text_length() {
     let more = Library.write(&functions(count, last + 1), src, &mut out);
     assert_eq!(more, [42, 0, 0, 0, 0, 0, MAX_TEXT as u64 + 1]);
     assert!(out.iter().all(|&byte| byte == 0));
+}
+
+/// A function `F` whose one result is the number that stands behind `F` in the source.
+fn number(digits: usize) -> (Vec<u32>, Vec<u8>) {
+    let mut src = vec![b'0'; digits + 1];
+    src[0] = b'F';
+    let rows = [
+        [node::FUNCTION, 0, 0, 1, 0, 0, 5],
+        [node::SENTENCE, 0, 0, 0, 0, 0, 5],
+        [node::TERMS, 0, 0, 0, 0, 0, 3],
+        [node::TERMS, 0, 0, 0, 0, 0, 5],
+        [node::NUMBER, 0, 1, digits as u32, 0, 0, 5],
+    ];
+    (rows.concat(), src)
+}
+
+/// Reading gives no number that is longer than a source may be, so 41 comes before 42.
+#[test]
+fn number_length() {
+    for (digits, refusal, need) in [(MAX_SOURCE, 42, MAX_SOURCE as u64 + 11), (MAX_SOURCE + 1, 41, 0)] {
+        let (tree, src) = number(digits);
+        let answer = [refusal, 0, 0, 0, 0, 0, need];
+        let mut out = [7; 3];
+        assert_eq!((Library.write(&tree, &src, &mut out), out), (answer, [0; 3]));
+        let mut out = [7; 3];
+        assert_eq!((reference::write::write(&tree, &src, &mut out), out), (answer, [0; 3]));
+    }
 }

@@ -2,11 +2,10 @@
 use Prim.Native.Nat.{ℕ, zero, suc, _+_, _-_, _*_, _<_, _≤_}
 use native.Mathlib.Omega.{arith}
 use borrow.Author.Tests.{le-leb, leb-true}
-use mathlib.Core.Bool.{true, false, _&&_}
+use mathlib.Core.Bool.{true, false}
 use mathlib.Core.List.{List, [], _∷_, _++_, append-nil}
 use mathlib.Core.Logic.{_↔_}
 use mathlib.Core.Path.{_≡_, refl, ap, sym, subst, _∙_}
-use lib.Dec.{leb}
 use lib.ListN.{length, take, drop, length-take, length-drop}
 use lib.Seq.{take-length, drop-length, drop-append-add}
 use Rattle.refal_rows.specs.Tests.{and-left, and-right}
@@ -22,7 +21,7 @@ use Rattle.refal_lexer.specs.Read.{readAnswer, readRows}
 use Rattle.refal_lexer.specs.Scans.{scan}
 use Rattle.refal_lexer.specs.declared.Scan.{Scan}
 use Rattle.refal_lexer.specs.declared.Scan.the-variants as S
-use Rattle.refal_spelling.specs.Spell.{Spelled, spelled, dotted, textAt, spelling}
+use Rattle.refal_spelling.specs.Spell.{spelled, dotted, textAt, spelling}
 use Rattle.refal_spelling.specs.Spells.{spells, spellsIndex}
 use Rattle.refal_spelling.specs.Spellings.{numberOk}
 use Rattle.refal_spelling.specs.Good.{Good, identifier, variableOf, number, mark}

@@ -1,7 +1,7 @@
 -- The test for refusal 41: a text outside the source or not a spelling that reading gives for its kind (2, 3, 9 and 14: an Identifier; 10: a
 -- Number; 12: an index), or a Char that is newline or no scalar value (document 01).
 use Prim.Native.Nat.{ℕ, _+_}
-use mathlib.Core.Bool.{Bool, true, false, not, _&&_}
+use mathlib.Core.Bool.{Bool, true, not, _&&_}
 use mathlib.Core.List.{List, [], _∷_}
 use lib.Dec.{eqb, leb}
 use lib.ListN.{length}

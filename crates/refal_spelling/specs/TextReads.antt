@@ -11,6 +11,7 @@ use lib.Dec.{T, ltb, eqb, eqb→eq}
 use lib.ListN.{length, length-append}
 use lib.Seq.{drop-append-seam}
 use Rattle.refal_rows.specs.Tests.{each-below}
+use Rattle.refal_ast.specs.Kinds.{tokEntry, tokExtern, tokIdentifier, tokVariable, tokNumber, tokChar}
 use Rattle.refal_ast.specs.Tokens.{Token, token}
 use Rattle.refal_lexer.specs.Classes.{classOf}
 use Rattle.refal_lexer.specs.Literals.{charTokens}
@@ -93,12 +94,12 @@ mark-scan at line k r lo hi = ap (λ (c : ℕ). scanClass c at line (markByte k)
 pub reads-one : (t : Spelled) → Good t → (at : ℕ) (line : Bool) (r : List ℕ)
     → lex 0 at line (spelling t ++ (32 ∷ r)) ≡ more (tokenAt at t) (lex 0 (at + length (spelling t) + 1) false r)
 unfolding spelling tokenAt
-reads-one t entry at line r = lex-token at line 1 0 0 0 entryWord r (ap (S.Token 1 0 0 0) (omega arith)) (omega arith)
-reads-one t extern at line r = lex-token at line 2 0 0 0 externWord r (ap (S.Token 2 0 0 0) (omega arith)) (omega arith)
-reads-one t (identifier b s u a h) at line r = lex-token at line 3 0 at (suc (length s)) (b ∷ s) r (scan-identifier at line b s (32 ∷ r) u a h (at-space r)) (omega arith)
-reads-one t (variableOf v w u a lo hi) at line r = lex-token at line 4 v (at + 2) (length w) (dotted v w) r (scan-index at line v w (32 ∷ r) u a lo hi (at-space r)) (omega arith)
-reads-one t (number w h) at line r = lex-token at line 5 0 at (length w) w r (scan-number w h at line (32 ∷ r) (at-space r)) (number-some w h)
-reads-one t (character x sc n) at line r = let c = scan-char x sc n at line r in lex-literal at line (token 6 x 0 0 at (at + suc (length (body x ++ (39 ∷ []))))) (body x ++ (39 ∷ [])) r (c .0) (c .1)
+reads-one t entry at line r = lex-token at line tokEntry 0 0 0 entryWord r (ap (S.Token tokEntry 0 0 0) (omega arith)) (omega arith)
+reads-one t extern at line r = lex-token at line tokExtern 0 0 0 externWord r (ap (S.Token tokExtern 0 0 0) (omega arith)) (omega arith)
+reads-one t (identifier b s u a h) at line r = lex-token at line tokIdentifier 0 at (suc (length s)) (b ∷ s) r (scan-identifier at line b s (32 ∷ r) u a h (at-space r)) (omega arith)
+reads-one t (variableOf v w u a lo hi) at line r = lex-token at line tokVariable v (at + 2) (length w) (dotted v w) r (scan-index at line v w (32 ∷ r) u a lo hi (at-space r)) (omega arith)
+reads-one t (number w h) at line r = lex-token at line tokNumber 0 at (length w) w r (scan-number w h at line (32 ∷ r) (at-space r)) (number-some w h)
+reads-one t (character x sc n) at line r = let c = scan-char x sc n at line r in lex-literal at line (token tokChar x 0 0 at (at + suc (length (body x ++ (39 ∷ []))))) (body x ++ (39 ∷ [])) r (c .0) (c .1)
 reads-one t (mark k lo hi) at line r =
     subst (λ (l : List ℕ). lex 0 at line (l ++ (32 ∷ r)) ≡ more (tokenAt at (spelled k 0 [])) (lex 0 (at + length l + 1) false r)) (sym (mark-spelling k lo))
     (lex-token at line k 0 0 0 (markByte k ∷ []) r (mark-scan at line k (32 ∷ r) lo hi) (omega arith) ∙ ap (λ (x : Token). more x (lex 0 (at + 1 + 1) false r)) (sym (mark-token at k lo)))

@@ -2,11 +2,11 @@
 use Prim.Native.Nat.{ℕ, zero, suc, _+_, _-_, _<_, _≤_}
 use native.Mathlib.Omega.{arith}
 use native.Mathlib.Nat.{zero-add}
-use borrow.Author.Tests.{lt-ltb, eq-eqb, ne-eqb, eqb-true, eqb-false}
+use borrow.Author.Tests.{lt-ltb, ne-eqb, eqb-true, eqb-false}
 use mathlib.Core.Bool.{Bool, true, false, _&&_, _||_, and-false, true≢false}
 use mathlib.Core.List.{List, [], _∷_, _++_, append-nil}
 use mathlib.Core.Path.{_≡_, refl, ap, sym, subst, _∙_}
-use lib.Dec.{leb, ltb, eqb, eqb→eq}
+use lib.Dec.{leb, eqb, eqb→eq}
 use lib.ListN.{length, take, drop, getD}
 use lib.Seq.{take-all}
 use Rattle.refal_rows.specs.Tests.{each-below}
@@ -17,9 +17,8 @@ use Rattle.refal_lexer.specs.Classes.{nameByte, digit, upper, classOf}
 use Rattle.refal_lexer.specs.BlankLaws.{nonzero-in}
 use Rattle.refal_lexer.specs.Numbers.{wholeScan, numberScan}
 use Rattle.refal_lexer.specs.Scans.{scan}
-use Rattle.refal_lexer.specs.declared.Scan.{Scan}
 use Rattle.refal_spelling.specs.Spell.{spelled}
-use Rattle.refal_spelling.specs.Spells.{tokenTo, spells, spellsIndex, isIndex}
+use Rattle.refal_spelling.specs.Spells.{tokenTo, spells, spellsIndex}
 use Rattle.refal_spelling.specs.SpellsLaws.{spells-identifier, identifier-spells, spells-number, spells-index}
 use Rattle.refal_spelling.specs.Good.{Every, Sign, unsigned, plus, minus, Number, macrodigit, real, Good, identifier, number, mark}
 use Rattle.refal_spelling.specs.Runs.{every-span, span-every}

@@ -4,6 +4,7 @@ ghost use mathlib.Core.Bool.{true};
 ghost use Prim.Native.Nat.{_+_, _≤_, _<_};
 ghost use lib.ListN.{length, drop, getD};
 ghost use Rattle.refal_text.specs.Span.{span};
+ghost use Rattle.refal_ast.specs.Kinds.{tokIdentifier, tokNumber};
 ghost use Rattle.refal_lexer.specs.Classes.{nameByte, digit, upper};
 ghost use Rattle.refal_lexer.specs.Numbers.{part, numberScan};
 ghost use Rattle.refal_lexer.specs.NumberLaws.{worth, digitStep};
@@ -45,7 +46,7 @@ fn name_end(word: &[u8], at: usize) -> usize
 
 // An Identifier: A to Z, then bytes of names, 15 in all at most.
 pub fn is_identifier(word: &[u8]) -> bool
-    ensures { λ r. ⌜ r ≡ spells 3 (now (word .entry)) ⌝ }
+    ensures { λ r. ⌜ r ≡ spells tokIdentifier (now (word .entry)) ⌝ }
 {
     let n = word.len();
     if n == 0 {
@@ -127,7 +128,7 @@ fn part_end(word: &[u8], at: usize, mark: u8) -> usize
 // A number whose digits start at `from`: behind a sign where that is 1.
 fn is_number_from(word: &[u8], from: usize) -> bool
     requires { ⌜ from < length (now word) ⌝ }
-    ensures { λ r. ⌜ r ≡ tokenTo 5 (length (now (word .entry))) (numberScan 0 from (drop from (now (word .entry)))) ⌝ }
+    ensures { λ r. ⌜ r ≡ tokenTo tokNumber (length (now (word .entry))) (numberScan 0 from (drop from (now (word .entry)))) ⌝ }
 {
     let d = whole_end(word, from);
     let a = d.end;
@@ -149,7 +150,7 @@ fn is_number_from(word: &[u8], from: usize) -> bool
 
 // A Number: digits, or a sign before a digit, then a point's part and an E's part.
 pub fn is_number(word: &[u8]) -> bool
-    ensures { λ r. ⌜ r ≡ spells 5 (now (word .entry)) ⌝ }
+    ensures { λ r. ⌜ r ≡ spells tokNumber (now (word .entry)) ⌝ }
 {
     let b = refal_text::byte(word, 0);
     if is_digit(b) {

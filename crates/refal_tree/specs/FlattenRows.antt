@@ -12,7 +12,6 @@ use Rattle.refal_ast.specs.Kinds.{nodeDeclaration, nodeName, nodeFunction, node
 use Rattle.refal_ast.specs.Kinds.{nodeIdentifier, nodeNumber, nodeChar, nodeVariable, nodeBracket, nodeCall}
 use Rattle.refal_ast.specs.Tree.{Leaf, symbol, variable, Term, leaf, bracket, call, Terms, t0, tMore, Right, rTerms, rBlock, Condition, condition, Conditions, c0, cMore}
 use Rattle.refal_ast.specs.Tree.{End, eTerms, eBlock, Sentence, sentence, Sentences, s0, sMore, Names, nOne, nMore, Item, declaration, function, Program, p0, pMore}
-use Rattle.refal_ast.specs.Encode.{entryWord}
 use Rattle.refal_ast.specs.Flatten.{Flat, flatToken, mark, nameOf, flatLeaf, flattenTerm, flattenT, flattenRight, flattenCondition, flattenC, flattenEnd, flattenSentence, flattenS, flattenN}
 use Rattle.refal_ast.specs.Flatten.{flatEntry, flattenItem, flattenP}
 use Rattle.refal_ast.specs.declared.tree.Symbol.the-variants.{Char, Identifier, Number}

@@ -7,16 +7,16 @@ use lib.Dec.{eqb, leb}
 use borrow.Author.Tests.{leb-true}
 use Rattle.refal_rows.specs.Tests.{and-left, and-right}
 use Rattle.refal_ast.specs.Kinds.{nodeDeclaration, nodeFunction, nodeSentence, nodeCondition, nodeTerms, nodeEndingBlock, nodeConditionBlock, nodeBracket, nodeCall}
-use Rattle.refal_ast.specs.Tree.{Leaf, symbol, variable, Term, leaf, bracket, call, Terms, t0, tMore, Right, rTerms, rBlock, Condition, condition, Conditions, c0, cMore}
-use Rattle.refal_ast.specs.Tree.{End, eTerms, eBlock, Sentence, sentence, Sentences, s0, sMore, Names, nOne, nMore, Item, declaration, function, Program, p0, pMore}
-use Rattle.refal_ast.specs.Tree.{depthTerm, depthT, depthRight, depthCondition, depthC, depthEnd, depthSentence, depthS, depthItem, depthP}
+use Rattle.refal_ast.specs.Tree.{Leaf, symbol, variable, Term, leaf, bracket, call, Terms, t0, tMore, Conditions, c0, cMore}
+use Rattle.refal_ast.specs.Tree.{Sentences, s0, sMore, Names, nOne, nMore, declaration, function, Program, p0, pMore}
+use Rattle.refal_ast.specs.Tree.{depthT, depthRight, depthCondition, depthC, depthEnd, depthSentence, depthS, depthP}
 use Rattle.refal_ast.specs.Encode.{entryWord}
 use Rattle.refal_ast.specs.declared.tree.Symbol.the-variants.{Char, Identifier, Number}
 use Rattle.refal_tree.specs.Forest.{Row, row, Forest, empty, tree}
-use Rattle.refal_tree.specs.States.{atItems, atName, atNames, atSentences, atPattern, atConditions, atCondition, atColon, atTerms, atArgument, atEnding, closed, inside, after, below, lower}
+use Rattle.refal_tree.specs.States.{atItems, atName, atNames, atSentences, atPattern, atConditions, atCondition, atColon, atTerms, atArgument, closed, inside, after, below, lower}
 use Rattle.refal_tree.specs.Rules.{rowOk, okG}
-use Rattle.refal_tree.specs.Typed.{leafR, plain, forTerm, forT, forTerms, forRight, forCondition, forC, forEnd, forSentence, forS, nameR, forN, forItem, forP, toForest}
-use Rattle.refal_tree.specs.Typed.{termOf, getT, getS, getSentence, getTail, getBlock, getCondition, getRight, getNs, getN, itemOf, getP, programOf}
+use Rattle.refal_tree.specs.Typed.{leafR, plain, forT, forTerms, forRight, forCondition, forC, forEnd, forSentence, forS, nameR, forN, forP, toForest}
+use Rattle.refal_tree.specs.Typed.{getT, getS, getSentence, getTail, getBlock, getCondition, getRight, getNs, getN, getP, programOf}
 use Rattle.refal_tree.specs.TypedRules.{ending-is, leaf-back, entry-back}
 use Rattle.refal_tree.specs.Views.{never, TermRow, isLeaf, isBracket, isCall, ItemRow, isDeclaration, isFunction, NameRow, isName, PlainRow, isPlain, TermsRow}
 use Rattle.refal_tree.specs.Views.{isTerms, TailRow, isCondition, isResult, isEnding, RightRow, isRight, isBlock, Kept, kept, item-row, name-row, names-row}

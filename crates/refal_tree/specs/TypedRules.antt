@@ -17,7 +17,7 @@ use Rattle.refal_tree.specs.Forest.{Row, row, Forest, empty, tree}
 use Rattle.refal_tree.specs.States.{atItems, atName, atNames, atSentences, atPattern, atConditions, atCondition, atColon, atTerms, atArgument, atEnding, inside, after, below, lower}
 use Rattle.refal_tree.specs.Rules.{rowOk, okG}
 use Rattle.refal_tree.specs.Typed.{leafR, plain, forTerm, forT, forTerms, forRight, forCondition, forC, forEnd, forSentence, forS, nameR, forN, forItem, forP, toForest, termOf, getT, getS}
-use Rattle.refal_tree.specs.Typed.{getSentence, getTail, getBlock, getCondition, getRight, getNs, getN, itemOf, getP, programOf}
+use Rattle.refal_tree.specs.Typed.{getTail, getRight, getNs, getN, getP, programOf}
 
 -- a row that keeps the rules, over children that do
 pub ok-tree : (st left : ℕ) (r : Row) (f g : Forest) → rowOk st left r ≡ true → okG (inside (r .kind)) (below st (r .kind) left) f ≡ true

@@ -11,7 +11,7 @@ use Rattle.refal_rows.specs.Tests.{and-left, and-right}
 use Rattle.refal_ast.specs.Nodes.{nodeWidth}
 use Rattle.refal_ast.specs.Tree.{Program}
 use Rattle.refal_ast.specs.Flatten.{Flat, flattenP}
-use Rattle.refal_tree.specs.Forest.{Row, Forest, tree, forestOf}
+use Rattle.refal_tree.specs.Forest.{Row, Forest, forestOf}
 use Rattle.refal_tree.specs.ForestLaws.{forest-enc}
 use Rattle.refal_tree.specs.States.{atItems, inside, after, below}
 use Rattle.refal_tree.specs.Rules.{rowOk}

@@ -1,6 +1,5 @@
 -- Definitions: Write (what `write` answers and leaves), Words (what a row puts before and after its children).
--- Laws of writers of bytes: Puts. Of tokens: Token, TextPuts. Of the walk over rows: Kinds, Walk. Of `write`: WriteLaws.
-pub mod Kinds
+-- Laws of writers of bytes: Puts. Of tokens: Token, TextPuts. Of the walk over rows: Walk. Of `write`: WriteLaws.
 pub mod Write
 pub mod Puts
 pub mod Token

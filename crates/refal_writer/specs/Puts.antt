@@ -1,14 +1,12 @@
 -- What writers of bytes leave in a slice: `Puts`, bytes at its front where they fit; `Pours`, a text put part by part, each part into
 -- the rest of the slice lent from its middle.
-use Prim.Native.Nat.{ℕ, zero, suc, _+_, _-_, _<_, _≤_, min}
+use Prim.Native.Nat.{ℕ, _+_, _-_, _≤_, min}
 use native.Mathlib.Omega.{arith}
-use native.Mathlib.Numerals.{add-one}
-use native.Mathlib.Decide.{decLe}
 use native.Mathlib.Nat.{zero-add, le-of-eq}
 use mathlib.Core.List.{List, [], _∷_, _++_, append-nil, append-assoc}
 use mathlib.Core.Path.{_≡_, refl, ap, _∙_, sym, subst}
-use lib.ListN.{length, take, drop, getD, set, length-drop, length-append, drop-of-length-le}
-use lib.Seq.{getD-drop, drop-cons, drop-drop, set-at, take-at, drop-at, take-add, append-snoc, take-all, take-length, drop-length, length-take-le}
+use lib.ListN.{length, take, drop, set, length-drop, length-append, drop-of-length-le}
+use lib.Seq.{drop-drop, take-at, drop-at, take-add, take-all, length-take-le}
 use borrow.Rule.Slice.PartMut.{putMid}
 
 -- ---- bytes put at the front of a slice: r is their count, and where they fit the slice begins with them and is otherwise as it was

@@ -2,8 +2,8 @@
 use Prim.Native.Nat.{ℕ, _≤_}
 use mathlib.Core.List.{List, [], _∷_, _++_, append-assoc, append-nil}
 use mathlib.Core.Path.{_≡_, refl, sym, ap, _∙_}
-use lib.Dec.{eqb}
 use borrow.Author.Tests.{ne-eqb}
+use Rattle.refal_ast.specs.Kinds.{tokEntry, tokExtern, tokIdentifier, tokVariable, tokNumber, tokChar, tokSemicolon}
 use Rattle.refal_ast.specs.Flatten.{Flat}
 use Rattle.refal_spelling.specs.Spell.{Spelled, spelled, view, views, spelling, text, entryWord, externWord, body, quoted, dotted, markByte}
 
@@ -17,11 +17,11 @@ tokenText t = text (t ∷ [])
 
 -- a token that is its kind alone: Entry, Extern, or one byte
 pub record Mark (kind : ℕ) : Type 0 where
-  pub few : kind ≤ 16
-  pub no-name : kind ≡ 3 → ⊥
-  pub no-variable : kind ≡ 4 → ⊥
-  pub no-number : kind ≡ 5 → ⊥
-  pub no-char : kind ≡ 6 → ⊥
+  pub few : kind ≤ tokSemicolon
+  pub no-name : kind ≡ tokIdentifier → ⊥
+  pub no-variable : kind ≡ tokVariable → ⊥
+  pub no-number : kind ≡ tokNumber → ⊥
+  pub no-char : kind ≡ tokChar → ⊥
 
 -- ---- two lists of tokens
 pub text-append : (ts us : List Spelled) → text (ts ++ us) ≡ text ts ++ text us
@@ -46,30 +46,30 @@ alone : (l : List ℕ) → l ++ 32 ∷ [] ≡ (l ++ 32 ∷ []) ++ []
 alone l = sym (append-nil (l ++ 32 ∷ []))
 
 module _ (k d : ℕ) (w : List ℕ) where
-  pub entry-text : k ≡ 1 → entryWord ++ 32 ∷ [] ≡ tokenText (spelled k d w)
+  pub entry-text : k ≡ tokEntry → entryWord ++ 32 ∷ [] ≡ tokenText (spelled k d w)
   unfolding spelling text
   entry-text e = rw e refl
 
-  pub extern-text : k ≡ 2 → externWord ++ 32 ∷ [] ≡ tokenText (spelled k d w)
+  pub extern-text : k ≡ tokExtern → externWord ++ 32 ∷ [] ≡ tokenText (spelled k d w)
   unfolding spelling text
   extern-text e = rw e refl
 
-  pub name-text : k ≡ 3 → w ++ 32 ∷ [] ≡ tokenText (spelled k d w)
+  pub name-text : k ≡ tokIdentifier → w ++ 32 ∷ [] ≡ tokenText (spelled k d w)
   unfolding spelling text
   name-text e = rw e (alone w)
 
-  pub variable-text : k ≡ 4 → dotted d w ++ 32 ∷ [] ≡ tokenText (spelled k d w)
+  pub variable-text : k ≡ tokVariable → dotted d w ++ 32 ∷ [] ≡ tokenText (spelled k d w)
   unfolding spelling text
   variable-text e = rw e (alone (dotted d w))
 
-  pub number-text : k ≡ 5 → w ++ 32 ∷ [] ≡ tokenText (spelled k d w)
+  pub number-text : k ≡ tokNumber → w ++ 32 ∷ [] ≡ tokenText (spelled k d w)
   unfolding spelling text
   number-text e = rw e (alone w)
 
-  pub char-text : k ≡ 6 → quoted d ++ 32 ∷ [] ≡ tokenText (spelled k d w)
+  pub char-text : k ≡ tokChar → quoted d ++ 32 ∷ [] ≡ tokenText (spelled k d w)
   unfolding spelling text
   char-text e = rw e (alone (quoted d))
 
-  pub mark-text : Mark k → (k ≡ 1 → ⊥) → (k ≡ 2 → ⊥) → markByte k ∷ 32 ∷ [] ≡ tokenText (spelled k d w)
+  pub mark-text : Mark k → (k ≡ tokEntry → ⊥) → (k ≡ tokExtern → ⊥) → markByte k ∷ 32 ∷ [] ≡ tokenText (spelled k d w)
   unfolding spelling text
-  mark-text m a b = sym (rw (ne-eqb k 1 a, ne-eqb k 2 b, ne-eqb k 3 (m .no-name), ne-eqb k 5 (m .no-number), ne-eqb k 4 (m .no-variable), ne-eqb k 6 (m .no-char)) refl)
+  mark-text m a b = sym (rw (ne-eqb k tokEntry a, ne-eqb k tokExtern b, ne-eqb k tokIdentifier (m .no-name), ne-eqb k tokNumber (m .no-number), ne-eqb k tokVariable (m .no-variable), ne-eqb k tokChar (m .no-char)) refl)

@@ -1,10 +1,9 @@
 -- Writing by a walk over rows: what is known of the rows that it writes, and a turn of the walk at row i.
-use Prim.Native.Nat.{ℕ, zero, suc, _+_, _*_, _-_, _≤_, _<_}
-use mathlib.Core.Bool.{Bool, true, false, not, _&&_, _||_, true≢false}
-use mathlib.Core.List.{List, [], _∷_, _++_}
-use mathlib.Core.Path.{_≡_, refl, sym, ap, subst, _∙_}
+use Prim.Native.Nat.{ℕ, _+_, _*_, _-_, _≤_, _<_}
+use mathlib.Core.Bool.{Bool, true, false, _&&_, _||_, true≢false}
+use mathlib.Core.List.{List, [], _++_}
+use mathlib.Core.Path.{_≡_, refl, sym, ap, _∙_}
 use native.Mathlib.Omega.{arith}
-use native.Mathlib.Decide.{decLe}
 use lib.Dec.{eqb}
 use lib.ListN.{length}
 use borrow.Author.Tests.{eqb-true}
@@ -14,9 +13,8 @@ use Rattle.refal_ast.specs.Limits.{mostRows}
 use Rattle.refal_ast.specs.Nodes.{nodeWidth, colDetail, wordAt}
 use Rattle.refal_ast.specs.Flatten.{Flat}
 use Rattle.refal_tree.specs.Forest.{Row}
-use Rattle.refal_tree.specs.States.{wrong, pick, inside, after, below, fits, room}
+use Rattle.refal_tree.specs.States.{inside, after, below, fits, room}
 use Rattle.refal_tree.specs.Rules.{letter, fieldsOk, rowOk}
-use Rattle.refal_writer.specs.Kinds.{after-high-kind}
 use Rattle.refal_tree.specs.Ranges.{rowAt, kindAt, nextAt, okAt}
 use Rattle.refal_tree.specs.FlattenRows.{opening, closing}
 use Rattle.refal_tree.specs.Walk.{flatAt, Step, step, flat-step, flat-end}
@@ -24,46 +22,12 @@ use Rattle.refal_spelling.specs.Spell.{text}
 use Rattle.refal_writer.specs.Token.{textOf, text-of-append}
 use Rattle.refal_writer.specs.Words.{closeWords, close-text}
 
--- what is known of a row that keeps the rules: its kind is one, and a variable's letter is a byte
-pub record Standing (kind detail : ℕ) : Type 0 where
-  pub low : 1 ≤ kind
-  pub high : kind ≤ 14
-  pub letter : kind ≡ nodeVariable → detail < 256
-
 -- rows i to j keep the rules, from the state st on
 pub record Walks (w : List ℕ) (i j st : ℕ) : Type 0 where
   pub left : ℕ
   pub ok : okAt w i j st left ≡ true
 
-never : {A : Type 0} {b : Bool} → b ≡ true → b ≡ false → A
-never h e = absurd (true≢false (sym h ∙ e))
-
 -- ---- a row that keeps the rules
-pick-same : (b : Bool) (x : ℕ) → pick b x x ≡ x
-pick-same true x = refl
-pick-same false x = refl
-
-after-none : (st : ℕ) → after st 0 ≡ wrong
-after-none st = simp pick-same
-
-after-fifteen : (st : ℕ) → after st 15 ≡ wrong
-after-fifteen st = simp pick-same
-
-unfit : {A : Type 0} (st k : ℕ) → fits st k ≡ true → after st k ≡ wrong → A
-unfit st k h e = never h (ap (λ (x : ℕ). not (eqb x wrong)) e)
-
-kind-low : (st k : ℕ) → fits st k ≡ true → 1 ≤ k
-kind-low st zero h = unfit st 0 h (after-none st)
-kind-low st (suc k) h = omega arith
-
-kind-high : (st k : ℕ) → fits st k ≡ true → k ≤ 14
-kind-high st k h = go (decLe k 14) (decLe k 15)
-  where
-    go : Dec (k ≤ 14) → Dec (k ≤ 15) → k ≤ 14
-    go (yes l) d = l
-    go (no n) (yes l) = let e : k ≡ 15 = omega arith in unfit st k h (ap (after st) e ∙ after-fifteen st)
-    go (no n) (no m) = unfit st k h (after-high-kind st k (omega arith))
-
 letter-small : (d : ℕ) → letter d ≡ true → d < 256
 letter-small d h = go (eqb d 115) (eqb d 116) (eqb d 101) refl refl refl h
   where
@@ -73,23 +37,18 @@ letter-small d h = go (eqb d 115) (eqb d 116) (eqb d 101) refl refl refl h
     go false false true e f g h = let i = eqb-true d 101 g in omega arith
     go false false false e f g h = absurd (true≢false (sym h))
 
-standing : (st left : ℕ) (r : Row) → rowOk st left r ≡ true → Standing (r .kind) (r .detail)
-standing st left r h =
-    let f : Bool = fits st (r .kind) in
-    let d : Bool = room (r .kind) left in
+-- a variable's letter is a byte
+lettered : (st left : ℕ) (r : Row) → rowOk st left r ≡ true → r .kind ≡ nodeVariable → r .detail < 256
+lettered st left r h e =
+    let f : Bool = fits st (r .kind) && room (r .kind) left in
     let g : Bool = fieldsOk (r .kind) (r .detail) (r .start) (r .len) (r .from) (r .to) in
-    let fit = and-left f d (and-left (f && d) g h) in
-    record {
-      low = kind-low st (r .kind) fit;
-      high = kind-high st (r .kind) fit;
-      letter = λ e. letter-small (r .detail) (and-left _ true (ap (λ (k : ℕ). fieldsOk k (r .detail) (r .start) (r .len) (r .from) (r .to)) (sym e) ∙ and-right (f && d) g h));
-    }
+    letter-small (r .detail) (and-left _ true (ap (λ (k : ℕ). fieldsOk k (r .detail) (r .start) (r .len) (r .from) (r .to)) (sym e) ∙ and-right f g h))
 
 -- ---- a turn of the walk at row i, of the kind k and with the next row x, among the rows to j
 pub record Turn (w : List ℕ) (i j st k x : ℕ) : Type 0 where
   pub low : i < x
   pub high : x ≤ j
-  pub row : Standing (kindAt w i) (wordAt w i colDetail)
+  pub letter : kindAt w i ≡ nodeVariable → wordAt w i colDetail < 256
   -- s is the state of the children, and u the state of what follows
   pub kids : (s : ℕ) → s ≡ inside k → Walks w (i + 1) x s
   pub rest : (u : ℕ) → u ≡ after st k → Walks w x j u
@@ -103,7 +62,7 @@ turn w i j st k x kind next long more W =
     record {
       low = let l = here .lo in omega arith;
       high = let l = here .hi in omega arith;
-      row = standing st (W .left) (rowAt w i) (here .here);
+      letter = lettered st (W .left) (rowAt w i) (here .here);
       kids = λ s first. record { left = below st (kindAt w i) (W .left); ok = rw (first, kind, next) (here .kids) };
       rest = λ u then. record { left = W .left; ok = rw (then, kind, next) (here .rest) };
       parts = λ src s u first then.

@@ -2,7 +2,7 @@
 -- `lawful` is the test for 40 as a check of rows; that it holds exactly of the rows of a tree, of one tree only, is proved beside it (`lawful-is`,
 -- `tree-of` and `of-tree` of refal_tree), so the check itself need not be believed.
 use Prim.Native.Nat.{ℕ}
-use mathlib.Core.Bool.{Bool, true, false, not, _&&_}
+use mathlib.Core.Bool.{Bool, not, _&&_}
 use mathlib.Core.List.{List, [], _++_}
 use mathlib.Core.Option.{Option, none, some}
 use lib.Dec.{leb}

@@ -1,25 +1,25 @@
 -- Laws of `write`: what it answers and leaves at each of its ways out, and that the walk writes the tree's text.
-use Prim.Native.Nat.{ℕ, _+_, _*_, _/_, _%_, _<_, _≤_}
+use Prim.Native.Nat.{ℕ, _*_, _/_, _%_, _≤_}
 use native.Mathlib.Omega.{arith}
-use mathlib.Core.Bool.{Bool, true, false, not, _&&_, true≢false}
-use mathlib.Core.List.{List, [], _++_}
+use mathlib.Core.Bool.{Bool, true, false, _&&_, true≢false}
+use mathlib.Core.List.{List}
 use mathlib.Core.Option.{Option, none, some}
-use mathlib.Core.Path.{_≡_, refl, ap, sym, subst, _∙_}
+use mathlib.Core.Path.{_≡_, refl, ap, sym, _∙_}
 use lib.Dec.{eqb, leb}
-use lib.ListN.{length, drop, replicate}
+use lib.ListN.{length, replicate}
 use borrow.Author.Tests.{eqb-true, leb-true}
 use Rattle.refal_rows.specs.Tests.{and-left, and-right}
 use Rattle.refal_ast.specs.Tree.{Program}
 use Rattle.refal_ast.specs.Nodes.{nodeWidth}
 use Rattle.refal_ast.specs.declared.Answer.{Answer}
-use Rattle.refal_ast.specs.declared.Answer.the-variants.{Done, Refused}
+use Rattle.refal_ast.specs.declared.Answer.the-variants.{Done}
 use Rattle.refal_tree.specs.States.{atItems}
 use Rattle.refal_ast.specs.Limits.{mostBytes, mostRows, mostLevels}
 use Rattle.refal_tree.specs.Lawful.{treeOf, found, lawful}
 use Rattle.refal_tree.specs.Whole.{all-rows}
 use Rattle.refal_tree.specs.Walk.{flatAt, flat-tree-rows}
 use Rattle.refal_spelling.specs.Spellings.{allSpelled}
-use Rattle.refal_writer.specs.Write.{written, treeText, fits, refuse, writeAnswer, writeBytes, left}
+use Rattle.refal_writer.specs.Write.{written, treeText, refuse, writeAnswer, writeBytes, left}
 use Rattle.refal_writer.specs.Puts.{Puts}
 use Rattle.refal_writer.specs.Token.{textOf}
 use Rattle.refal_writer.specs.Walk.{Walks}

@@ -12,6 +12,7 @@ ghost use mathlib.Core.Path.{_≡_};
 ghost use mathlib.Core.List.{[], _∷_, _++_};
 ghost use Prim.Native.Nat.{_+_, _≤_, _<_};
 ghost use lib.ListN.{length};
+ghost use Rattle.refal_ast.specs.Kinds.{tokSemicolon};
 ghost use Rattle.refal_spelling.specs.Spell.{body, quoted, dotted, markByte};
 ghost use Rattle.refal_writer.specs.Puts.{Puts};
 ghost use Rattle.refal_writer.specs.Token.{tokenText, Mark};
@@ -39,7 +40,7 @@ const MARK: [u8; 17] = [
 ];
 
 fn mark_byte(kind: u32) -> u8
-    requires { ⌜ kind ≤ 16 ⌝ }
+    requires { ⌜ kind ≤ tokSemicolon ⌝ }
     ensures { λ r. ⌜ r ≡ markByte kind ⌝ }
 {
     MARK[kind as usize]

@@ -6,7 +6,7 @@ use refal_ast::nodes;
 use refal_rows::least;
 use refal_tree::states;
 ghost use mathlib.Core.Path.{_≡_};
-ghost use Prim.Native.Nat.{_+_, _*_, _≤_};
+ghost use Prim.Native.Nat.{_+_, _*_, _<_, _≤_};
 ghost use lib.ListN.{length};
 ghost use Rattle.refal_ast.specs.Nodes.{HasRow, nodeWidth, wordAt, colKind, colDetail};
 ghost use Rattle.refal_tree.specs.FlattenRows.{opening};
@@ -14,12 +14,13 @@ ghost use Rattle.refal_tree.specs.Ranges.{rowAt};
 ghost use Rattle.refal_tree.specs.Walk.{flatAt};
 ghost use Rattle.refal_writer.specs.Puts.{Puts};
 ghost use Rattle.refal_writer.specs.Token.{textOf};
-ghost use Rattle.refal_writer.specs.Walk.{Standing, Walks, widest};
+ghost use Rattle.refal_writer.specs.Walk.{Walks, widest};
+ghost use Rattle.refal_ast.specs.Kinds.{nodeVariable};
 ghost use Rattle.refal_ast.specs.Limits.{mostRows};
 
 // What stands before the children of row i.
 fn open_row(tree: &[u32], src: &[u8], i: usize, st: u32, out: &mut [u8]) -> usize
-    requires { ⌜ HasRow (now tree) i × Standing (wordAt (now tree) i colKind) (wordAt (now tree) i colDetail) ⌝ }
+    requires { ⌜ HasRow (now tree) i × (wordAt (now tree) i colKind ≡ nodeVariable → wordAt (now tree) i colDetail < 256) ⌝ }
     ensures { λ r. ⌜ Puts (textOf (now (src .entry)) (opening st (rowAt (now (tree .entry)) i))) r (now (out .entry)) (now (out .exit)) × (r ≤ 4294967312) ⌝ }
 {
     let kind = nodes::kind(tree, i);

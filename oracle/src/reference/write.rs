@@ -2,7 +2,7 @@
 
 use super::spelling::{is_identifier, is_index, is_number};
 use super::utf8::{encode, is_scalar};
-use crate::terms::{Answer, MAX_DEPTH, MAX_NODES, MAX_TEXT, NodeRow, Refusal, node, put_bytes};
+use crate::terms::{Answer, MAX_DEPTH, MAX_NODES, MAX_SOURCE, MAX_TEXT, NodeRow, Refusal, node, put_bytes};
 
 pub fn write(tree: &[u32], src: &[u8], out: &mut [u8]) -> Answer {
     let result = text(tree, src).and_then(|text| {
@@ -170,7 +170,10 @@ fn text_is_good(row: &NodeRow, src: &[u8]) -> bool {
         node::NAME | node::FUNCTION | node::IDENTIFIER | node::CALL => {
             text_of(row, src).is_some_and(is_identifier)
         }
-        node::NUMBER => text_of(row, src).is_some_and(is_number),
+        // a text that reading gives is at most as long as a source that is read
+        node::NUMBER => {
+            text_of(row, src).is_some_and(|text| text.len() <= MAX_SOURCE && is_number(text))
+        }
         node::VARIABLE => text_of(row, src).is_some_and(is_index),
         node::CHAR => row[1] != 10 && is_scalar(row[1]),
         _ => true,

@@ -71,7 +71,7 @@ write-rows-part-open-row-end t c = search needs
 write-rows-open-row-requires : (t : ℕ) → write-rows-lts.Need-open-row-requires (write-rows-claims t) (write-rows-at t) write-rows.Post write-rows-Inv-loop write-rows-μ-loop
 write-rows-open-row-requires t c κs = let a = c .before .before .before .before .before .before .before .before .before .args in let g = c .before .before .before .before .before .loop in
     let T = turn (a .tree .now) (g .i) (a .to) (g .st) (c .before .before .before .kind .result) (c .before .before .next .result) (c .before .before .before .kind .ensures) (c .before .before .next .ensures) (c .before .before .before .before .before .before .before .before .before .pre .1 .1) (c .before .before .before .before .loop-test .taken) (g .inv .4) in
-    (omega arith, T .row)
+    (omega arith, T .letter)
 
 write-rows-add-opened : (t : ℕ) → write-rows-lts.Need-add-opened (write-rows-claims t) (write-rows-at t) write-rows.Post write-rows-Inv-loop write-rows-μ-loop
 write-rows-add-opened t c = search needs

@@ -21,7 +21,7 @@ is-term-requires : tie.Need-is-term-requires
 is-term-requires c κs = search needs
 
 write-term-requires : tie.Need-write-term-requires
-write-term-requires c κs = (c .before .before .before .text .ensures .1, λ e. let h = c .before .before .before .before .before .before .before .before .before .pre .1 .letter (sym (c .before .before .before .before .before .kind .ensures) ∙ e) in let d = c .before .before .before .before .detail .ensures in omega arith)
+write-term-requires c κs = (c .before .before .before .text .ensures .1, λ e. let h = c .before .before .before .before .before .before .before .before .before .pre .1 (sym (c .before .before .before .before .before .kind .ensures) ∙ e) in let d = c .before .before .before .before .detail .ensures in omega arith)
 
 same-length : tie.Need-same-length
 same-length c = search needs
