@@ -20,7 +20,7 @@ use Rattle.refal_spelling.specs.Answered.{answered}
 use Rattle.refal_spelling.specs.Spell.{views, text}
 use Rattle.refal_spelling.specs.Spellings.{allSpelled}
 use Rattle.refal_ast.specs.Limits.{mostBytes}
-use Rattle.refal_writer.specs.Write.{treeText, written, fits, refuse, writeAnswer, left, writeBytes}
+use Rattle.refal_writer.specs.Write.{treeText, written, textFits, refuse, writeAnswer, left, writeBytes}
 use Rattle.refal_demands.specs.RoundTrip.{Accepted, treeRows, RowsSuffice, Again}
 use Rattle.refal_demands.specs.Demand3Whole.{Exactly, Gives, Only, Back, NeverRefused, Demand3Whole}
 use Rattle.refal_demands.proofs.Demand3 as first
@@ -29,7 +29,7 @@ use Rattle.refal_demands.proofs.SpelledRows.{rows-spelled}
 
 -- ---- what writing answers on a lawful tree that is spelled well: all depends on the length
 pub sized : ℕ → ℕ → Answer
-sized n room = pickAnswer (fits n room) (Done n) (refuse 42 n)
+sized n room = pickAnswer (textFits n room) (Done n) (refuse 42 n)
 
 answer-sized : (w s out : List ℕ) → lawful w ≡ true → allSpelled s w ≡ true → writeAnswer w s out ≡ sized (length (written w s)) (length out)
 unfolding writeAnswer sized
@@ -41,16 +41,16 @@ answer-sized w s out l a =
 -- success: as many bytes, and not too many
 sized-done : (n room k : ℕ) → sized n room ≡ Done k → (n ≡ k) × (n ≤ mostBytes)
 unfolding sized
-sized-done n room k = go (fits n room) refl
+sized-done n room k = go (textFits n room) refl
   where
-    go : (b : Bool) → fits n room ≡ b → pickAnswer b (Done n) (refuse 42 n) ≡ Done k → (n ≡ k) × (n ≤ mostBytes)
+    go : (b : Bool) → textFits n room ≡ b → pickAnswer b (Done n) (refuse 42 n) ≡ Done k → (n ≡ k) × (n ≤ mostBytes)
     go true f e = (cc, leb-true n mostBytes (and-right (leb n room) (leb n mostBytes) f))
     go false f e = let z : _≡_ {A = ℕ} 0 1 = cc in absurd (omega arith)
 
 -- refusal: 42
 sized-refused : (n room : ℕ) (r : Refusal) → sized n room ≡ Refused r → r .number ≡ 42
 unfolding sized
-sized-refused n room r = go (fits n room)
+sized-refused n room r = go (textFits n room)
   where
     go : (b : Bool) → pickAnswer b (Done n) (refuse 42 n) ≡ Refused r → r .number ≡ 42
     go true e = let z : _≡_ {A = ℕ} 0 1 = cc in absurd (omega arith)

@@ -32,12 +32,12 @@ views src (f ∷ fs) = view src f ∷ views src fs
 
 -- ---- the spellings
 -- $ENTRY
-abbrev pub entryWord : List ℕ
-entryWord = 36 ∷ 69 ∷ 78 ∷ 84 ∷ 82 ∷ 89 ∷ []
+abbrev pub entrySpelling : List ℕ
+entrySpelling = 36 ∷ 69 ∷ 78 ∷ 84 ∷ 82 ∷ 89 ∷ []
 
 -- $EXTRN
-abbrev pub externWord : List ℕ
-externWord = 36 ∷ 69 ∷ 88 ∷ 84 ∷ 82 ∷ 78 ∷ []
+abbrev pub externSpelling : List ℕ
+externSpelling = 36 ∷ 69 ∷ 88 ∷ 84 ∷ 82 ∷ 78 ∷ []
 
 -- a character within apostrophes: an apostrophe is doubled, any other is in UTF-8
 unfoldable pub body : ℕ → List ℕ
@@ -68,8 +68,8 @@ markByte k =
 
 unfoldable pub spelling : Spelled → List ℕ
 spelling t =
-    pick (eqb (t .kind) tokEntry) entryWord
-    (pick (eqb (t .kind) tokExtern) externWord
+    pick (eqb (t .kind) tokEntry) entrySpelling
+    (pick (eqb (t .kind) tokExtern) externSpelling
     (pick (eqb (t .kind) tokIdentifier) (t .word)
     (pick (eqb (t .kind) tokNumber) (t .word)
     (pick (eqb (t .kind) tokVariable) (dotted (t .detail) (t .word))

@@ -20,7 +20,7 @@ use Rattle.refal_lexer.specs.Lex.{Out, more, moreAll, after, lex}
 use Rattle.refal_lexer.specs.LexLaws.{lex-skip}
 use Rattle.refal_lexer.specs.declared.Scan.{Scan}
 use Rattle.refal_lexer.specs.declared.Scan.the-variants as S
-use Rattle.refal_spelling.specs.Spell.{Spelled, spelled, entryWord, externWord, body, dotted, markByte, spelling, text}
+use Rattle.refal_spelling.specs.Spell.{Spelled, spelled, entrySpelling, externSpelling, body, dotted, markByte, spelling, text}
 use Rattle.refal_spelling.specs.Places.{tokenAt, tokensAt, lineBehind}
 use Rattle.refal_spelling.specs.Good.{Good, entry, extern, identifier, variableOf, number, character, mark, AllGood, no-more, and-more}
 use Rattle.refal_spelling.specs.Runs.{at-space}
@@ -94,8 +94,8 @@ mark-scan at line k r lo hi = ap (λ (c : ℕ). scanClass c at line (markByte k)
 pub reads-one : (t : Spelled) → Good t → (at : ℕ) (line : Bool) (r : List ℕ)
     → lex 0 at line (spelling t ++ (32 ∷ r)) ≡ more (tokenAt at t) (lex 0 (at + length (spelling t) + 1) false r)
 unfolding spelling tokenAt
-reads-one t entry at line r = lex-token at line tokEntry 0 0 0 entryWord r (ap (S.Token tokEntry 0 0 0) (omega arith)) (omega arith)
-reads-one t extern at line r = lex-token at line tokExtern 0 0 0 externWord r (ap (S.Token tokExtern 0 0 0) (omega arith)) (omega arith)
+reads-one t entry at line r = lex-token at line tokEntry 0 0 0 entrySpelling r (ap (S.Token tokEntry 0 0 0) (omega arith)) (omega arith)
+reads-one t extern at line r = lex-token at line tokExtern 0 0 0 externSpelling r (ap (S.Token tokExtern 0 0 0) (omega arith)) (omega arith)
 reads-one t (identifier b s u a h) at line r = lex-token at line tokIdentifier 0 at (suc (length s)) (b ∷ s) r (scan-identifier at line b s (32 ∷ r) u a h (at-space r)) (omega arith)
 reads-one t (variableOf v w u a lo hi) at line r = lex-token at line tokVariable v (at + 2) (length w) (dotted v w) r (scan-index at line v w (32 ∷ r) u a lo hi (at-space r)) (omega arith)
 reads-one t (number w h) at line r = lex-token at line tokNumber 0 at (length w) w r (scan-number w h at line (32 ∷ r) (at-space r)) (number-some w h)

@@ -16,7 +16,7 @@ use Rattle.refal_ast.specs.Flatten.{Flat, flatToken, mark, nameOf, flatLeaf, fl
 use Rattle.refal_ast.specs.Flatten.{flatEntry, flattenItem, flattenP}
 use Rattle.refal_ast.specs.declared.tree.Symbol.the-variants.{Char, Identifier, Number}
 use Rattle.refal_tree.specs.Forest.{Row, row, Forest, empty, tree}
-use Rattle.refal_tree.specs.States.{termKind, atItems, atName, atNames, atSentences, atPattern, atConditions, atCondition, atColon, atTerms, atArgument, atEnding, closed, inside, after}
+use Rattle.refal_tree.specs.States.{termKind, atItems, atName, atNames, atSentences, atPattern, atConditions, atCondition, atColon, atTerms, atArgument, atEnding, closed, stateInside, stateAfter}
 use Rattle.refal_tree.specs.Typed.{leafR, plain, forTerm, forT, forTerms, forRight, forCondition, forC, forEnd, forSentence, forS, nameR, forN, forItem, forP, toForest}
 
 abbrev pub pickF : Bool → List Flat → List Flat → List Flat
@@ -48,12 +48,12 @@ openRest st r =
     (onF (r .kind) nodeConditionBlock (mark tokLBrace ∷ []) []))))))
 
 -- before a row's children; here are all tokens that have a detail or a text
-abbrev pub opening : ℕ → Row → List Flat
-opening st r = pickF (termKind (r .kind)) (openTerm r) (openRest st r)
+abbrev pub openTokens : ℕ → Row → List Flat
+openTokens st r = pickF (termKind (r .kind)) (openTerm r) (openRest st r)
 
 -- after the children of a row of the kind k
-abbrev pub closing : ℕ → ℕ → List Flat
-closing st k =
+abbrev pub closeTokens : ℕ → ℕ → List Flat
+closeTokens st k =
     onF k nodeDeclaration (mark tokSemicolon ∷ [])
     (onF k nodeFunction (mark tokRBrace ∷ [])
     (onF k nodeSentence (mark tokSemicolon ∷ [])
@@ -66,7 +66,7 @@ closing st k =
 unfoldable pub flattenG : ℕ → Forest → List Flat
 flattenG st empty = []
 flattenG st (tree r f g) =
-    opening st r ++ (flattenG (inside (r .kind)) f ++ (closing st (r .kind) ++ flattenG (after st (r .kind)) g))
+    openTokens st r ++ (flattenG (stateInside (r .kind)) f ++ (closeTokens st (r .kind) ++ flattenG (stateAfter st (r .kind)) g))
 
 -- the sentences of an ending block flatten as those of a function
 flat-ending : (f : Forest) → flattenG atEnding f ≡ flattenG atSentences f
@@ -93,16 +93,16 @@ flows-then {st₁} {st₂} {st₃} {op₁} {op₂} {E₁} {E₂} p q = record {
 }
 
 -- a row above what op puts
-flows-row : {st' : ℕ} {op : Forest → Forest} {E : List Flat} (st : ℕ) (r : Row) → Flows (inside (r .kind)) st' op E
-    → Flows st (after st (r .kind)) (λ (g : Forest). tree r (op empty) g) (opening st r ++ (E ++ closing st (r .kind)))
+flows-row : {st' : ℕ} {op : Forest → Forest} {E : List Flat} (st : ℕ) (r : Row) → Flows (stateInside (r .kind)) st' op E
+    → Flows st (stateAfter st (r .kind)) (λ (g : Forest). tree r (op empty) g) (openTokens st r ++ (E ++ closeTokens st (r .kind)))
 unfolding flattenG
 flows-row {st'} {op} {E} st r p = record {
   flat = λ g.
-      let R : List Flat = flattenG (after st (r .kind)) g in
-      let Z : List Flat = closing st (r .kind) in
-      ap (λ (l : List Flat). opening st r ++ (l ++ (Z ++ R))) (p .flat empty ∙ append-nil E)
-      ∙ ap (λ (l : List Flat). opening st r ++ l) (sym (append-assoc E Z R))
-      ∙ sym (append-assoc (opening st r) (E ++ Z) R);
+      let R : List Flat = flattenG (stateAfter st (r .kind)) g in
+      let Z : List Flat = closeTokens st (r .kind) in
+      ap (λ (l : List Flat). openTokens st r ++ (l ++ (Z ++ R))) (p .flat empty ∙ append-nil E)
+      ∙ ap (λ (l : List Flat). openTokens st r ++ l) (sym (append-assoc E Z R))
+      ∙ sym (append-assoc (openTokens st r) (E ++ Z) R);
 }
 
 flows-as : {st st' : ℕ} {op : Forest → Forest} {E E' : List Flat} → E ≡ E' → Flows st st' op E → Flows st st' op E'
@@ -128,7 +128,7 @@ mutual
   flows-T (tMore f x) = flows-then (flows-T f) (flows-term x)
 
 -- a Terms row, in each place
-flows-terms : (st : ℕ) (f : Terms) → Flows st (after st nodeTerms) (forTerms f) (opening st (plain nodeTerms 0 0) ++ (flattenT f ++ closing st nodeTerms))
+flows-terms : (st : ℕ) (f : Terms) → Flows st (stateAfter st nodeTerms) (forTerms f) (openTokens st (plain nodeTerms 0 0) ++ (flattenT f ++ closeTokens st nodeTerms))
 flows-terms st f = flows-row st (plain nodeTerms 0 0) (flows-T f)
 
 at-pattern : (f : Terms) → Flows atPattern atConditions (forTerms f) (flattenT f)

@@ -77,7 +77,7 @@ of-tree left w t e = go (forestOf w 0) refl e
     go (some f) q e = ok f q (okG atItems left f) refl e
 
 -- ---- what the test says
-pub record Lawful (w : List ℕ) : Type 0 where
+pub record LawfulRows (w : List ℕ) : Type 0 where
   pub tree : Program
   pub words : w ≡ encP tree 0
   pub deep : depthP tree ≤ mostLevels
@@ -86,14 +86,14 @@ pub record Lawful (w : List ℕ) : Type 0 where
 length-tree : (t : Program) → length (encP t 0) ≡ nodeWidth * sizeP t
 length-tree t = ap length (sym (enc-tree t 0)) ∙ length-enc (toForest t) 0 ∙ ap (λ (n : ℕ). nodeWidth * n) (size-tree t)
 
-pub lawful-is : (w : List ℕ) → (lawful w ≡ true) ↔ Lawful w
+pub lawful-is : (w : List ℕ) → (lawful w ≡ true) ↔ LawfulRows w
 unfolding lawful
 lawful-is w = (λ h. yes h (treeOf mostLevels w) refl, no)
   where
     whole : Bool
     whole = wholeRows w && leb (length w) (nodeWidth * mostRows)
 
-    yes : lawful w ≡ true → (o : Option Program) → treeOf mostLevels w ≡ o → Lawful w
+    yes : lawful w ≡ true → (o : Option Program) → treeOf mostLevels w ≡ o → LawfulRows w
     yes h none q = let e : found none ≡ true = ap found (sym q) ∙ and-right whole (found (treeOf mostLevels w)) h in never e
     yes h (some t) q =
         let T = of-tree mostLevels w t q in
@@ -101,7 +101,7 @@ lawful-is w = (λ h. yes h (treeOf mostLevels w) refl, no)
         let m : length w ≡ nodeWidth * sizeP t = ap length (T .words) ∙ length-tree t in
         record { tree = t; words = T .words; deep = T .deep; few = omega arith }
 
-    no : Lawful w → lawful w ≡ true
+    no : LawfulRows w → lawful w ≡ true
     no x =
         let m : length w ≡ nodeWidth * sizeP (x .tree) = ap length (x .words) ∙ length-tree (x .tree) in
         let f = x .few in

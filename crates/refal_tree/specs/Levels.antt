@@ -4,7 +4,7 @@ use mathlib.Core.Bool.{Bool, true, false}
 use mathlib.Core.Path.{_≡_, refl}
 use native.Mathlib.Omega.{arith}
 use native.Mathlib.Numerals.{sub-one}
-use Rattle.refal_tree.specs.States.{pick, opens, lower, below}
+use Rattle.refal_tree.specs.States.{pickState, opens, lower, below}
 
 pub lower-is : (n : ℕ) → (n ≡ 0 → ⊥) → n - 1 ≡ lower n
 lower-is zero h = absurd (h refl)
@@ -14,7 +14,7 @@ lower-is (suc n) h = sub-one (suc n)
 pub below-le : (st k left : ℕ) → below st k left ≤ left
 below-le st k left = go (opens st k) left
   where
-    go : (b : Bool) (n : ℕ) → pick b (lower n) n ≤ n
+    go : (b : Bool) (n : ℕ) → pickState b (lower n) n ≤ n
     go true zero = omega arith
     go true (suc n) = omega arith
     go false n = omega arith

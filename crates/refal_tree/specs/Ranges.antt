@@ -15,7 +15,7 @@ use Rattle.refal_ast.specs.Nodes.{Node, nodeWidth, colKind, colNext, wordAt, no
 use Rattle.refal_ast.specs.NodeLaws.{count-nodes, node-at}
 use Rattle.refal_tree.specs.Forest.{Row, Forest, empty, tree, sizeG, withNext, own, forestN, pickForest, forestOf}
 use Rattle.refal_tree.specs.ForestLaws.{nodesG, length-forest, forest-nodes, nodes-forest}
-use Rattle.refal_tree.specs.States.{ends, inside, after, below}
+use Rattle.refal_tree.specs.States.{mayEnd, stateInside, stateAfter, below}
 use Rattle.refal_tree.specs.Rules.{rowOk, okG}
 
 -- ---- definitions
@@ -181,19 +181,19 @@ forest-all w n e =
 -- ---- the rules, along a walk
 
 ok-joined : (st left : ℕ) (r : Row) (o p : Option Forest)
-    → okIn st left (joined r o p) ≡ rowOk st left r && (okIn (inside (r .kind)) (below st (r .kind) left) o && okIn (after st (r .kind)) left p)
+    → okIn st left (joined r o p) ≡ rowOk st left r && (okIn (stateInside (r .kind)) (below st (r .kind) left) o && okIn (stateAfter st (r .kind)) left p)
 unfolding okG
 ok-joined st left r none p = sym (and-false (rowOk st left r))
 ok-joined st left r (some f) none =
-    sym (ap (λ (b : Bool). rowOk st left r && b) (and-false (okG (inside (r .kind)) (below st (r .kind) left) f)) ∙ and-false (rowOk st left r))
+    sym (ap (λ (b : Bool). rowOk st left r && b) (and-false (okG (stateInside (r .kind)) (below st (r .kind) left) f)) ∙ and-false (rowOk st left r))
 ok-joined st left r (some f) (some g) = refl
 
 pub ok-turn : (w : List ℕ) (i j st left : ℕ) → nodeWidth * j ≤ length w → i < nextAt w i → nextAt w i ≤ j
-    → okAt w i j st left ≡ rowOk st left (rowAt w i) && (okAt w (i + 1) (nextAt w i) (inside (kindAt w i)) (below st (kindAt w i) left) && okAt w (nextAt w i) j (after st (kindAt w i)) left)
+    → okAt w i j st left ≡ rowOk st left (rowAt w i) && (okAt w (i + 1) (nextAt w i) (stateInside (kindAt w i)) (below st (kindAt w i) left) && okAt w (nextAt w i) j (stateAfter st (kindAt w i)) left)
 ok-turn w i j st left l lo hi =
     ap (okIn st left) (forest-turn w i j l lo hi) ∙ ok-joined st left (rowAt w i) (forestAt w (i + 1) (nextAt w i)) (forestAt w (nextAt w i) j)
 
-pub ok-end : (w : List ℕ) (i j st left : ℕ) → i ≡ j → okAt w i j st left ≡ ends st
+pub ok-end : (w : List ℕ) (i j st left : ℕ) → i ≡ j → okAt w i j st left ≡ mayEnd st
 unfolding okG
 ok-end w i j st left e = ap (okIn st left) (forest-end w i j e)
 
@@ -202,29 +202,29 @@ ok-bad w i j st left l h bad = ap (okIn st left) (forest-bad w i j l h bad)
 
 -- a turn of the check at row i, of the kind k and with the next row x
 module _ (w : List ℕ) (i j st left k x : ℕ) (kind : k ≡ kindAt w i) (next : x ≡ nextAt w i) (long : nodeWidth * j ≤ length w) (lo : i < x) (hi : x ≤ j) where
-  turn : okAt w i j st left ≡ rowOk st left (rowAt w i) && (okAt w (i + 1) x (inside k) (below st k left) && okAt w x j (after st k) left)
+  turn : okAt w i j st left ≡ rowOk st left (rowAt w i) && (okAt w (i + 1) x (stateInside k) (below st k left) && okAt w x j (stateAfter st k) left)
   turn =
       let K : ℕ = kindAt w i in
       ok-turn w i j st left long (subst (λ (y : ℕ). i < y) next lo) (subst (λ (y : ℕ). y ≤ j) next hi)
-      ∙ ap (λ (y : ℕ). rowOk st left (rowAt w i) && (okAt w (i + 1) y (inside K) (below st K left) && okAt w y j (after st K) left)) (sym next)
-      ∙ ap (λ (y : ℕ). rowOk st left (rowAt w i) && (okAt w (i + 1) x (inside y) (below st y left) && okAt w x j (after st y) left)) (sym kind)
+      ∙ ap (λ (y : ℕ). rowOk st left (rowAt w i) && (okAt w (i + 1) y (stateInside K) (below st K left) && okAt w y j (stateAfter st K) left)) (sym next)
+      ∙ ap (λ (y : ℕ). rowOk st left (rowAt w i) && (okAt w (i + 1) x (stateInside y) (below st y left) && okAt w x j (stateAfter st y) left)) (sym kind)
 
   pub stop-row : rowOk st left (rowAt w i) ≡ false → okAt w i j st left ≡ false
-  stop-row h = turn ∙ ap (λ (b : Bool). b && (okAt w (i + 1) x (inside k) (below st k left) && okAt w x j (after st k) left)) h
+  stop-row h = turn ∙ ap (λ (b : Bool). b && (okAt w (i + 1) x (stateInside k) (below st k left) && okAt w x j (stateAfter st k) left)) h
 
-  pub stop-kids : okAt w (i + 1) x (inside k) (below st k left) ≡ false → okAt w i j st left ≡ false
+  pub stop-kids : okAt w (i + 1) x (stateInside k) (below st k left) ≡ false → okAt w i j st left ≡ false
   stop-kids h =
       turn
-      ∙ ap (λ (b : Bool). rowOk st left (rowAt w i) && (b && okAt w x j (after st k) left)) h
+      ∙ ap (λ (b : Bool). rowOk st left (rowAt w i) && (b && okAt w x j (stateAfter st k) left)) h
       ∙ and-false (rowOk st left (rowAt w i))
 
-  pub go-on : rowOk st left (rowAt w i) ≡ true → okAt w (i + 1) x (inside k) (below st k left) ≡ true → okAt w i j st left ≡ okAt w x j (after st k) left
+  pub go-on : rowOk st left (rowAt w i) ≡ true → okAt w (i + 1) x (stateInside k) (below st k left) ≡ true → okAt w i j st left ≡ okAt w x j (stateAfter st k) left
   go-on h h' =
       turn
-      ∙ ap (λ (b : Bool). b && (okAt w (i + 1) x (inside k) (below st k left) && okAt w x j (after st k) left)) h
-      ∙ ap (λ (b : Bool). b && okAt w x j (after st k) left) h'
+      ∙ ap (λ (b : Bool). b && (okAt w (i + 1) x (stateInside k) (below st k left) && okAt w x j (stateAfter st k) left)) h
+      ∙ ap (λ (b : Bool). b && okAt w x j (stateAfter st k) left) h'
 
 -- what a check of the children found, from a state and levels that are those inside the row
-pub kids-are : (w : List ℕ) (i x st left k s l : ℕ) (b : Bool) → b ≡ okAt w (i + 1) x s l → s ≡ inside k → l ≡ below st k left → okAt w (i + 1) x (inside k) (below st k left) ≡ b
+pub kids-are : (w : List ℕ) (i x st left k s l : ℕ) (b : Bool) → b ≡ okAt w (i + 1) x s l → s ≡ stateInside k → l ≡ below st k left → okAt w (i + 1) x (stateInside k) (below st k left) ≡ b
 kids-are w i x st left k s l b e es el =
-    sym (e ∙ ap (λ (y : ℕ). okAt w (i + 1) x y l) es ∙ ap (λ (y : ℕ). okAt w (i + 1) x (inside k) y) el)
+    sym (e ∙ ap (λ (y : ℕ). okAt w (i + 1) x y l) es ∙ ap (λ (y : ℕ). okAt w (i + 1) x (stateInside k) y) el)

@@ -6,20 +6,20 @@ use Rattle.refal_ast.specs.Kinds.{nodeName, nodeFunction, nodeTerms, nodeChar, 
 use Rattle.refal_ast.specs.Nodes.{hasText}
 use Rattle.refal_ast.specs.Check.{pickBool}
 use Rattle.refal_tree.specs.Forest.{Row, Forest, empty, tree}
-use Rattle.refal_tree.specs.States.{fits, room, ends, inside, after, below}
+use Rattle.refal_tree.specs.States.{mayStand, room, mayEnd, stateInside, stateAfter, below}
 
 -- the kinds whose span is 0
 abbrev pub spanless : ℕ → Bool
 spanless k = eqb k nodeName || eqb k nodeTerms
 
 -- a variable's letter: s, t, e
-abbrev pub letter : ℕ → Bool
-letter d = (eqb d 115 || eqb d 116) || eqb d 101
+abbrev pub variableLetter : ℕ → Bool
+variableLetter d = (eqb d 115 || eqb d 116) || eqb d 101
 
 -- a function's detail is 0 or 1, a Char's any word, a Variable's a letter, all others 0
 abbrev pub detailOk : ℕ → ℕ → Bool
 detailOk k d =
-    pickBool (eqb k nodeFunction) (leb d 1) (pickBool (eqb k nodeChar) true (pickBool (eqb k nodeVariable) (letter d) (eqb d 0)))
+    pickBool (eqb k nodeFunction) (leb d 1) (pickBool (eqb k nodeChar) true (pickBool (eqb k nodeVariable) (variableLetter d) (eqb d 0)))
 
 abbrev pub textOk : ℕ → ℕ → ℕ → Bool
 textOk k s l = hasText k || (eqb s 0 && eqb l 0)
@@ -33,10 +33,10 @@ fieldsOk k d s l a b = detailOk k d && (textOk k s l && spanOk k a b)
 -- a row that may stand in the state st, so many levels being left
 abbrev pub rowOk : ℕ → ℕ → Row → Bool
 rowOk st left r =
-    (fits st (r .kind) && room (r .kind) left) && fieldsOk (r .kind) (r .detail) (r .start) (r .len) (r .from) (r .to)
+    (mayStand st (r .kind) && room (r .kind) left) && fieldsOk (r .kind) (r .detail) (r .start) (r .len) (r .from) (r .to)
 
 -- every row may stand where it stands, and every node has all its children
 unfoldable pub okG : ℕ → ℕ → Forest → Bool
-okG st left empty = ends st
+okG st left empty = mayEnd st
 okG st left (tree r f g) =
-    rowOk st left r && (okG (inside (r .kind)) (below st (r .kind) left) f && okG (after st (r .kind)) left g)
+    rowOk st left r && (okG (stateInside (r .kind)) (below st (r .kind) left) f && okG (stateAfter st (r .kind)) left g)

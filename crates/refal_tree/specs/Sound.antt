@@ -13,7 +13,7 @@ use Rattle.refal_ast.specs.Tree.{depthT, depthRight, depthCondition, depthC, de
 use Rattle.refal_ast.specs.Encode.{entryWord}
 use Rattle.refal_ast.specs.declared.tree.Symbol.the-variants.{Char, Identifier, Number}
 use Rattle.refal_tree.specs.Forest.{Row, row, Forest, empty, tree}
-use Rattle.refal_tree.specs.States.{atItems, atName, atNames, atSentences, atPattern, atConditions, atCondition, atColon, atTerms, atArgument, closed, inside, after, below, lower}
+use Rattle.refal_tree.specs.States.{atItems, atName, atNames, atSentences, atPattern, atConditions, atCondition, atColon, atTerms, atArgument, closed, stateInside, stateAfter, below, lower}
 use Rattle.refal_tree.specs.Rules.{rowOk, okG}
 use Rattle.refal_tree.specs.Typed.{leafR, plain, forT, forTerms, forRight, forCondition, forC, forEnd, forSentence, forS, nameR, forN, forP, toForest}
 use Rattle.refal_tree.specs.Typed.{getT, getS, getSentence, getTail, getBlock, getCondition, getRight, getNs, getN, getP, programOf}
@@ -25,15 +25,15 @@ use Rattle.refal_tree.specs.Views.{sentence-row, pattern-row, condition-
 -- what keeping the rules says of a row, of its children and of what follows
 pub record Parts (st left : ℕ) (r : Row) (f g : Forest) : Type 0 where
   pub here : Kept st left r
-  pub kids : okG (inside (r .kind)) (below st (r .kind) left) f ≡ true
-  pub rest : okG (after st (r .kind)) left g ≡ true
+  pub kids : okG (stateInside (r .kind)) (below st (r .kind) left) f ≡ true
+  pub rest : okG (stateAfter st (r .kind)) left g ≡ true
 
 pub parts : (st left : ℕ) (r : Row) (f g : Forest) → okG st left (tree r f g) ≡ true → Parts st left r f g
 unfolding okG
 parts st left r f g h =
     let x : Bool = rowOk st left r in
-    let y : Bool = okG (inside (r .kind)) (below st (r .kind) left) f in
-    let z : Bool = okG (after st (r .kind)) left g in
+    let y : Bool = okG (stateInside (r .kind)) (below st (r .kind) left) f in
+    let z : Bool = okG (stateAfter st (r .kind)) left g in
     record { here = kept st left r (and-left x (y && z) h); kids = and-left y z (and-right x (y && z) h); rest = and-right y z (and-right x (y && z) h) }
 
 pub closed-empty : (left : ℕ) (f : Forest) → okG closed left f ≡ true → f ≡ empty
@@ -50,13 +50,13 @@ pub record TermsOf (left : ℕ) (t : Terms) (f : Forest) : Type 0 where
   pub forest : forT (getT t f) empty ≡ forT t f
   pub deep : depthT t ≤ left → depthT (getT t f) ≤ left
 
-leaf-kids : (x : Leaf) (a b left : ℕ) (f : Forest) → okG (inside (leafR x a b .kind)) left f ≡ true → f ≡ empty
+leaf-kids : (x : Leaf) (a b left : ℕ) (f : Forest) → okG (stateInside (leafR x a b .kind)) left f ≡ true → f ≡ empty
 leaf-kids (symbol (Char x)) a b left f h = closed-empty left f h
 leaf-kids (symbol (Identifier s l)) a b left f h = closed-empty left f h
 leaf-kids (symbol (Number s l)) a b left f h = closed-empty left f h
 leaf-kids (variable v s l) a b left f h = closed-empty left f h
 
-leaf-after : (x : Leaf) (a b : ℕ) → after atTerms (leafR x a b .kind) ≡ atTerms
+leaf-after : (x : Leaf) (a b : ℕ) → stateAfter atTerms (leafR x a b .kind) ≡ atTerms
 leaf-after (symbol (Char x)) a b = refl
 leaf-after (symbol (Identifier s l)) a b = refl
 leaf-after (symbol (Number s l)) a b = refl

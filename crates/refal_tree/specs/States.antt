@@ -57,12 +57,12 @@ atEnding = 11
 abbrev pub closed : ℕ
 closed = 12
 
-abbrev pub pick : Bool → ℕ → ℕ → ℕ
-pick true x y = x
-pick false x y = y
+abbrev pub pickState : Bool → ℕ → ℕ → ℕ
+pickState true x y = x
+pickState false x y = y
 
-abbrev pub on : ℕ → ℕ → ℕ → ℕ → ℕ
-on k n x y = pick (eqb k n) x y
+abbrev pub onState : ℕ → ℕ → ℕ → ℕ → ℕ
+onState k n x y = pickState (eqb k n) x y
 
 -- the kinds of terms
 abbrev pub termKind : ℕ → Bool
@@ -70,40 +70,40 @@ termKind k =
     ((((eqb k nodeIdentifier || eqb k nodeNumber) || eqb k nodeChar) || eqb k nodeVariable) || eqb k nodeBracket) || eqb k nodeCall
 
 -- the state after a child of the kind k
-abbrev pub after : ℕ → ℕ → ℕ
-after st k =
-    on st atItems (on k nodeDeclaration atItems (on k nodeFunction atItems wrong))
-    (on st atName (on k nodeName atNames wrong)
-    (on st atNames (on k nodeName atNames wrong)
-    (on st atSentences (on k nodeSentence atSentences wrong)
-    (on st atPattern (on k nodeTerms atConditions wrong)
-    (on st atConditions (on k nodeCondition atConditions (on k nodeTerms closed (on k nodeEndingBlock closed wrong)))
-    (on st atCondition (on k nodeTerms atColon wrong)
-    (on st atColon (on k nodeTerms closed (on k nodeConditionBlock closed wrong))
-    (on st atTerms (pick (termKind k) atTerms wrong)
-    (on st atArgument (on k nodeTerms atEnding wrong)
-    (on st atEnding (on k nodeSentence atEnding wrong) wrong))))))))))
+abbrev pub stateAfter : ℕ → ℕ → ℕ
+stateAfter st k =
+    onState st atItems (onState k nodeDeclaration atItems (onState k nodeFunction atItems wrong))
+    (onState st atName (onState k nodeName atNames wrong)
+    (onState st atNames (onState k nodeName atNames wrong)
+    (onState st atSentences (onState k nodeSentence atSentences wrong)
+    (onState st atPattern (onState k nodeTerms atConditions wrong)
+    (onState st atConditions (onState k nodeCondition atConditions (onState k nodeTerms closed (onState k nodeEndingBlock closed wrong)))
+    (onState st atCondition (onState k nodeTerms atColon wrong)
+    (onState st atColon (onState k nodeTerms closed (onState k nodeConditionBlock closed wrong))
+    (onState st atTerms (pickState (termKind k) atTerms wrong)
+    (onState st atArgument (onState k nodeTerms atEnding wrong)
+    (onState st atEnding (onState k nodeSentence atEnding wrong) wrong))))))))))
 
 -- the state before the first child of a node of the kind k
-abbrev pub inside : ℕ → ℕ
-inside k =
-    on k nodeDeclaration atName
-    (on k nodeFunction atSentences
-    (on k nodeSentence atPattern
-    (on k nodeCondition atCondition
-    (on k nodeTerms atTerms
-    (on k nodeEndingBlock atArgument
-    (on k nodeConditionBlock atSentences
-    (on k nodeBracket atTerms
-    (on k nodeCall atTerms closed))))))))
+abbrev pub stateInside : ℕ → ℕ
+stateInside k =
+    onState k nodeDeclaration atName
+    (onState k nodeFunction atSentences
+    (onState k nodeSentence atPattern
+    (onState k nodeCondition atCondition
+    (onState k nodeTerms atTerms
+    (onState k nodeEndingBlock atArgument
+    (onState k nodeConditionBlock atSentences
+    (onState k nodeBracket atTerms
+    (onState k nodeCall atTerms closed))))))))
 
 -- whether a node's children may end here
-abbrev pub ends : ℕ → Bool
-ends st = ((((eqb st atItems || eqb st atNames) || eqb st atSentences) || eqb st atTerms) || eqb st atEnding) || eqb st closed
+abbrev pub mayEnd : ℕ → Bool
+mayEnd st = ((((eqb st atItems || eqb st atNames) || eqb st atSentences) || eqb st atTerms) || eqb st atEnding) || eqb st closed
 
 -- whether a row of the kind k may stand here
-abbrev pub fits : ℕ → ℕ → Bool
-fits st k = not (eqb (after st k) wrong)
+abbrev pub mayStand : ℕ → ℕ → Bool
+mayStand st k = not (eqb (stateAfter st k) wrong)
 
 -- the kinds that count for the depth: blocks, brackets, calls
 abbrev pub counts : ℕ → Bool
@@ -124,4 +124,4 @@ opens st k = ((eqb k nodeConditionBlock || eqb k nodeBracket) || eqb k nodeCall)
 
 -- the levels left below it
 abbrev pub below : ℕ → ℕ → ℕ → ℕ
-below st k left = pick (opens st k) (lower left) left
+below st k left = pickState (opens st k) (lower left) left

@@ -14,18 +14,18 @@ use Rattle.refal_ast.specs.Encode.{entryWord}
 use Rattle.refal_ast.specs.declared.tree.Symbol.the-variants.{Char, Identifier, Number}
 use Rattle.refal_ast.specs.declared.tree.VariableKind.the-variants.{Symbol as kindS, Term as kindT, Expression as kindE}
 use Rattle.refal_tree.specs.Forest.{Row, row, Forest, empty, tree}
-use Rattle.refal_tree.specs.States.{atItems, atName, atNames, atSentences, atPattern, atConditions, atCondition, atColon, atTerms, atArgument, atEnding, inside, after, below, lower}
+use Rattle.refal_tree.specs.States.{atItems, atName, atNames, atSentences, atPattern, atConditions, atCondition, atColon, atTerms, atArgument, atEnding, stateInside, stateAfter, below, lower}
 use Rattle.refal_tree.specs.Rules.{rowOk, okG}
 use Rattle.refal_tree.specs.Typed.{leafR, plain, forTerm, forT, forTerms, forRight, forCondition, forC, forEnd, forSentence, forS, nameR, forN, forItem, forP, toForest, termOf, getT, getS}
 use Rattle.refal_tree.specs.Typed.{getTail, getRight, getNs, getN, getP, programOf}
 
 -- a row that keeps the rules, over children that do
-pub ok-tree : (st left : ℕ) (r : Row) (f g : Forest) → rowOk st left r ≡ true → okG (inside (r .kind)) (below st (r .kind) left) f ≡ true
-    → okG st left (tree r f g) ≡ okG (after st (r .kind)) left g
+pub ok-tree : (st left : ℕ) (r : Row) (f g : Forest) → rowOk st left r ≡ true → okG (stateInside (r .kind)) (below st (r .kind) left) f ≡ true
+    → okG st left (tree r f g) ≡ okG (stateAfter st (r .kind)) left g
 unfolding okG
 ok-tree st left r f g h i =
-    ap (λ (x : Bool). x && (okG (inside (r .kind)) (below st (r .kind) left) f && okG (after st (r .kind)) left g)) h
-    ∙ ap (λ (x : Bool). x && okG (after st (r .kind)) left g) i
+    ap (λ (x : Bool). x && (okG (stateInside (r .kind)) (below st (r .kind) left) f && okG (stateAfter st (r .kind)) left g)) h
+    ∙ ap (λ (x : Bool). x && okG (stateAfter st (r .kind)) left g) i
 
 lower-le : (d left : ℕ) → suc d ≤ left → d ≤ lower left
 lower-le d zero h = absurd (omega arith)

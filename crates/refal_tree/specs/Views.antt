@@ -13,8 +13,8 @@ use Rattle.refal_ast.specs.declared.tree.Symbol.the-variants.{Char, Identifier,
 use Rattle.refal_ast.specs.declared.tree.VariableKind.{VariableKind}
 use Rattle.refal_ast.specs.declared.tree.VariableKind.the-variants.{Symbol as kindS, Term as kindT, Expression as kindE}
 use Rattle.refal_tree.specs.Forest.{Row, row}
-use Rattle.refal_tree.specs.States.{wrong, atItems, atName, atNames, atSentences, atPattern, atConditions, atCondition, atColon, atTerms, atArgument, atEnding, closed, pick, on, fits, room}
-use Rattle.refal_tree.specs.Rules.{letter, fieldsOk, rowOk}
+use Rattle.refal_tree.specs.States.{wrong, atItems, atName, atNames, atSentences, atPattern, atConditions, atCondition, atColon, atTerms, atArgument, atEnding, closed, pickState, onState, mayStand, room}
+use Rattle.refal_tree.specs.Rules.{variableLetter, fieldsOk, rowOk}
 use Rattle.refal_tree.specs.Typed.{leafR, plain, nameR}
 
 pub never : {A : Type 0} → false ≡ true → A
@@ -59,18 +59,18 @@ zeros : (x y : ℕ) → eqb x 0 && eqb y 0 ≡ true → (x ≡ 0) × (y ≡ 0)
 zeros x y h = (eqb-true x 0 (and-left (eqb x 0) (eqb y 0) h), eqb-true y 0 (and-right (eqb x 0) (eqb y 0) h))
 
 -- a kind that may stand here is n, or may stand here by what is said of the others
-pub on-cases : {A : Type 0} (k n x y : ℕ) → not (eqb (on k n x y) wrong) ≡ true → (k ≡ n → A) → (not (eqb y wrong) ≡ true → A) → A
+pub on-cases : {A : Type 0} (k n x y : ℕ) → not (eqb (onState k n x y) wrong) ≡ true → (k ≡ n → A) → (not (eqb y wrong) ≡ true → A) → A
 on-cases {A} k n x y h f g = go (eqb k n) refl h
   where
-    go : (b : Bool) → eqb k n ≡ b → not (eqb (pick b x y) wrong) ≡ true → A
+    go : (b : Bool) → eqb k n ≡ b → not (eqb (pickState b x y) wrong) ≡ true → A
     go true e h = f (eqb-true k n e)
     go false e h = g h
 
 -- the kinds of terms, one by one
-term-on : (k : ℕ) → not (eqb (on k nodeIdentifier atTerms (on k nodeNumber atTerms (on k nodeChar atTerms (on k nodeVariable atTerms (on k nodeBracket atTerms (on k nodeCall atTerms wrong)))))) wrong) ≡ fits atTerms k
+term-on : (k : ℕ) → not (eqb (onState k nodeIdentifier atTerms (onState k nodeNumber atTerms (onState k nodeChar atTerms (onState k nodeVariable atTerms (onState k nodeBracket atTerms (onState k nodeCall atTerms wrong)))))) wrong) ≡ mayStand atTerms k
 term-on k = go (eqb k nodeIdentifier) (eqb k nodeNumber) (eqb k nodeChar) (eqb k nodeVariable) (eqb k nodeBracket) (eqb k nodeCall)
   where
-    go : (a b c d e f : Bool) → not (eqb (pick a 9 (pick b 9 (pick c 9 (pick d 9 (pick e 9 (pick f 9 0)))))) 0) ≡ not (eqb (pick (((((a || b) || c) || d) || e) || f) 9 0) 0)
+    go : (a b c d e f : Bool) → not (eqb (pickState a 9 (pickState b 9 (pickState c 9 (pickState d 9 (pickState e 9 (pickState f 9 0)))))) 0) ≡ not (eqb (pickState (((((a || b) || c) || d) || e) || f) 9 0) 0)
     go true b c d e f = refl
     go false true c d e f = refl
     go false false true d e f = refl
@@ -79,7 +79,7 @@ term-on k = go (eqb k nodeIdentifier) (eqb k nodeNumber) (eqb k nodeChar) (eqb k
     go false false false false false true = refl
     go false false false false false false = refl
 
-letter-is : (d : ℕ) → letter d ≡ true → (v : VariableKind) × (d ≡ letterOf v)
+letter-is : (d : ℕ) → variableLetter d ≡ true → (v : VariableKind) × (d ≡ letterOf v)
 letter-is d h = go (eqb d 115) (eqb d 116) (eqb d 101) refl refl refl h
   where
     go : (x y z : Bool) → eqb d 115 ≡ x → eqb d 116 ≡ y → eqb d 101 ≡ z → (x || y) || z ≡ true → (v : VariableKind) × (d ≡ letterOf v)
@@ -138,7 +138,7 @@ module _ (r : Row) where
 
   variable-is : r .kind ≡ 12 → Fields 12 → TermRow r
   variable-is e h =
-      let q = letter-is (r .detail) (and-left (letter (r .detail)) true h) in
+      let q = letter-is (r .detail) (and-left (variableLetter (r .detail)) true h) in
       subst TermRow (sym (row-is r 12 (letterOf (q .0)) (r .start) (r .len) (r .from) (r .to) e (q .1) refl refl refl refl)) (isLeaf (variable (q .0) (r .start) (r .len)) (r .from) (r .to))
 
   plain-term : PlainRow nodeBracket r → TermRow r
@@ -154,25 +154,25 @@ module _ (r : Row) where
 
 -- a row that keeps the rules in the state st, with so many levels left
 pub record Kept (st left : ℕ) (r : Row) : Type 0 where
-  pub fit : fits st (r .kind) ≡ true
+  pub fit : mayStand st (r .kind) ≡ true
   pub deep : room (r .kind) left ≡ true
   pub good : fieldsOk (r .kind) (r .detail) (r .start) (r .len) (r .from) (r .to) ≡ true
 
 pub kept : (st left : ℕ) (r : Row) → rowOk st left r ≡ true → Kept st left r
 kept st left r h =
-    let f : Bool = fits st (r .kind) in
+    let f : Bool = mayStand st (r .kind) in
     let d : Bool = room (r .kind) left in
     let g : Bool = fieldsOk (r .kind) (r .detail) (r .start) (r .len) (r .from) (r .to) in
     record { fit = and-left f d (and-left (f && d) g h); deep = and-right f d (and-left (f && d) g h); good = and-right (f && d) g h }
 
 -- where one kind only may stand
-only : (k n x : ℕ) → not (eqb (on k n x wrong) wrong) ≡ true → k ≡ n
+only : (k n x : ℕ) → not (eqb (onState k n x wrong) wrong) ≡ true → k ≡ n
 only k n x h = on-cases k n x wrong h (λ e. e) never
 
 module _ {left : ℕ} {r : Row} where
   pub item-row : Kept atItems left r → ItemRow r
   item-row p =
-      on-cases (r .kind) 1 atItems (on (r .kind) 3 atItems wrong) (p .fit)
+      on-cases (r .kind) 1 atItems (onState (r .kind) 3 atItems wrong) (p .fit)
       (λ e. go r (plain-is r nodeDeclaration e (at r (p .good) nodeDeclaration e)))
       (λ h. let e = only (r .kind) nodeFunction atItems h in function-is r e (at r (p .good) nodeFunction e))
     where
@@ -199,9 +199,9 @@ module _ {left : ℕ} {r : Row} where
 
   pub tail-row : Kept atConditions left r → TailRow r
   tail-row p =
-      on-cases (r .kind) 5 atConditions (on (r .kind) 6 closed (on (r .kind) 7 closed wrong)) (p .fit)
+      on-cases (r .kind) 5 atConditions (onState (r .kind) 6 closed (onState (r .kind) 7 closed wrong)) (p .fit)
       (λ e. five r (plain-is r nodeCondition e (at r (p .good) nodeCondition e)))
-      (λ h. on-cases (r .kind) 6 closed (on (r .kind) 7 closed wrong) h
+      (λ h. on-cases (r .kind) 6 closed (onState (r .kind) 7 closed wrong) h
       (λ e. six r (terms-is r e (at r (p .good) nodeTerms e)))
       (λ h. let e = only (r .kind) nodeEndingBlock closed h in seven r (plain-is r nodeEndingBlock e (at r (p .good) nodeEndingBlock e))))
     where
@@ -216,7 +216,7 @@ module _ {left : ℕ} {r : Row} where
 
   pub right-row : Kept atColon left r → RightRow r
   right-row p =
-      on-cases (r .kind) 6 closed (on (r .kind) 8 closed wrong) (p .fit)
+      on-cases (r .kind) 6 closed (onState (r .kind) 8 closed wrong) (p .fit)
       (λ e. six r (terms-is r e (at r (p .good) nodeTerms e)))
       (λ h. let e = only (r .kind) nodeConditionBlock closed h in eight r (plain-is r nodeConditionBlock e (at r (p .good) nodeConditionBlock e)))
     where
@@ -229,11 +229,11 @@ module _ {left : ℕ} {r : Row} where
   pub term-row : Kept atTerms left r → TermRow r
   term-row p =
       let k : ℕ = r .kind in
-      let c14 : ℕ = on k nodeCall atTerms wrong in
-      let c13 : ℕ = on k nodeBracket atTerms c14 in
-      let c12 : ℕ = on k nodeVariable atTerms c13 in
-      let c11 : ℕ = on k nodeChar atTerms c12 in
-      let c10 : ℕ = on k nodeNumber atTerms c11 in
+      let c14 : ℕ = onState k nodeCall atTerms wrong in
+      let c13 : ℕ = onState k nodeBracket atTerms c14 in
+      let c12 : ℕ = onState k nodeVariable atTerms c13 in
+      let c11 : ℕ = onState k nodeChar atTerms c12 in
+      let c10 : ℕ = onState k nodeNumber atTerms c11 in
       on-cases k 9 atTerms c10 (term-on k ∙ p .fit)
       (λ e. subst TermRow (sym (texted-is r 9 e (at r (p .good) nodeIdentifier e))) (isLeaf (symbol (Identifier (r .start) (r .len))) (r .from) (r .to)))
       (λ h. on-cases k 10 atTerms c11 h

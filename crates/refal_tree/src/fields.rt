@@ -2,7 +2,7 @@
 use refal_ast::kinds::node;
 use refal_ast::nodes::has_text;
 ghost use mathlib.Core.Path.{_≡_};
-ghost use Rattle.refal_tree.specs.Rules.{spanless as hasNoSpan, letter as isLetter, detailOk, textOk, spanOk};
+ghost use Rattle.refal_tree.specs.Rules.{spanless as hasNoSpan, variableLetter as isLetter, detailOk, textOk, spanOk};
 
 fn spanless(k: u32) -> bool
     ensures { λ r. ⌜ r ≡ hasNoSpan k ⌝ }

@@ -2,8 +2,8 @@
 use refal_ast::kinds::node;
 ghost use mathlib.Core.Path.{_≡_};
 ghost use Rattle.refal_ast.specs.Kinds.{nodeTerms};
-ghost use Rattle.refal_tree.specs.States.{on, lower as oneLess, termKind, atItems, atConditions, atColon, atTerms, after as nextState, inside as firstState, ends as mayEnd};
-ghost use Rattle.refal_tree.specs.States.{fits as mayStand, counts as isLevel, opens as lowers, room as hasRoom, below as levelsInside};
+ghost use Rattle.refal_tree.specs.States.{onState, lower as oneLess, termKind, atItems, atConditions, atColon, atTerms, stateAfter as nextState, stateInside as firstState, mayEnd as mayEnd};
+ghost use Rattle.refal_tree.specs.States.{mayStand as mayStand, counts as isLevel, opens as lowers, room as hasRoom, below as levelsInside};
 
 // No tree has come this far.
 pub const WRONG: u32 = 0;
@@ -42,7 +42,7 @@ pub const CLOSED: u32 = 12;
 
 // x where k is n, else no state.
 fn only(k: u32, n: u32, x: u32) -> u32
-    ensures { λ r. ⌜ r ≡ on k n x 0 ⌝ }
+    ensures { λ r. ⌜ r ≡ onState k n x 0 ⌝ }
 {
     if k == n {
         return x;

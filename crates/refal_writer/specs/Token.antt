@@ -5,7 +5,7 @@ use mathlib.Core.Path.{_≡_, refl, sym, ap, _∙_}
 use borrow.Author.Tests.{ne-eqb}
 use Rattle.refal_ast.specs.Kinds.{tokEntry, tokExtern, tokIdentifier, tokVariable, tokNumber, tokChar, tokSemicolon}
 use Rattle.refal_ast.specs.Flatten.{Flat}
-use Rattle.refal_spelling.specs.Spell.{Spelled, spelled, view, views, spelling, text, entryWord, externWord, body, quoted, dotted, markByte}
+use Rattle.refal_spelling.specs.Spell.{Spelled, spelled, view, views, spelling, text, entrySpelling, externSpelling, body, quoted, dotted, markByte}
 
 -- a list of flattened tokens, written with the source src
 abbrev pub textOf : List ℕ → List Flat → List ℕ
@@ -46,11 +46,11 @@ alone : (l : List ℕ) → l ++ 32 ∷ [] ≡ (l ++ 32 ∷ []) ++ []
 alone l = sym (append-nil (l ++ 32 ∷ []))
 
 module _ (k d : ℕ) (w : List ℕ) where
-  pub entry-text : k ≡ tokEntry → entryWord ++ 32 ∷ [] ≡ tokenText (spelled k d w)
+  pub entry-text : k ≡ tokEntry → entrySpelling ++ 32 ∷ [] ≡ tokenText (spelled k d w)
   unfolding spelling text
   entry-text e = rw e refl
 
-  pub extern-text : k ≡ tokExtern → externWord ++ 32 ∷ [] ≡ tokenText (spelled k d w)
+  pub extern-text : k ≡ tokExtern → externSpelling ++ 32 ∷ [] ≡ tokenText (spelled k d w)
   unfolding spelling text
   extern-text e = rw e refl
 

@@ -13,10 +13,10 @@ use Rattle.refal_ast.specs.Limits.{mostRows}
 use Rattle.refal_ast.specs.Nodes.{nodeWidth, colDetail, wordAt}
 use Rattle.refal_ast.specs.Flatten.{Flat}
 use Rattle.refal_tree.specs.Forest.{Row}
-use Rattle.refal_tree.specs.States.{inside, after, below, fits, room}
-use Rattle.refal_tree.specs.Rules.{letter, fieldsOk, rowOk}
+use Rattle.refal_tree.specs.States.{stateInside, stateAfter, below, mayStand, room}
+use Rattle.refal_tree.specs.Rules.{variableLetter, fieldsOk, rowOk}
 use Rattle.refal_tree.specs.Ranges.{rowAt, kindAt, nextAt, okAt}
-use Rattle.refal_tree.specs.FlattenRows.{opening, closing}
+use Rattle.refal_tree.specs.FlattenRows.{openTokens, closeTokens}
 use Rattle.refal_tree.specs.Walk.{flatAt, Step, step, flat-step, flat-end}
 use Rattle.refal_spelling.specs.Spell.{text}
 use Rattle.refal_writer.specs.Token.{textOf, text-of-append}
@@ -28,7 +28,7 @@ pub record Walks (w : List ℕ) (i j st : ℕ) : Type 0 where
   pub ok : okAt w i j st left ≡ true
 
 -- ---- a row that keeps the rules
-letter-small : (d : ℕ) → letter d ≡ true → d < 256
+letter-small : (d : ℕ) → variableLetter d ≡ true → d < 256
 letter-small d h = go (eqb d 115) (eqb d 116) (eqb d 101) refl refl refl h
   where
     go : (x y z : Bool) → eqb d 115 ≡ x → eqb d 116 ≡ y → eqb d 101 ≡ z → (x || y) || z ≡ true → d < 256
@@ -40,7 +40,7 @@ letter-small d h = go (eqb d 115) (eqb d 116) (eqb d 101) refl refl refl h
 -- a variable's letter is a byte
 lettered : (st left : ℕ) (r : Row) → rowOk st left r ≡ true → r .kind ≡ nodeVariable → r .detail < 256
 lettered st left r h e =
-    let f : Bool = fits st (r .kind) && room (r .kind) left in
+    let f : Bool = mayStand st (r .kind) && room (r .kind) left in
     let g : Bool = fieldsOk (r .kind) (r .detail) (r .start) (r .len) (r .from) (r .to) in
     letter-small (r .detail) (and-left _ true (ap (λ (k : ℕ). fieldsOk k (r .detail) (r .start) (r .len) (r .from) (r .to)) (sym e) ∙ and-right f g h))
 
@@ -50,11 +50,11 @@ pub record Turn (w : List ℕ) (i j st k x : ℕ) : Type 0 where
   pub high : x ≤ j
   pub letter : kindAt w i ≡ nodeVariable → wordAt w i colDetail < 256
   -- s is the state of the children, and u the state of what follows
-  pub kids : (s : ℕ) → s ≡ inside k → Walks w (i + 1) x s
-  pub rest : (u : ℕ) → u ≡ after st k → Walks w x j u
+  pub kids : (s : ℕ) → s ≡ stateInside k → Walks w (i + 1) x s
+  pub rest : (u : ℕ) → u ≡ stateAfter st k → Walks w x j u
   -- the text of a turn, part by part
-  pub parts : (src : List ℕ) (s u : ℕ) → s ≡ inside k → u ≡ after st k
-      → textOf src (flatAt w i j st) ≡ textOf src (opening st (rowAt w i)) ++ (textOf src (flatAt w (i + 1) x s) ++ (text (closeWords st k) ++ textOf src (flatAt w x j u)))
+  pub parts : (src : List ℕ) (s u : ℕ) → s ≡ stateInside k → u ≡ stateAfter st k
+      → textOf src (flatAt w i j st) ≡ textOf src (openTokens st (rowAt w i)) ++ (textOf src (flatAt w (i + 1) x s) ++ (text (closeWords st k) ++ textOf src (flatAt w x j u)))
 
 pub turn : (w : List ℕ) (i j st k x : ℕ) → k ≡ kindAt w i → x ≡ nextAt w i → nodeWidth * j ≤ length w → i < j → Walks w i j st → Turn w i j st k x
 turn w i j st k x kind next long more W =
@@ -68,10 +68,10 @@ turn w i j st k x kind next long more W =
       parts = λ src s u first then.
           let K : ℕ = kindAt w i in
           let z : ℕ = nextAt w i in
-          let A : List Flat = opening st (rowAt w i) in
-          let B : List Flat = flatAt w (i + 1) z (inside K) in
-          let C : List Flat = closing st K in
-          let D : List Flat = flatAt w z j (after st K) in
+          let A : List Flat = openTokens st (rowAt w i) in
+          let B : List Flat = flatAt w (i + 1) z (stateInside K) in
+          let C : List Flat = closeTokens st K in
+          let D : List Flat = flatAt w z j (stateAfter st K) in
           ap (textOf src) (flat-step w i j st (W .left) long here)
           ∙ text-of-append src A (B ++ (C ++ D))
           ∙ ap (λ (l : List ℕ). textOf src A ++ l) (text-of-append src B (C ++ D) ∙ ap (λ (l : List ℕ). textOf src B ++ l) (text-of-append src C D))

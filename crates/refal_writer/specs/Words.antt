@@ -13,7 +13,7 @@ use Rattle.refal_ast.specs.Kinds.{nodeIdentifier, nodeNumber, nodeChar, nodeVar
 use Rattle.refal_ast.specs.Flatten.{Flat, flatEntry}
 use Rattle.refal_tree.specs.Forest.{Row}
 use Rattle.refal_tree.specs.States.{termKind, atNames, atConditions, atCondition, atArgument}
-use Rattle.refal_tree.specs.FlattenRows.{pickF, opening, closing}
+use Rattle.refal_tree.specs.FlattenRows.{pickF, openTokens, closeTokens}
 use Rattle.refal_spelling.specs.Spell.{Spelled, spelled, textAt, views, text}
 
 -- a token that is its kind alone, and a name
@@ -73,22 +73,22 @@ views-entry : (src : List ℕ) (b : Bool) (x : List Flat) → views src (flatEnt
 views-entry src true x = refl
 views-entry src false x = refl
 
-views-closing : (src : List ℕ) (st kind : ℕ) → views src (closing st kind) ≡ closeWords st kind
+views-closing : (src : List ℕ) (st kind : ℕ) → views src (closeTokens st kind) ≡ closeWords st kind
 views-closing src st kind = simp views-pick
 
 -- k, d and w are the kind, the detail and the text of the row r, which stands in the state st
 module _ (src : List ℕ) (st : ℕ) (r : Row) (k d : ℕ) (w : List ℕ) (kind : k ≡ r .kind) (detail : d ≡ r .detail) (word : w ≡ textAt src (r .start) (r .len)) where
-  term-views : termKind (r .kind) ≡ true → views src (opening st r) ≡ termWords (r .kind) (r .detail) (textAt src (r .start) (r .len))
+  term-views : termKind (r .kind) ≡ true → views src (openTokens st r) ≡ termWords (r .kind) (r .detail) (textAt src (r .start) (r .len))
   term-views t = rw t (simp views-pick)
 
-  rest-views : termKind (r .kind) ≡ false → views src (opening st r) ≡ restWords st (r .kind) (r .detail) (textAt src (r .start) (r .len))
+  rest-views : termKind (r .kind) ≡ false → views src (openTokens st r) ≡ restWords st (r .kind) (r .detail) (textAt src (r .start) (r .len))
   rest-views t = rw t (simp (views-pick, views-entry))
 
-  pub term-text : termKind k ≡ true → text (termWords k d w) ≡ text (views src (opening st r))
+  pub term-text : termKind k ≡ true → text (termWords k d w) ≡ text (views src (openTokens st r))
   term-text t = rw (detail, word) (ap (λ (x : ℕ). text (termWords x (r .detail) (textAt src (r .start) (r .len)))) kind ∙ ap text (sym (term-views (ap termKind (sym kind) ∙ t))))
 
-  pub rest-text : termKind k ≡ false → text (restWords st k d w) ≡ text (views src (opening st r))
+  pub rest-text : termKind k ≡ false → text (restWords st k d w) ≡ text (views src (openTokens st r))
   rest-text t = rw (detail, word) (ap (λ (x : ℕ). text (restWords st x (r .detail) (textAt src (r .start) (r .len)))) kind ∙ ap text (sym (rest-views (ap termKind (sym kind) ∙ t))))
 
-pub close-text : (src : List ℕ) (st kind : ℕ) → text (closeWords st kind) ≡ text (views src (closing st kind))
+pub close-text : (src : List ℕ) (st kind : ℕ) → text (closeWords st kind) ≡ text (views src (closeTokens st kind))
 close-text src st kind = ap text (sym (views-closing src st kind))

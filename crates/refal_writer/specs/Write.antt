@@ -27,8 +27,8 @@ unfoldable pub written : List ℕ → List ℕ → List ℕ
 written w src = treeText src (treeOf mostLevels w)
 
 -- a text of n bytes fits into so many, and is not over 16,777,216
-abbrev pub fits : ℕ → ℕ → Bool
-fits n room = leb n room && leb n mostBytes
+abbrev pub textFits : ℕ → ℕ → Bool
+textFits n room = leb n room && leb n mostBytes
 
 -- a refusal that shows only what it needs
 abbrev pub refuse : ℕ → ℕ → Answer
@@ -39,7 +39,7 @@ unfoldable pub writeAnswer : List ℕ → List ℕ → List ℕ → Answer
 writeAnswer w src old =
     pickAnswer (not (lawful w)) (refuse 40 0)
     (pickAnswer (not (allSpelled src w)) (refuse 41 0)
-    (pickAnswer (fits (length (written w src)) (length old)) (Done (length (written w src)))
+    (pickAnswer (textFits (length (written w src)) (length old)) (Done (length (written w src)))
     (refuse 42 (length (written w src)))))
 
 -- on success the text, and behind it what was there; on refusal zeros

@@ -9,7 +9,7 @@ ghost use mathlib.Core.Path.{_≡_};
 ghost use Prim.Native.Nat.{_+_, _*_, _<_, _≤_};
 ghost use lib.ListN.{length};
 ghost use Rattle.refal_ast.specs.Nodes.{HasRow, nodeWidth, wordAt, colKind, colDetail};
-ghost use Rattle.refal_tree.specs.FlattenRows.{opening};
+ghost use Rattle.refal_tree.specs.FlattenRows.{openTokens};
 ghost use Rattle.refal_tree.specs.Ranges.{rowAt};
 ghost use Rattle.refal_tree.specs.Walk.{flatAt};
 ghost use Rattle.refal_writer.specs.Puts.{Puts};
@@ -21,7 +21,7 @@ ghost use Rattle.refal_ast.specs.Limits.{mostRows};
 // What stands before the children of row i.
 fn open_row(tree: &[u32], src: &[u8], i: usize, st: u32, out: &mut [u8]) -> usize
     requires { ⌜ HasRow (now tree) i × (wordAt (now tree) i colKind ≡ nodeVariable → wordAt (now tree) i colDetail < 256) ⌝ }
-    ensures { λ r. ⌜ Puts (textOf (now (src .entry)) (opening st (rowAt (now (tree .entry)) i))) r (now (out .entry)) (now (out .exit)) × (r ≤ 4294967312) ⌝ }
+    ensures { λ r. ⌜ Puts (textOf (now (src .entry)) (openTokens st (rowAt (now (tree .entry)) i))) r (now (out .entry)) (now (out .exit)) × (r ≤ 4294967312) ⌝ }
 {
     let kind = nodes::kind(tree, i);
     let detail = nodes::detail(tree, i);
