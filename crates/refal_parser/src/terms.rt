@@ -56,9 +56,9 @@ fn term_of(kind: u32, detail: u32, start: u32, len: u32) -> Term
 {
     match kind {
         token::IDENTIFIER => Term::Symbol(Symbol::Identifier { start, len }),
+        token::VARIABLE => variable_of(detail, start, len),
         token::NUMBER => Term::Symbol(Symbol::Number { start, len }),
         token::CHAR => Term::Symbol(Symbol::Char(detail)),
-        token::VARIABLE => variable_of(detail, start, len),
         token::LPAREN => Term::Bracket,
         token::LANGLE => Term::Call,
         _ => Term::NoTerm,

@@ -131,8 +131,8 @@ bracket-returns-2 t c = let w = c .before .before .before .before .before .befor
     let at₀ = c .before .before .before .before .before .before .before .before .before .args .at in
     let left₀ = c .before .before .before .before .before .before .before .before .before .args .left in
     let pre₀ = c .before .before .before .before .before .before .before .before .before .pre .1 in
-    is-no (c .enum-told .given .1) (λ x f. bracket-open _ _ (pre₀ .0) _ x f (pre₀ .2) (c .before .before .before .before .before .before .if1 .left)
-    ∙ c .before .before .before .before .until .ensures .no _ _ _ _ _ (c .enum-told .given .1) (inBracket x f (getD w (at₀ + 4) 0)) (λ (g : Terms) (e : ℕ). within (suc (left₀ - 1)) x (tMore f (theBracket (getD w (at₀ + 4) 0) g e))) (λ h t y z. refl))
+    is-no (c .enum-told .given .1) (λ x f p. bracket-open _ _ (pre₀ .0) _ x f (pre₀ .2) (c .before .before .before .before .before .before .if1 .left) p
+    ∙ c .before .before .before .before .until .ensures .no _ _ _ _ _ (c .enum-told .given .1) (inBracket x f (getD w (at₀ + 4) 0)) (λ (g : Terms) (a e : ℕ). within (suc (left₀ - 1)) x (tMore f (theBracket (getD w (at₀ + 4) 0) g e))) (λ h t y z. refl) p)
 
 bracket-span-from-requires : (t : ℕ) → bracket-lts.Need-span-from-requires (bracket-claims t) (bracket-at t) bracket.Post
 bracket-span-from-requires t c κs = let pre₀ = c .before .before .before .before .before .before .before .before .before .before .pre .1 in
@@ -163,10 +163,11 @@ bracket-returns-3 t c = let w = c .before .before .before .before .before .befor
       few = U .few;
       rows = whole-bracket _ _ _ (U .g) (U .count) _ (let h = U .rows in let l = U .closed .last in cc);
       count = size-bracket _ _ _ (U .g) (U .count);
+      first = refl;
       last = U .closed .last;
-      means = λ x f. bracket-open _ _ (pre₀ .0) _ x f (pre₀ .2) (c .before .before .before .before .before .before .before .before .before .before .before .before .before .if1 .left)
-          ∙ U .closed .means (inBracket x f (getD w (at₀ + 4) 0)) (λ (g : Terms) (e : ℕ). within (suc (left₀ - 1)) x (tMore f (theBracket (getD w (at₀ + 4) 0) g e))) (λ h t y z. refl)
-          ∙ leveled w j₁ left₀ (λ (d : ℕ). within d x (tMore f (theBracket (getD w (at₀ + 4) 0) (U .g) (U .closed .e)))) (c .before .before .before .before .before .before .before .before .before .before .before .before .before .if1 .left);
+      means = λ x f p. bracket-open _ _ (pre₀ .0) _ x f (pre₀ .2) (c .before .before .before .before .before .before .before .before .before .before .before .before .before .if1 .left) p
+          ∙ U .closed .means (inBracket x f (getD w (at₀ + 4) 0)) (λ (g : Terms) (a e : ℕ). within (suc (left₀ - 1)) x (tMore f (theBracket (getD w (at₀ + 4) 0) g e))) (λ h t y z. refl) p
+          ∙ leveled w j₁ left₀ (λ (d : ℕ). within d x (tMore f (theBracket (getD w (at₀ + 4) 0) (U .g) (U .closed .e)))) (c .before .before .before .before .before .before .before .before .before .before .before .before .before .if1 .left) p;
     })
 
 call-present-requires : (t : ℕ) → call-lts.Need-present-requires (call-claims t) (call-at t) call.Post
@@ -190,8 +191,8 @@ call-taken-requires t c κs = let pre₀ = c .before .before .before .before .be
 
 call-returns-2 : (t : ℕ) → call-lts.Need-returns-2 (call-claims t) (call-at t) call.Post
 call-returns-2 t c = let pre₀ = c .before .before .before .before .before .before .pre .1 in
-    is-no (c .taken .ensures) (λ x f. call-open _ _ (pre₀ .0) _ x f (pre₀ .2) (c .before .before .before .if1 .left)
-    ∙ call-nameless _ _ (ready-term _ _ _ (pre₀ .0) (pre₀ .2) refl) _ x f _ (λ e. c .before .if2 .taken (c .before .before .kind .ensures ∙ e)))
+    is-no (c .taken .ensures) (λ x f p. call-open _ _ (pre₀ .0) _ x f (pre₀ .2) (c .before .before .before .if1 .left) p
+    ∙ call-nameless _ _ (ready-term _ _ _ (pre₀ .0) (pre₀ .2) refl) _ x f _ (λ e. c .before .if2 .taken (c .before .before .kind .ensures ∙ e)) p)
 
 call-add-body : (t : ℕ) → call-lts.Need-add-body (call-claims t) (call-at t) call.Post
 call-add-body t c = let pre₀ = c .before .before .before .before .before .pre .1 in
@@ -227,9 +228,9 @@ call-returns-3 t c = let w = c .before .before .before .before .before .before .
     let left₀ = c .before .before .before .before .before .before .before .before .before .before .before .args .left in
     let pre₀ = c .before .before .before .before .before .before .before .before .before .before .before .pre .1 in
     let k₃ : getD w (at₀ + 6) 0 ≡ 3 = sym (c .before .before .before .before .before .before .before .kind .ensures) ∙ c .before .before .before .before .before .before .if2 .left in
-    is-no (c .enum-told .given .1) (λ x f. call-open _ _ (pre₀ .0) _ x f (pre₀ .2) (c .before .before .before .before .before .before .before .before .if1 .left)
-    ∙ call-name _ _ (ready-term _ _ _ (pre₀ .0) (pre₀ .2) refl) _ x f _ k₃
-    ∙ c .before .before .before .before .until .ensures .no _ _ _ _ _ (c .enum-told .given .1) (inCall x f (getD w (at₀ + 4) 0) (getD w (at₀ + 6 + 2) 0) (getD w (at₀ + 6 + 3) 0)) (λ (g : Terms) (e : ℕ). within (suc (left₀ - 1)) x (tMore f (theCall (getD w (at₀ + 4) 0) (getD w (at₀ + 6 + 2) 0) (getD w (at₀ + 6 + 3) 0) g e))) (λ h t y z. refl))
+    is-no (c .enum-told .given .1) (λ x f p. call-open _ _ (pre₀ .0) _ x f (pre₀ .2) (c .before .before .before .before .before .before .before .before .if1 .left) p
+    ∙ call-name _ _ (ready-term _ _ _ (pre₀ .0) (pre₀ .2) refl) _ x f _ k₃ p
+    ∙ c .before .before .before .before .until .ensures .no _ _ _ _ _ (c .enum-told .given .1) (inCall x f (getD w (at₀ + 4) 0) (getD w (at₀ + 6 + 2) 0) (getD w (at₀ + 6 + 3) 0)) (λ (g : Terms) (a e : ℕ). within (suc (left₀ - 1)) x (tMore f (theCall (getD w (at₀ + 4) 0) (getD w (at₀ + 6 + 2) 0) (getD w (at₀ + 6 + 3) 0) g e))) (λ h t y z. refl) p)
 
 call-text-start-requires : (t : ℕ) → call-lts.Need-text-start-requires (call-claims t) (call-at t) call.Post
 call-text-start-requires t c κs = let pre₀ = c .before .before .before .before .before .before .before .before .before .before .before .before .pre .1 in
@@ -269,11 +270,12 @@ call-returns-4 t c = let w = c .before .before .before .before .before .before .
       few = U .few;
       rows = whole-call _ _ _ (U .g) (U .count) _ _ _ (let h = U .rows in let l = U .closed .last in cc);
       count = size-call _ _ _ (U .g) (U .count) _ _;
+      first = refl;
       last = U .closed .last;
-      means = λ x f. call-open _ _ (pre₀ .0) _ x f (pre₀ .2) (c .before .before .before .before .before .before .before .before .before .before .before .before .before .before .before .before .before .if1 .left)
-          ∙ call-name _ _ (ready-term _ _ _ (pre₀ .0) (pre₀ .2) refl) _ x f _ k₃
-          ∙ U .closed .means (inCall x f (getD w (at₀ + 4) 0) (getD w (at₀ + 6 + 2) 0) (getD w (at₀ + 6 + 3) 0)) (λ (g : Terms) (e : ℕ). within (suc (left₀ - 1)) x (tMore f (theCall (getD w (at₀ + 4) 0) (getD w (at₀ + 6 + 2) 0) (getD w (at₀ + 6 + 3) 0) g e))) (λ h t y z. refl)
-          ∙ leveled w j₁ left₀ (λ (d : ℕ). within d x (tMore f (theCall (getD w (at₀ + 4) 0) (getD w (at₀ + 6 + 2) 0) (getD w (at₀ + 6 + 3) 0) (U .g) (U .closed .e)))) (c .before .before .before .before .before .before .before .before .before .before .before .before .before .before .before .before .before .if1 .left);
+      means = λ x f p. call-open _ _ (pre₀ .0) _ x f (pre₀ .2) (c .before .before .before .before .before .before .before .before .before .before .before .before .before .before .before .before .before .if1 .left) p
+          ∙ call-name _ _ (ready-term _ _ _ (pre₀ .0) (pre₀ .2) refl) _ x f _ k₃ p
+          ∙ U .closed .means (inCall x f (getD w (at₀ + 4) 0) (getD w (at₀ + 6 + 2) 0) (getD w (at₀ + 6 + 3) 0)) (λ (g : Terms) (a e : ℕ). within (suc (left₀ - 1)) x (tMore f (theCall (getD w (at₀ + 4) 0) (getD w (at₀ + 6 + 2) 0) (getD w (at₀ + 6 + 3) 0) g e))) (λ h t y z. refl) p
+          ∙ leveled w j₁ left₀ (λ (d : ℕ). within d x (tMore f (theCall (getD w (at₀ + 4) 0) (getD w (at₀ + 6 + 2) 0) (getD w (at₀ + 6 + 3) 0) (U .g) (U .closed .e)))) (c .before .before .before .before .before .before .before .before .before .before .before .before .before .before .before .before .before .if1 .left) p;
     })
 
 abbrev terms-Inv-loop : terms-lts.InvT-loop
@@ -285,7 +287,7 @@ terms-μ-loop tokens rows₀ at n left i₀ m₀ rows i m = length tokens - i
 terms-loop-holds : (t : ℕ) → terms-lts.Need-loop-holds (terms-claims t) (terms-at t) terms.Post terms-Inv-loop terms-μ-loop
 unfolding sizeT wT
 terms-loop-holds t c = let pre₀ = c .before .before .pre .1 in
-    record { g = t0; ready = pre₀ .0; on = omega arith; few = omega arith; same = refl; rows = refl; count = omega arith; last = refl; means = λ x. refl }
+    record { g = t0; ready = pre₀ .0; on = omega arith; few = omega arith; same = refl; rows = refl; count = omega arith; first = refl; last = refl; means = λ x p. refl }
 
 terms-leaves-requires : (t : ℕ) → terms-lts.Need-leaves-requires (terms-claims t) (terms-at t) terms.Post terms-Inv-loop terms-μ-loop
 terms-leaves-requires t c κs = (c .before .loop .inv .ready, c .before .loop .inv .few)
@@ -360,7 +362,7 @@ terms-same-length t c = search needs
 
 terms-returns : (t : ℕ) → terms-lts.Need-returns (terms-claims t) (terms-at t) terms.Post terms-Inv-loop terms-μ-loop
 terms-returns t c = let I = c .before .before .before .before .before .before .before .before .before .before .before .leaves .ensures .more _ _ _ _ (c .before .before .before .before .before .before .before .before .before .before .before .before .before .loop .inv) in
-    is-no (c .enum-told2 .given .1) (λ x. I .means x ∙ c .before .before .before .before .bracket .ensures .no _ _ _ _ _ (c .enum-told2 .given .1) x (I .g))
+    is-no (c .enum-told2 .given .1) (λ x p. I .means x p ∙ c .before .before .before .before .bracket .ensures .no _ _ _ _ _ (c .enum-told2 .given .1) x (I .g) p)
 
 terms-loop-less-3 : (t : ℕ) → terms-lts.Need-loop-less-3 (terms-claims t) (terms-at t) terms.Post terms-Inv-loop terms-μ-loop
 terms-loop-less-3 t c = let L = c .before .before .before .before .before .before .before .before .before .before .before .before .leaves .ensures in let o = L .on in let b = c .before .before .before .before .before .bracket .ensures .at _ _ (c .before .r .given .1) in let R = b .ready in let h = b .on in omega arith
@@ -385,7 +387,7 @@ terms-same-length-2 t c = search needs
 
 terms-returns-2 : (t : ℕ) → terms-lts.Need-returns-2 (terms-claims t) (terms-at t) terms.Post terms-Inv-loop terms-μ-loop
 terms-returns-2 t c = let I = c .before .before .before .before .before .before .before .before .before .before .before .leaves .ensures .more _ _ _ _ (c .before .before .before .before .before .before .before .before .before .before .before .before .before .loop .inv) in
-    is-no (c .enum-told4 .given .1) (λ x. I .means x ∙ c .before .before .before .before .call .ensures .no _ _ _ _ _ (c .enum-told4 .given .1) x (I .g))
+    is-no (c .enum-told4 .given .1) (λ x p. I .means x p ∙ c .before .before .before .before .call .ensures .no _ _ _ _ _ (c .enum-told4 .given .1) x (I .g) p)
 
 terms-loop-less-4 : (t : ℕ) → terms-lts.Need-loop-less-4 (terms-claims t) (terms-at t) terms.Post terms-Inv-loop terms-μ-loop
 terms-loop-less-4 t c = let L = c .before .before .before .before .before .before .before .before .before .before .before .before .leaves .ensures in let o = L .on in let b = c .before .before .before .before .before .call .ensures .at _ _ (c .before .r2 .given .1) in let R = b .ready in let h = b .on in omega arith
@@ -404,7 +406,7 @@ terms-same-length-3 t c = search needs
 
 terms-returns-3 : (t : ℕ) → terms-lts.Need-returns-3 (terms-claims t) (terms-at t) terms.Post terms-Inv-loop terms-μ-loop
 terms-returns-3 t c = let I = c .before .before .before .before .before .before .leaves .ensures .more _ _ _ _ (c .before .before .before .before .before .before .before .before .loop .inv) in
-    is-no (c .taken .ensures) (λ x. I .means x ∙ term-step _ _ (I .ready) _ x (I .g) _ (sym (c .before .before .before .term-at .ensures) ∙ c .before .enum-told5 .given .1))
+    is-no (c .taken .ensures) (λ x p. I .means x p ∙ term-step _ _ (I .ready) _ x (I .g) _ (sym (c .before .before .before .term-at .ensures) ∙ c .before .enum-told5 .given .1) p)
 
 terms-enum-told-6 : (t : ℕ) → terms-lts.Need-enum-told-6 (terms-claims t) (terms-at t) terms.Post terms-Inv-loop terms-μ-loop
 terms-enum-told-6 t c = search needs
@@ -422,6 +424,7 @@ terms-returns-4 t c = let I = c .before .before .before .before .before .leaves 
       few = I .few;
       rows = I .rows;
       count = I .count;
+      first = I .first;
       last = I .last;
       means = I .means;
     })
@@ -459,21 +462,23 @@ until-returns-2 t c = let w = c .before .before .before .before .before .before 
           record {
             g = T .g;
             closed = record {
+              a = getD w (j₁ + 4) 0;
               e = getD w (j₁ + 5) 0;
               ready = K .ready;
               on = let a = T .on in let b = K .next in omega arith;
+              first = T .first;
               last = K .last;
-              means = λ x st h. T .means x ∙ term-step _ _ (T .ready) _ x (T .g) NoTerm (T .none)
-                  ∙ ap (λ (y : Step). after w j₁ y) (h (T .g) (tok w j₁) (afterFrom w j₁) (afterTo w j₁))
-                  ∙ K .means (st (T .g) (getD w (j₁ + 5) 0));
+              means = λ x st h p. T .means x p ∙ term-step _ _ (T .ready) _ x (T .g) NoTerm (T .none) p
+                  ∙ ap (λ (y : Step). after w j₁ p y) (h (T .g) (tok w j₁) (afterFrom w j₁) (afterTo w j₁))
+                  ∙ K .means (st (T .g) (getD w (j₁ + 4) 0) (getD w (j₁ + 5) 0)) p;
             };
             few = let a = T .few in let b = K .next in let d = K .rows in omega arith;
             rows = T .rows;
             count = K .rows ∙ T .count;
           };
-      no = λ a b k d e q. λ x st h. T .means x ∙ term-step _ _ (T .ready) _ x (T .g) NoTerm (T .none)
-          ∙ ap (λ (y : Step). after w j₁ y) (h (T .g) (tok w j₁) (afterFrom w j₁) (afterTo w j₁))
-          ∙ c .closes .ensures .no a b k d e q (st (T .g) (getD w (j₁ + 5) 0));
+      no = λ a b k d e q. λ x st h p. T .means x p ∙ term-step _ _ (T .ready) _ x (T .g) NoTerm (T .none) p
+          ∙ ap (λ (y : Step). after w j₁ p y) (h (T .g) (tok w j₁) (afterFrom w j₁) (afterTo w j₁))
+          ∙ c .closes .ensures .no a b k d e q (st (T .g) (getD w (j₁ + 4) 0) (getD w (j₁ + 5) 0)) p;
     }
 
 pub +bracket+call+terms+until-spec : {M : Type 1} → statement M
