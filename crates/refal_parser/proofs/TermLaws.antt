@@ -8,7 +8,8 @@ use Rattle.refal_ast.specs.Tree.{Leaf, symbol, variable, leaf, Terms, tMore, Pr
 use Rattle.refal_ast.specs.Encode.{leafRow}
 use Rattle.refal_parser.specs.Machine.{Place, within, inTerms, firstStart}
 use Rattle.refal_parser.specs.Ready.{tok, termAt, afterFrom, afterTo, Ready}
-use Rattle.refal_parser.specs.Leaves.{leafTerm}
+use Rattle.refal_ast.specs.declared.tree.Term.{Term}
+use Rattle.refal_ast.specs.declared.tree.Term.the-variants.{Symbol as theSymbol, Variable}
 use Rattle.refal_parser.specs.Writers.{putNode, wTerm}
 use Rattle.refal_parser.specs.Post.{runs, after}
 use Rattle.refal_parser.specs.PostTerms.{TermGot, TermsInv}
@@ -17,6 +18,11 @@ use Rattle.refal_parser.proofs.Rows.{more-terms, size-terms}
 use Rattle.refal_parser.proofs.Steps.{begins, ready-term, term-step}
 
 -- ---- the machine at a leaf
+-- what a token that is a leaf begins
+abbrev pub leafTerm : Leaf → Term
+leafTerm (symbol z) = theSymbol z
+leafTerm (variable v s l) = Variable v s l
+
 leaf-begins : (x : Leaf) → begins (leafTerm x) ≡ 1
 leaf-begins (symbol z) = refl
 leaf-begins (variable v s l) = refl

@@ -45,14 +45,6 @@ pub record TermsInv (w B B' : List ℕ) (at n left i m : ℕ) : Type 0 where
   pub last : lastEnd g (endBefore w at) ≡ endBefore w i
   pub means : (c : Place) → Same w at (within left c t0) i (within left c g)
 
--- leaves, whose rows begin at row n: terms that reach up to them reach past them
-pub record LeavesPost (w B B' : List ℕ) (at n i m : ℕ) : Type 0 where
-  pub ready : Ready w i
-  pub on : at ≤ i
-  pub few : m ≤ i + 2
-  pub same : length B' ≡ length B
-  pub more : (B₀ : List ℕ) (at₀ n₀ left : ℕ) → TermsInv w B₀ B at₀ n₀ left at n → TermsInv w B₀ B' at₀ n₀ left i m
-
 -- ---- the kind that closes terms
 abbrev pub Closing : List ℕ → ℕ → ℕ → State → Program → Outcome
 Closing w at want st p = after w at p (closing want (only want st) (tok w at) (afterFrom w at) (afterTo w at))

@@ -8,7 +8,6 @@ ghost use Rattle.refal_parser.specs.PostTerms.{ClausePost, ClosesPost, F
 use crate::answers::Got;
 use crate::answers::present;
 use crate::answers::taken;
-use crate::leaves::leaves;
 use crate::nodes::put_node;
 use crate::nodes::put_span;
 use crate::nodes::put_symbol;
@@ -100,10 +99,6 @@ fn terms(tokens: &[u32], rows: &mut [u32], at: usize, n: usize, left: usize) -> 
     let mut i = at;
     let mut m = n;
     loop {
-        // `leaves` promises that what it passed is right, not that it passed all: the arms below take any term.
-        let past = leaves(tokens, rows, i, m);
-        i = past.at;
-        m = past.row;
         let t = term_at(tokens, i);
         match t {
             Term::Symbol(s) => {
