@@ -6,15 +6,12 @@ use borrow.Author.Tests.{ne-eqb}
 use Rattle.refal_ast.specs.Kinds.{tokIdentifier, tokVariable, tokNumber, tokChar, tokLBrace, tokRBrace, tokLParen, tokRParen}
 use Rattle.refal_ast.specs.Kinds.{tokLAngle, tokRAngle, tokComma, tokColon, tokEof}
 use Rattle.refal_ast.specs.Tokens.{Token, token}
-use Rattle.refal_ast.specs.Tree.{Leaf, symbol, variable, Term, leaf, bracket, call, Terms, t0, tMore, condition, Conditions, c0, cMore, Sentences}
+use Rattle.refal_ast.specs.Tree.{Leaf, symbol, variable, Term, leaf, bracket, call, Terms, t0, tMore, condition, Conditions, c0, cMore, Sentences, Program}
 use Rattle.refal_ast.specs.Flatten.{Flat, mark, nameOf, flatsOf, flatLeaf}
 use Rattle.refal_ast.specs.declared.tree.Symbol.the-variants.{Char, Identifier, Number}
-use Rattle.refal_parser.specs.Machine.{Block, Place, pattern, matching, result}
-use Rattle.refal_parser.specs.Machine.{State, between, within}
-use Rattle.refal_parser.specs.Machine.{matched, equated, Step, nextFrom, nextTo}
+use Rattle.refal_parser.specs.Machine.{Begun, Argument, Block, Place, pattern, matching, result, State, between, within, matched, equated, Step, step, nextFrom, nextTo, run}
 use Rattle.refal_demands.proofs.Flats.{flatTerm, flatT, flatRight, flatC}
-use Rattle.refal_demands.proofs.Levels.{stepAt, runAt}
-use Rattle.refal_demands.proofs.Eat.{afterwards, first, made}
+use Rattle.refal_demands.proofs.Eat.{runAt, afterwards, first, made}
 
 -- a kind that is neither n nor m
 abbrev pub Not : ℕ → ℕ → ℕ → Type 0
@@ -61,27 +58,27 @@ pub begins-head : (cs : Conditions) (f : Terms) (n m : ℕ) (c : Flat) (r : List
 begins-head cs f n m c r u v h = begins f n m (flatC cs (c ∷ r)) u (begins-conditions cs n m c r v h)
 
 -- a state that does as terms in the place `at a` do, at a token that starts at a and is of neither of two kinds
-pub enter : (L : ℕ) (n m : ℕ) (ts : List Token) (l : List Flat) (d : ℕ) (st : State) (at : ℕ → Place)
-    → ((t : Token) (x y : ℕ) → Not n m (t .kind) → stepAt L st t x y ≡ stepAt L (within d (at (t .from)) t0) t x y) → Begins n m l → flatsOf ts ≡ l
-    → (a : ℕ) × (runAt L ts st ≡ runAt L ts (within d (at a) t0))
-unfolding runAt
-enter L n m ts l d st at u B e =
+pub enter : (L : ℕ) (p : Program) (n m : ℕ) (ts : List Token) (l : List Flat) (d : ℕ) (st : State) (at : ℕ → Place)
+    → ((t : Token) (x y : ℕ) → Not n m (t .kind) → step L st t x y ≡ step L (within d (at (t .from)) t0) t x y) → Begins n m l → flatsOf ts ≡ l
+    → (a : ℕ) × (runAt L p ts st ≡ runAt L p ts (within d (at a) t0))
+unfolding run
+enter L p n m ts l d st at u B e =
     let h = first ts (B .c) (B .r) (e ∙ B .is) in
     let t = made (B .c) (h .a) (h .b) in (
       h .a,
-      ap (λ (z : List Token). runAt L z st) (h .is)
-          ∙ ap (λ (z : Step). afterwards L (h .rest) z) (u t (nextFrom t (h .rest)) (nextTo t (h .rest)) (B .starts))
-          ∙ ap (λ (z : List Token). runAt L z (within d (at (h .a)) t0)) (sym (h .is)),
+      ap (λ (z : List Token). runAt L p z st) (h .is)
+          ∙ ap (λ (z : Step). afterwards L p (h .rest) z) (u t (nextFrom t (h .rest)) (nextTo t (h .rest)) (B .starts))
+          ∙ ap (λ (z : List Token). runAt L p z (within d (at (h .a)) t0)) (sym (h .is)),
     )
 
-pub enters-pattern : (L d : ℕ) (b : Block) (s : Sentences) (t : Token) (x y : ℕ) → Not tokRBrace tokEof (t .kind)
-    → stepAt L (between d b s) t x y ≡ stepAt L (within d (pattern b s (t .from)) t0) t x y
+pub enters-pattern : (L : ℕ) (d : ℕ) (b : Block) (s : Sentences) (t : Token) (x y : ℕ) → Not tokRBrace tokEof (t .kind)
+    → step L (between d b s) t x y ≡ step L (within d (pattern b s (t .from)) t0) t x y
 enters-pattern L d b s t x y h = rw (ne-eqb (t .kind) tokRBrace (h .0), ne-eqb (t .kind) tokEof (h .1)) refl
 
-pub enters-matching : (L d : ℕ) (b : Block) (s : Sentences) (st : ℕ) (f : Terms) (cs : Conditions) (o : ℕ) (g : Terms) (e : ℕ) (t : Token) (x y : ℕ)
-    → Not tokLBrace tokLBrace (t .kind) → stepAt L (matched d b s st f cs o g e) t x y ≡ stepAt L (within d (matching b s st f cs o g e) t0) t x y
-enters-matching L d b s st f cs o g e t x y h = rw (ne-eqb (t .kind) tokLBrace (h .0)) refl
+pub enters-matching : (L : ℕ) (d : ℕ) (b : Block) (s : Begun) (o : ℕ) (g : Argument) (t : Token) (x y : ℕ)
+    → Not tokLBrace tokLBrace (t .kind) → step L (matched d b s o g) t x y ≡ step L (within d (matching b s o g) t0) t x y
+enters-matching L d b s o g t x y h = rw (ne-eqb (t .kind) tokLBrace (h .0)) refl
 
-pub enters-result : (L d : ℕ) (b : Block) (s : Sentences) (st : ℕ) (f : Terms) (cs : Conditions) (t : Token) (x y : ℕ)
-    → Not tokComma tokComma (t .kind) → stepAt L (equated d b s st f cs) t x y ≡ stepAt L (within d (result b s st f cs) t0) t x y
-enters-result L d b s st f cs t x y h = rw (ne-eqb (t .kind) tokComma (h .0)) refl
+pub enters-result : (L : ℕ) (d : ℕ) (b : Block) (s : Begun) (t : Token) (x y : ℕ)
+    → Not tokComma tokComma (t .kind) → step L (equated d b s) t x y ≡ step L (within d (result b s) t0) t x y
+enters-result L d b s t x y h = rw (ne-eqb (t .kind) tokComma (h .0)) refl

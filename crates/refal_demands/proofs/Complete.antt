@@ -11,34 +11,63 @@ use Rattle.refal_ast.specs.Tree.{Sentences}
 use Rattle.refal_ast.specs.Tree.{Names, nOne, nMore, Item, declaration, function, Program, p0, pMore, depthItem, depthP}
 use Rattle.refal_ast.specs.Flatten.{Flat, mark, nameOf, flatsOf, flatEntry, flattenItem}
 use Rattle.refal_ast.specs.Flatten.{Loose, loose-none, loose-semicolon, loose-item}
-use Rattle.refal_parser.specs.Machine.{body}
-use Rattle.refal_parser.specs.Machine.{items, wantsName, wantsMore, named, entered, headed, between}
-use Rattle.refal_parser.specs.Machine.{tree}
+use Rattle.refal_parser.specs.Machine.{Heading, body, outside, wantsName, wantsMore, named, entered, headed, between, tree, run}
 use Rattle.refal_demands.proofs.Flats.{flatS, flatN, flatItem, flatItem-is}
-use Rattle.refal_demands.proofs.Levels.{runAt}
 use Rattle.refal_demands.proofs.Respan.{respanP, eraseItem, eraseP}
-use Rattle.refal_demands.proofs.Eat.{eat}
+use Rattle.refal_demands.proofs.Eat.{runAt, eat}
 use Rattle.refal_demands.proofs.ReadsSentences.{readsS, useS}
 
 -- ---- names, which have no spans
-record ReadsN (L : ℕ) (ts : List Token) (p : Program) (a : ℕ) (ns : Names) (r : List Flat) : Type 0 where
+record ReadsN (L : ℕ) (p : Program) (ts : List Token) (a : ℕ) (ns : Names) (r : List Flat) : Type 0 where
   rest : List Token
   after : flatsOf rest ≡ r
-  means : runAt L ts (wantsName p a) ≡ runAt L rest (named p a ns)
+  means : runAt L p ts (wantsName a) ≡ runAt L p rest (named a ns)
 
-useN : {L : ℕ} {ts : List Token} {p : Program} {a : ℕ} {ns : Names} {r : List Flat} {A : Type 0} → ReadsN L ts p a ns r
-    → ((rest : List Token) → flatsOf rest ≡ r → runAt L ts (wantsName p a) ≡ runAt L rest (named p a ns) → A)
+useN : {L : ℕ} {p : Program} {ts : List Token} {a : ℕ} {ns : Names} {r : List Flat} {A : Type 0} → ReadsN L p ts a ns r
+    → ((rest : List Token) → flatsOf rest ≡ r → runAt L p ts (wantsName a) ≡ runAt L p rest (named a ns) → A)
     → A
 useN R k = k (R .rest) (R .after) (R .means)
 
-readsN : (ns : Names) (L : ℕ) (ts : List Token) (p : Program) (a : ℕ) (r : List Flat) → flatsOf ts ≡ flatN ns r → ReadsN L ts p a ns r
+readsN : (ns : Names) (L : ℕ) (p : Program) (ts : List Token) (a : ℕ) (r : List Flat) → flatsOf ts ≡ flatN ns r → ReadsN L p ts a ns r
 unfolding flatN
-readsN (nOne s l) L ts p a r e = eat L ts (nameOf s l) r (wantsName p a) e (λ a₁ b₁ ts₁ k₁ e₁. record { rest = ts₁; after = k₁; means = e₁ })
-readsN (nMore ns s l) L ts p a r e =
-    let R = readsN ns L ts p a (mark tokComma ∷ nameOf s l ∷ r) e in
-    eat L (R .rest) (mark tokComma) (nameOf s l ∷ r) (named p a ns) (R .after) (λ a₁ b₁ ts₁ k₁ e₁.
-    eat L ts₁ (nameOf s l) r (wantsMore p a ns) k₁ (λ a₂ b₂ ts₂ k₂ e₂.
+readsN (nOne s l) L p ts a r e = eat L p ts (nameOf s l) r (wantsName a) e (λ a₁ b₁ ts₁ k₁ e₁. record { rest = ts₁; after = k₁; means = e₁ })
+readsN (nMore ns s l) L p ts a r e =
+    let R = readsN ns L p ts a (mark tokComma ∷ nameOf s l ∷ r) e in
+    eat L p (R .rest) (mark tokComma) (nameOf s l ∷ r) (named a ns) (R .after) (λ a₁ b₁ ts₁ k₁ e₁.
+    eat L p ts₁ (nameOf s l) r (wantsMore a ns) k₁ (λ a₂ b₂ ts₂ k₂ e₂.
     record { rest = ts₂; after = k₂; means = R .means ∙ e₁ ∙ e₂ }))
+
+-- ---- items
+-- a function's head: Entry where it is an entry, and its name
+reads-head : {A : Type 0} (x : Bool) (L : ℕ) (p : Program) (ts : List Token) (m n : ℕ) (r : List Flat) → flatsOf ts ≡ flatEntry x ++ (nameOf m n ∷ r)
+    → ((a : ℕ) (rest : List Token) → flatsOf rest ≡ r → runAt L p ts outside ≡ runAt L p rest (headed (record { from = a; entry = x; start = m; len = n })) → A)
+    → A
+reads-head true L p ts m n r e k =
+    eat L p ts (mark tokEntry) (nameOf m n ∷ r) outside e (λ a₁ b₁ ts₁ k₁ e₁.
+    eat L p ts₁ (nameOf m n) r (entered a₁) k₁ (λ a₂ b₂ ts₂ k₂ e₂. k a₁ ts₂ k₂ (e₁ ∙ e₂)))
+reads-head false L p ts m n r e k = eat L p ts (nameOf m n) r outside e (λ a₁ b₁ ts₁ k₁ e₁. k a₁ ts₁ k₁ e₁)
+
+-- an item after the items p
+record ReadsI (L : ℕ) (p : Program) (ts : List Token) (x : Item) (r : List Flat) : Type 0 where
+  y : Item
+  rest : List Token
+  same : eraseItem y ≡ eraseItem x
+  after : flatsOf rest ≡ r
+  means : runAt L p ts outside ≡ runAt L (pMore p y) rest outside
+
+readsI : (x : Item) (L : ℕ) (p : Program) (ts : List Token) (r : List Flat) → depthItem x ≤ L → flatsOf ts ≡ flatItem x r → ReadsI L p ts x r
+readsI (declaration a ns b) L p ts r l e =
+    eat L p ts (mark tokExtern) (flatN ns (mark tokSemicolon ∷ r)) outside e (λ a₁ b₁ ts₁ k₁ e₁.
+    useN (readsN ns L p ts₁ a₁ (mark tokSemicolon ∷ r) k₁) (λ ts₂ k₂ e₂.
+    eat L p ts₂ (mark tokSemicolon) r (named a₁ ns) k₂ (λ a₃ b₃ ts₃ k₃ e₃.
+    record { y = declaration a₁ ns b₃; rest = ts₃; same = refl; after = k₃; means = e₁ ∙ e₂ ∙ e₃ })))
+readsI (function a x m n v b) L p ts r l e =
+    reads-head x L p ts m n (mark tokLBrace ∷ flatS v (mark tokRBrace ∷ r)) e (λ a₀ ts₀ k₀ e₀.
+    let h : Heading = record { from = a₀; entry = x; start = m; len = n } in
+    eat L p ts₀ (mark tokLBrace) (flatS v (mark tokRBrace ∷ r)) (headed h) k₀ (λ a₁ b₁ ts₁ k₁ e₁.
+    useS (readsS v L p ts₁ L (body h) (mark tokRBrace ∷ r) l k₁) (λ v₂ ts₂ m₂ k₂ e₂.
+    eat L p ts₂ (mark tokRBrace) r (between L (body h) v₂) k₂ (λ a₃ b₃ ts₃ k₃ e₃.
+    record { y = function a₀ x m n v₂ b₃; rest = ts₃; same = ap (λ (y : Sentences). function 0 x m n y 0) m₂; after = k₃; means = e₀ ∙ e₁ ∙ e₂ ∙ e₃ }))))
 
 -- ---- programs
 record ReadsP (L : ℕ) (ts : List Token) (s : Program) (r : List Flat) : Type 0 where
@@ -46,52 +75,22 @@ record ReadsP (L : ℕ) (ts : List Token) (s : Program) (r : List Flat) : Type 0
   rest : List Token
   same : eraseP t ≡ eraseP s
   after : flatsOf rest ≡ r
-  means : runAt L ts (items p0) ≡ runAt L rest (items t)
+  means : runAt L p0 ts outside ≡ runAt L t rest outside
 
 useP : {L : ℕ} {ts : List Token} {s : Program} {r : List Flat} {A : Type 0} → ReadsP L ts s r
-    → ((t : Program) (rest : List Token) → eraseP t ≡ eraseP s → flatsOf rest ≡ r → runAt L ts (items p0) ≡ runAt L rest (items t) → A) → A
+    → ((t : Program) (rest : List Token) → eraseP t ≡ eraseP s → flatsOf rest ≡ r → runAt L p0 ts outside ≡ runAt L t rest outside → A) → A
 useP R k = k (R .t) (R .rest) (R .same) (R .after) (R .means)
-
--- a function's head after the items p: Entry where it is an entry, and its name
-reads-head : {A : Type 0} (x : Bool) (L : ℕ) (ts : List Token) (p : Program) (m n : ℕ) (r : List Flat) → flatsOf ts ≡ flatEntry x ++ (nameOf m n ∷ r)
-    → ((a : ℕ) (rest : List Token) → flatsOf rest ≡ r → runAt L ts (items p) ≡ runAt L rest (headed p a x m n) → A)
-    → A
-reads-head true L ts p m n r e k =
-    eat L ts (mark tokEntry) (nameOf m n ∷ r) (items p) e (λ a₁ b₁ ts₁ k₁ e₁.
-    eat L ts₁ (nameOf m n) r (entered p a₁) k₁ (λ a₂ b₂ ts₂ k₂ e₂. k a₁ ts₂ k₂ (e₁ ∙ e₂)))
-reads-head false L ts p m n r e k = eat L ts (nameOf m n) r (items p) e (λ a₁ b₁ ts₁ k₁ e₁. k a₁ ts₁ k₁ e₁)
-
--- an item after the items p
-record ReadsI (L : ℕ) (ts : List Token) (p : Program) (x : Item) (r : List Flat) : Type 0 where
-  y : Item
-  rest : List Token
-  same : eraseItem y ≡ eraseItem x
-  after : flatsOf rest ≡ r
-  means : runAt L ts (items p) ≡ runAt L rest (items (pMore p y))
-
-readsI : (x : Item) (L : ℕ) (ts : List Token) (p : Program) (r : List Flat) → depthItem x ≤ L → flatsOf ts ≡ flatItem x r → ReadsI L ts p x r
-readsI (declaration a ns b) L ts p r l e =
-    eat L ts (mark tokExtern) (flatN ns (mark tokSemicolon ∷ r)) (items p) e (λ a₁ b₁ ts₁ k₁ e₁.
-    useN (readsN ns L ts₁ p a₁ (mark tokSemicolon ∷ r) k₁) (λ ts₂ k₂ e₂.
-    eat L ts₂ (mark tokSemicolon) r (named p a₁ ns) k₂ (λ a₃ b₃ ts₃ k₃ e₃.
-    record { y = declaration a₁ ns b₃; rest = ts₃; same = refl; after = k₃; means = e₁ ∙ e₂ ∙ e₃ })))
-readsI (function a x m n v b) L ts p r l e =
-    reads-head x L ts p m n (mark tokLBrace ∷ flatS v (mark tokRBrace ∷ r)) e (λ a₀ ts₀ k₀ e₀.
-    eat L ts₀ (mark tokLBrace) (flatS v (mark tokRBrace ∷ r)) (headed p a₀ x m n) k₀ (λ a₁ b₁ ts₁ k₁ e₁.
-    useS (readsS v L ts₁ L (body p a₀ x m n) (mark tokRBrace ∷ r) l k₁) (λ v₂ ts₂ m₂ k₂ e₂.
-    eat L ts₂ (mark tokRBrace) r (between L (body p a₀ x m n) v₂) k₂ (λ a₃ b₃ ts₃ k₃ e₃.
-    record { y = function a₀ x m n v₂ b₃; rest = ts₃; same = ap (λ (y : Sentences). function 0 x m n y 0) m₂; after = k₃; means = e₀ ∙ e₁ ∙ e₂ ∙ e₃ }))))
 
 readsP : {s : Program} {l : List Flat} → Loose s l → (L : ℕ) (ts : List Token) (r : List Flat) → depthP s ≤ L → flatsOf ts ≡ l ++ r → ReadsP L ts s r
 unfolding depthP respanP
 readsP loose-none L ts r d e = record { t = p0; rest = ts; same = refl; after = e; means = refl }
 readsP (loose-semicolon {l = l} q) L ts r d e =
     useP (readsP q L ts (mark tokSemicolon ∷ r) d (e ∙ append-assoc l (mark tokSemicolon ∷ []) r)) (λ t₁ ts₁ m₁ k₁ e₁.
-    eat L ts₁ (mark tokSemicolon) r (items t₁) k₁ (λ a₂ b₂ ts₂ k₂ e₂.
+    eat L t₁ ts₁ (mark tokSemicolon) r outside k₁ (λ a₂ b₂ ts₂ k₂ e₂.
     record { t = t₁; rest = ts₂; same = m₁; after = k₂; means = e₁ ∙ e₂ }))
 readsP (loose-item {p = p} {l = l} {x = x} q) L ts r d e =
     useP (readsP q L ts (flattenItem x ++ r) (omega arith) (e ∙ append-assoc l (flattenItem x) r)) (λ t₁ ts₁ m₁ k₁ e₁.
-    let R = readsI x L ts₁ t₁ r (omega arith) (k₁ ∙ sym (flatItem-is x r)) in
+    let R = readsI x L t₁ ts₁ r (omega arith) (k₁ ∙ sym (flatItem-is x r)) in
     record {
       t = pMore t₁ (R .y);
       rest = R .rest;
@@ -102,10 +101,10 @@ readsP (loose-item {p = p} {l = l} {x = x} q) L ts r d e =
 
 pub record Accepts (L : ℕ) (ts : List Token) (s : Program) : Type 0 where
   pub t : Program
-  pub means : runAt L ts (items p0) ≡ tree t
+  pub means : run L ts p0 outside ≡ tree t
   pub same : eraseP t ≡ eraseP s
 
 pub complete : {s : Program} {l : List Flat} → Loose s l → (L : ℕ) (ts : List Token) → depthP s ≤ L → flatsOf ts ≡ l ++ (mark tokEof ∷ []) → Accepts L ts s
 complete q L ts d e =
     useP (readsP q L ts (mark tokEof ∷ []) d e) (λ t₁ ts₁ m₁ k₁ e₁.
-    eat L ts₁ (mark tokEof) [] (items t₁) k₁ (λ a₂ b₂ ts₂ k₂ e₂. record { t = t₁; means = e₁ ∙ e₂; same = m₁ }))
+    eat L t₁ ts₁ (mark tokEof) [] outside k₁ (λ a₂ b₂ ts₂ k₂ e₂. record { t = t₁; means = e₁ ∙ e₂; same = m₁ }))

@@ -17,14 +17,16 @@ use Rattle.refal_ast.specs.Nodes.{nodeWidth}
 use Rattle.refal_ast.specs.Encode.{encP}
 use Rattle.refal_ast.specs.Flatten.{Flat, mark, flatOf, flatsOf, Loose}
 use Rattle.refal_ast.specs.declared.Answer.the-variants.{Done, Refused}
+use Rattle.refal_ast.specs.Limits.{mostLevels}
 use Rattle.refal_parser.specs.Machine.{Outcome, tree, refuse}
 use Rattle.refal_parser.specs.Parse.{parsed, fits, answerOf, rowsLeft, parseAnswer}
 use Rattle.refal_tree.specs.ForestLaws.{length-enc}
 use Rattle.refal_tree.specs.Typed.{toForest}
 use Rattle.refal_tree.specs.TypedWords.{enc-tree, size-tree}
 use Rattle.refal_demands.specs.Spans.{SameButSpans}
-use Rattle.refal_demands.specs.Trees.{Lawful, withoutLast, tokensBeforeEof, Flattens}
-use Rattle.refal_demands.specs.Demand3.{Fits, parserTree, Theorem}
+use Rattle.refal_demands.specs.Trees.{withoutLast, tokensBeforeEof}
+use Rattle.refal_demands.specs.Demand3.{Fits, parserTree}
+use Rattle.refal_demands.specs.Demand3Whole.{Exactly, Gives, Only}
 use Rattle.refal_demands.proofs.Fields.{Ends, ends, plain}
 use Rattle.refal_demands.proofs.Respan.{size-respanP}
 use Rattle.refal_demands.proofs.Moved.{same-rows}
@@ -73,11 +75,11 @@ flattens w t e =
     let s = soundness w t e in
     subst (Loose t) (sym (ap withoutLast (s .1) ∙ without-last (s .0) (mark tokEof))) (s .2)
 
-pub is-deep : (w : List ℕ) (t : Program) → parsed w ≡ tree t → depthP t ≤ 64
+pub is-deep : (w : List ℕ) (t : Program) → parsed w ≡ tree t → depthP t ≤ mostLevels
 is-deep w t e = soundness w t e .3
 
 -- what parsing accepts
-pub gives : (w B : List ℕ) (m : ℕ) → parseAnswer w B ≡ Done m → Fits w B (parserTree w B m) × (length (parserTree w B m) ≡ nodeWidth * m)
+pub gives : Gives
 gives w B m e =
     let S = success (parsed w) B m e in
     let r : parserTree w B m ≡ encP (S .t) 0 = parser-tree w B m (S .t) (S .is) (S .size) (S .room) in
@@ -92,7 +94,7 @@ accepted : (w B T : List ℕ) → wellFormed w ≡ true → Fits w B T → (m : 
 accepted w B T g f =
     let p = f .lawful .program in
     let d = f .deep in
-    let d₁ : depthP p ≤ 64 = omega arith in
+    let d₁ : depthP p ≤ mostLevels = omega arith in
     let c = completeness w p (tokensBeforeEof w) g d₁ (f .flattens) (with-eof (tokensOf w) (ends (tokensOf w) (ok-tokens w g))) in
     let l = f .room in
     let l₁ : length T ≡ nodeWidth * sizeP p = ap length (f .lawful .rows) ∙ words-of p in
@@ -103,16 +105,12 @@ accepted w B T g f =
           ∙ ap (λ (b : Bool). pickAnswer b (Done (sizeP (c .0))) (Refused (refusal 38 0 0 0 0 (sizeP (c .0))))) (le-leb (nodeWidth * sizeP (c .0)) (length B) r),
     )
 
-pub one : (w B : List ℕ) (m : ℕ) → parseAnswer w B ≡ Done m → (T : List ℕ) (t : Lawful T) → Flattens t w → SameButSpans T (parserTree w B m)
-one w B m e T t f =
+pub only : Only
+only w B m e T t f =
     let S = success (parsed w) B m e in
     let r : parserTree w B m ≡ encP (S .t) 0 = parser-tree w B m (S .t) (S .is) (S .size) (S .room) in
     let u = same-rows (t .program) (S .t) (uniqueness (t .program) (S .t) (tokensBeforeEof w) f (flattens w (S .t) (S .is))) in
     subst (λ (x : List ℕ). SameButSpans x (parserTree w B m)) (sym (t .rows)) (subst (λ (x : List ℕ). SameButSpans (encP (t .program) 0) x) (sym r) u)
 
-pub demand3 : Theorem
-demand3 w B g = record {
-  accepts = (λ a. (parserTree w B (a .0), gives w B (a .0) (a .1) .0), λ a. accepted w B (a .0) g (a .1));
-  gives = gives w B;
-  one = one w B;
-}
+pub exactly : Exactly
+exactly w B g = (λ a. (parserTree w B (a .0), gives w B (a .0) (a .1) .0), λ a. accepted w B (a .0) g (a .1))

@@ -1,4 +1,4 @@
--- Demand 3 whole: its parts 1 and 2 by `demand3`; part 3, the round trip, from what writing's answer says of its text.
+-- Demand 3 whole: part 3, the round trip, from what writing's answer says of its text.
 use mathlib.Core.Path.{_≡_, refl, sym, ap, subst, _∙_}
 use Prim.Native.Nat.{ℕ, _≤_}
 use mathlib.Core.Bool.{Bool, true, false, not}
@@ -22,8 +22,8 @@ use Rattle.refal_spelling.specs.Spellings.{allSpelled}
 use Rattle.refal_ast.specs.Limits.{mostBytes}
 use Rattle.refal_writer.specs.Write.{treeText, written, textFits, refuse, writeAnswer, left, writeBytes}
 use Rattle.refal_demands.specs.RoundTrip.{Accepted, treeRows, RowsSuffice, Again}
-use Rattle.refal_demands.specs.Demand3Whole.{Exactly, Gives, Only, Back, NeverRefused, Demand3Whole}
-use Rattle.refal_demands.proofs.Demand3 as first
+use Rattle.refal_demands.specs.Demand3Whole.{Back, By42Alone, Demand3Whole}
+use Rattle.refal_demands.proofs.Demand3.{exactly, gives, only}
 use Rattle.refal_demands.proofs.RoundTrip.{OfReading, of-reading, lawful-read, round-trip}
 use Rattle.refal_demands.proofs.SpelledRows.{rows-spelled}
 
@@ -81,23 +81,14 @@ module _ (s M B : List ℕ) (a : Accepted s M B) where
       subst (λ (x : List ℕ). Again s (treeRows a) x M′ B′) (sym e)
       (round-trip s M B a read-tree M′ B′ (subst (λ (x : List ℕ). length x ≤ mostBytes) e l) (subst (λ (x : List ℕ). RowsSuffice x (a .m) M′ B′) e f))
 
-pub exactly : Exactly
-exactly w B g = first.demand3 w B g .accepts
-
-pub gives : Gives
-gives w B m e = first.gives w B m e
-
-pub only : Only
-only w B m e T t f = first.one w B m e T t f
-
 pub back : Back
 back s M B a out k e M′ B′ f =
     let z = sized-done (length (written (treeRows a) s)) (length out) k (sym (read-answer s M B a out) ∙ e) in
     let b : take k (writeBytes (treeRows a) s out) ≡ written (treeRows a) s = bytes-left (treeRows a) s out k e (z .0) in
     back-text s M B a (take k (writeBytes (treeRows a) s out)) (b ∙ read-written s M B a) (subst (λ (x : List ℕ). length x ≤ mostBytes) (sym b) (z .1)) M′ B′ f
 
-pub never-refused : NeverRefused
-never-refused s M B a out r e = sized-refused (length (written (treeRows a) s)) (length out) r (sym (read-answer s M B a out) ∙ e)
+pub by-42-alone : By42Alone
+by-42-alone s M B a out r e = sized-refused (length (written (treeRows a) s)) (length out) r (sym (read-answer s M B a out) ∙ e)
 
 pub demand3-whole : Demand3Whole
-demand3-whole = record { exactly = exactly; gives = gives; only = only; back = back; never-refused = never-refused }
+demand3-whole = record { exactly = exactly; gives = gives; only = only; back = back; by-42-alone = by-42-alone }

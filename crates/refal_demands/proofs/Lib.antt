@@ -1,7 +1,6 @@
 -- The theorems' proofs: Demand3Whole (by Demand3, RoundTrip and SpelledRows), Table, Edge, Bound, LawfulRows, and Theorems (the same over
 -- trees). The other modules serve them.
 pub mod Flats
-pub mod Levels
 pub mod Fields
 pub mod Read
 pub mod Sound

@@ -18,6 +18,7 @@ use Rattle.refal_ast.specs.declared.Answer.the-variants.{Done, Refused}
 use Rattle.refal_lexer.specs.Lex.{Out}
 use Rattle.refal_lexer.specs.Stars.{source}
 use Rattle.refal_lexer.specs.StarLaws.{source-is}
+use Rattle.refal_ast.specs.Limits.{mostLevels}
 use Rattle.refal_parser.specs.Machine.{Outcome, tree}
 use Rattle.refal_parser.specs.Parse.{parsed, answerOf}
 use Rattle.refal_ast.specs.Limits.{mostRows}
@@ -33,7 +34,7 @@ use Rattle.refal_demands.proofs.Respan.{size-respanP}
 use Rattle.refal_demands.proofs.FlatSpans.{same-flat, loose-own}
 use Rattle.refal_demands.proofs.Retext.{AllAlike, alike-none, alike-more, retext}
 use Rattle.refal_demands.proofs.Theorems.{completeness}
-use Rattle.refal_demands.proofs.Demand3.{success, parser-tree, without-last, flattens, is-deep}
+use Rattle.refal_demands.proofs.Demand3.{success, parser-tree, words-of, without-last, flattens, is-deep}
 use Rattle.refal_demands.proofs.Bound.{nodes-few}
 
 -- ---- lists of tokens that are the same as spelled agree in kind and detail
@@ -73,7 +74,7 @@ pub record OfReading (s M B : List ℕ) (a : Accepted s M B) : Type 0 where
   pub t : Program
   pub rows : treeRows a ≡ encP t 0
   pub size : a .m ≡ sizeP t
-  pub deep : depthP t ≤ 64
+  pub deep : depthP t ≤ mostLevels
   pub few : sizeP t ≤ mostRows
   pub sound : AllSound s (flattenP t)
 
@@ -105,7 +106,7 @@ pub record ParsedBack (ws : List Spelled) (t : Program) (w : List ℕ) : Type 0 
   pub same : views (text ws) (flattenP u) ≡ ws
   pub size : sizeP u ≡ sizeP t
 
-parsed-back : (s : List ℕ) (t : Program) (w : List ℕ) (l : List Flat) → depthP t ≤ 64 → wellFormed w ≡ true → flatsOf (tokensOf w) ≡ l ++ (mark tokEof ∷ [])
+parsed-back : (s : List ℕ) (t : Program) (w : List ℕ) (l : List Flat) → depthP t ≤ mostLevels → wellFormed w ≡ true → flatsOf (tokensOf w) ≡ l ++ (mark tokEof ∷ [])
     → views (text (views s (flattenP t))) l ≡ views s (flattenP t) → AllSound (text (views s (flattenP t))) l → ParsedBack (views s (flattenP t)) t w
 parsed-back s t w l d g e v a =
     let ws = views s (flattenP t) in
@@ -127,7 +128,7 @@ count-text ts a = ap (λ (o : Out). length (o .tokens)) (source-is (text ts) ∙
 pub reads-back : (s : List ℕ) (t : Program) → AllSound s (flattenP t) → (M : List ℕ) → Suffices (views s (flattenP t)) M → ReadsBack (views s (flattenP t)) M
 reads-back s t a M f = text-reads-back (views s (flattenP t)) (sound-good s (flattenP t) a) M f
 
-pub text-back : (s : List ℕ) (t : Program) → AllSound s (flattenP t) → depthP t ≤ 64 → (M : List ℕ) → ReadsBack (views s (flattenP t)) M
+pub text-back : (s : List ℕ) (t : Program) → AllSound s (flattenP t) → depthP t ≤ mostLevels → (M : List ℕ) → ReadsBack (views s (flattenP t)) M
     → ParsedBack (views s (flattenP t)) t (tokenRows (text (views s (flattenP t))) M (length (views s (flattenP t)) + 1))
 text-back s t a d M R =
     let ws = views s (flattenP t) in
@@ -165,6 +166,11 @@ round-trip s M B a r M′ B′ l f =
         let room : nodeWidth * sizeP (P .u) ≤ length B′ = omega arith in
         record {
           accepted = record { n = length ws + 1; m = sizeP (P .u); reads = R .answer; parses = done (parsed w) (P .u) B′ (P .is) room };
+          rows =
+              ap length (parser-tree w B′ (sizeP (P .u)) (P .u) (P .is) refl room)
+              ∙ words-of (P .u)
+              ∙ ap (λ (x : ℕ). nodeWidth * x) k
+              ∙ sym (ap length (r .rows) ∙ words-of (r .t));
           same = record {
             first = record { program = r .t; rows = r .rows };
             second = record { program = P .u; rows = parser-tree w B′ (sizeP (P .u)) (P .u) (P .is) refl room };

@@ -1,5 +1,6 @@
 -- The rows of document 01's worked table hold, by computing the definitions.
 use mathlib.Core.Path.{refl}
+use Rattle.refal_demands.specs.TreeLines.{digits, rowLines}
 use Rattle.refal_demands.specs.Table.{AllHold, table}
 use Rattle.refal_ast.specs.Tokens.{tokensOf}
 use Rattle.refal_ast.specs.Check.{okTokens, wellFormed}
@@ -25,5 +26,5 @@ use Rattle.refal_writer.specs.Write.{written, writeAnswer, writeBytes}
 pub table-holds : AllHold table
 unfolding table tokensOf okTokens wellFormed sizeT sizeC sizeS sizeN sizeP encT encC encS encN encP run parsed decode wellTo closeFrom litChar litFrom
     charTokens lex01 onlyWhite flattenT flattenC flattenS flattenP sizeG joinG cut nodesOf forestN forestOf okG getT getS getSentence getTail getBlock getCondition getRight getN
-    getNs getP treeOf lawful body spelling text spells rowSpelled nodesSpelled allSpelled written writeAnswer writeBytes
+    getNs getP treeOf lawful body spelling text spells rowSpelled nodesSpelled allSpelled written writeAnswer writeBytes digits rowLines
 table-holds = refl

@@ -12,24 +12,25 @@ use Rattle.refal_ast.specs.Tokens.{Token, token, tokensOf}
 use Rattle.refal_ast.specs.Check.{okTokens, wellFormed}
 use Rattle.refal_ast.specs.Tree.{Program, p0, depthP}
 use Rattle.refal_ast.specs.Flatten.{Flat, mark, flatsOf, Loose, loose-none}
-use Rattle.refal_parser.specs.Machine.{items, tree, refuse, run}
+use Rattle.refal_ast.specs.Limits.{mostLevels}
+use Rattle.refal_parser.specs.Machine.{outside, tree, refuse, run}
 use Rattle.refal_parser.specs.Parse.{pickOutcome, parsed}
-use Rattle.refal_demands.proofs.Levels.{runAt, run-is}
 use Rattle.refal_demands.proofs.Fields.{ends}
+use Rattle.refal_demands.proofs.Read.{any}
 use Rattle.refal_demands.proofs.Sound.{sound}
 use Rattle.refal_demands.proofs.Complete.{complete, Accepts}
 use Rattle.refal_demands.proofs.Respan.{eraseP}
 
-pub parsed-good : (w : List ℕ) → wellFormed w ≡ true → parsed w ≡ runAt 64 (tokensOf w) (items p0)
+pub parsed-good : (w : List ℕ) → wellFormed w ≡ true → parsed w ≡ run mostLevels (tokensOf w) p0 outside
 unfolding parsed
-parsed-good w e = ap (λ (b : Bool). pickOutcome b (run (tokensOf w) (items p0)) (refuse 30 0 0 0 0)) e ∙ run-is (tokensOf w) (items p0)
+parsed-good w e = ap (λ (b : Bool). pickOutcome b (run mostLevels (tokensOf w) p0 outside) (refuse 30 0 0 0 0)) e
 
 -- what is accepted is well-formed
 pub good : (w : List ℕ) (t : Program) → parsed w ≡ tree t → wellFormed w ≡ true
 unfolding parsed
 good w t e = go (wellFormed w) e
   where
-    go : (b : Bool) → pickOutcome b (run (tokensOf w) (items p0)) (refuse 30 0 0 0 0) ≡ tree t → b ≡ true
+    go : (b : Bool) → pickOutcome b (run mostLevels (tokensOf w) p0 outside) (refuse 30 0 0 0 0) ≡ tree t → b ≡ true
     go true h = refl
     go false h = let z : _≡_ {A = ℕ} 0 1 = cc in let y : ⊥ = omega arith in absurd y
 
@@ -38,18 +39,18 @@ unfolding wellFormed
 ok-tokens w g = and-right (eqb (length w % 6) 0 && leb (length w) (6 * 16777217)) (okTokens (tokensOf w)) g
 
 -- What is accepted is the flattening of the tree, but for semicolons outside items, and the tree nests no deeper than 64.
-pub soundness : (w : List ℕ) (t : Program) → parsed w ≡ tree t → (l : List Flat) × (flatsOf (tokensOf w) ≡ l ++ (mark tokEof ∷ [])) × Loose t l × (depthP t ≤ 64)
+pub soundness : (w : List ℕ) (t : Program) → parsed w ≡ tree t → (l : List Flat) × (flatsOf (tokensOf w) ≡ l ++ (mark tokEof ∷ [])) × Loose t l × (depthP t ≤ mostLevels)
 unfolding depthP
 soundness w t e =
     let g : wellFormed w ≡ true = good w t e in
-    let n = sound 64 (tokensOf w) (ends (tokensOf w) (ok-tokens w g)) (items p0) t [] (omega arith) loose-none (sym (parsed-good w g) ∙ e) in
+    let n = sound mostLevels (tokensOf w) (ends (tokensOf w) (ok-tokens w g)) p0 outside t [] any (omega arith) loose-none (sym (parsed-good w g) ∙ e) in
     (n .l, n .flat, n .loose, n .deep)
 
 -- What is the flattening, but for semicolons outside items, of a tree that nests no deeper than 64 is accepted, with that tree, spans aside.
-pub completeness : (w : List ℕ) (s : Program) (l : List Flat) → wellFormed w ≡ true → depthP s ≤ 64 → Loose s l
+pub completeness : (w : List ℕ) (s : Program) (l : List Flat) → wellFormed w ≡ true → depthP s ≤ mostLevels → Loose s l
     → flatsOf (tokensOf w) ≡ l ++ (mark tokEof ∷ []) → (t : Program) × (parsed w ≡ tree t) × (eraseP t ≡ eraseP s)
 completeness w s l g d h e =
-    let a = complete h 64 (tokensOf w) d e in
+    let a = complete h mostLevels (tokensOf w) d e in
     (a .t, parsed-good w g ∙ a .means, a .same)
 
 -- tokens of given flattened forms

@@ -19,7 +19,7 @@ use Rattle.refal_demands.specs.RoundTrip.{Accepted, treeRows, RowsSuffic
 
 -- Part 1. Parsing accepts token words w that check 30 passes exactly when some lawful tree, of depth 64 or less and with no more rows than are
 -- lent, flattens to their tokens but for semicolons outside items; and the rows that it leaves are then such a tree, of as many rows as it
--- answers. (`exactly` and `gives` of proofs/Demand3Whole, by `demand3` of proofs/Demand3.)
+-- answers. (`exactly` and `gives` of proofs/Demand3.)
 abbrev pub Exactly : Type 0
 Exactly = (w B : List ℕ) → wellFormed w ≡ true → ((m : ℕ) × (parseAnswer w B ≡ Done m)) ↔ ((T : List ℕ) × Fits w B T)
 
@@ -27,7 +27,7 @@ abbrev pub Gives : Type 0
 Gives = (w B : List ℕ) (m : ℕ) → parseAnswer w B ≡ Done m → Fits w B (parserTree w B m) × (length (parserTree w B m) ≡ nodeWidth * m)
 
 -- Part 2. That tree is the only one: every lawful tree that flattens so, whatever its depth, is equal to the parser's, spans aside. (`only` of
--- proofs/Demand3Whole, by `demand3`.)
+-- proofs/Demand3.)
 abbrev pub Only : Type 0
 Only = (w B : List ℕ) (m : ℕ) → parseAnswer w B ≡ Done m → (T : List ℕ) (t : Lawful T) → Flattens t w → SameButSpans T (parserTree w B m)
 
@@ -38,9 +38,9 @@ Back = (s M B : List ℕ) (a : Accepted s M B) (out : List ℕ) (k : ℕ) → wr
     → RowsSuffice (take k (writeBytes (treeRows a) s out)) (a .m) M′ B′
     → Again s (treeRows a) (take k (writeBytes (treeRows a) s out)) M′ B′
 
--- And writing refuses the parser's tree with its source by 42 only, never by 40 or 41. (`never-refused` of proofs/Demand3Whole.)
-abbrev pub NeverRefused : Type 0
-NeverRefused = (s M B : List ℕ) (a : Accepted s M B) (out : List ℕ) (r : Refusal) → writeAnswer (treeRows a) s out ≡ Refused r → r .number ≡ 42
+-- And writing refuses the parser's tree with its source by 42 alone, never by 40 or 41. (`by-42-alone` of proofs/Demand3Whole.)
+abbrev pub By42Alone : Type 0
+By42Alone = (s M B : List ℕ) (a : Accepted s M B) (out : List ℕ) (r : Refusal) → writeAnswer (treeRows a) s out ≡ Refused r → r .number ≡ 42
 
 -- The whole (`demand3-whole` of proofs/Demand3Whole).
 pub record Demand3Whole : Type 0 where
@@ -48,4 +48,4 @@ pub record Demand3Whole : Type 0 where
   pub gives : Gives
   pub only : Only
   pub back : Back
-  pub never-refused : NeverRefused
+  pub by-42-alone : By42Alone

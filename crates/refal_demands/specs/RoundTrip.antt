@@ -44,7 +44,9 @@ pub record RowsSuffice (s : List ℕ) (m : ℕ) (M B : List ℕ) : Type 0 where
   pub tokens : 6 * length (source s .tokens) ≤ length M
   pub nodes : nodeWidth * m ≤ length B
 
--- reading and then parsing the source s′, with M and B lent, accept it and give a tree with the flattening of the rows T, as spelled
+-- reading and then parsing the source s′, with M and B lent, accept it and give a tree of as many rows as T, with the flattening of the rows T, as
+-- spelled
 pub record Again (s T s′ M B : List ℕ) : Type 0 where
   pub accepted : Accepted s′ M B
+  pub rows : length (treeRows accepted) ≡ length T
   pub same : SameAsSpelled s T s′ (treeRows accepted)

@@ -12,6 +12,7 @@ use Rattle.refal_ast.specs.declared.Answer.the-variants.{Done, Refused}
 use Rattle.refal_lexer.specs.Read.{readAnswer, readRows}
 use Rattle.refal_parser.specs.Parse.{parseAnswer, parseRows}
 use Rattle.refal_writer.specs.Write.{writeAnswer, writeBytes}
+use Rattle.refal_demands.specs.TreeLines.{treeLines}
 
 -- a row of the table
 pub data Case : Type 0 where
@@ -21,8 +22,10 @@ pub data Case : Type 0 where
   parsing : List ℕ → List ℕ → Answer → List ℕ → Case
   -- writing: the node words, the source's bytes, the bytes lent, the answer, the bytes left
   writing : List ℕ → List ℕ → List ℕ → Answer → List ℕ → Case
+  -- the program `tree`: the source's bytes, the bytes that it prints
+  printing : List ℕ → List ℕ → Case
 
--- what a call gives: its answer, and the words or bytes that it leaves in those lent
+-- what a call gives: its answer, and the words or bytes that it leaves in those lent; what the program gives: how many bytes, and the bytes
 pub record Given : Type 0 where
   pub answer : Answer
   pub left : List ℕ
@@ -32,12 +35,14 @@ abbrev pub gives : Case → Given
 gives (reading s M a R) = record { answer = readAnswer s (length M); left = readRows s M }
 gives (parsing w B a R) = record { answer = parseAnswer w B; left = parseRows w B }
 gives (writing T s out a R) = record { answer = writeAnswer T s out; left = writeBytes T s out }
+gives (printing s R) = record { answer = Done (length (treeLines s)); left = treeLines s }
 
 -- what the row says that it gives
 abbrev pub claims : Case → Given
 claims (reading s M a R) = record { answer = a; left = R }
 claims (parsing w B a R) = record { answer = a; left = R }
 claims (writing T s out a R) = record { answer = a; left = R }
+claims (printing s R) = record { answer = Done (length R); left = R }
 
 abbrev pub each : (Case → Given) → List Case → List Given
 each f [] = []
@@ -111,9 +116,25 @@ source4 = 36 ∷ 69 ∷ 78 ∷ 84 ∷ 82 ∷ 89 ∷ 32 ∷ 71 ∷ 111 ∷ 123 �
 abbrev pub tokens4 : List ℕ
 tokens4 = sign tokEntry 0 6 ++ (name 2 7 9 ++ (sign tokLBrace 9 10 ++ (sign tokEquals 10 11 ++ (sign tokSemicolon 11 12 ++ (sign tokRBrace 12 13 ++ sign tokEof 13 13)))))
 
--- the four rows that `tree` prints
+-- its four rows
 abbrev pub nodes4 : List ℕ
 nodes4 = node nodeFunction 1 7 2 0 13 4 ++ (node nodeSentence 0 0 0 10 12 4 ++ (terms 3 ++ terms 4))
+
+-- `0 3 1 0 13 4`
+abbrev pub line0 : List ℕ → List ℕ
+line0 l = 48 ∷ 32 ∷ 51 ∷ 32 ∷ 49 ∷ 32 ∷ 48 ∷ 32 ∷ 49 ∷ 51 ∷ 32 ∷ 52 ∷ 10 ∷ l
+
+-- `1 4 0 10 12 4`
+abbrev pub line1 : List ℕ → List ℕ
+line1 l = 49 ∷ 32 ∷ 52 ∷ 32 ∷ 48 ∷ 32 ∷ 49 ∷ 48 ∷ 32 ∷ 49 ∷ 50 ∷ 32 ∷ 52 ∷ 10 ∷ l
+
+-- `2 6 0 0 0 3`
+abbrev pub line2 : List ℕ → List ℕ
+line2 l = 50 ∷ 32 ∷ 54 ∷ 32 ∷ 48 ∷ 32 ∷ 48 ∷ 32 ∷ 48 ∷ 32 ∷ 51 ∷ 10 ∷ l
+
+-- `3 6 0 0 0 4`
+abbrev pub line3 : List ℕ → List ℕ
+line3 l = 51 ∷ 32 ∷ 54 ∷ 32 ∷ 48 ∷ 32 ∷ 48 ∷ 32 ∷ 48 ∷ 32 ∷ 52 ∷ 10 ∷ l
 
 -- `$ENTRY Go { = ; } `
 abbrev pub written4 : List ℕ
@@ -168,9 +189,11 @@ table =
     ++ (terms 11
     ++ (terms 12
     ++ replicate 3 9))))))))))))
-    -- `$ENTRY Go{=;}`: the four rows that `tree` prints
+    -- `$ENTRY Go{=;}`: four rows
     ∷ reading source4 lent (Done 7) (tokens4 ++ replicate 45 9)
     ∷ parsing tokens4 lent (Done 4) (nodes4 ++ replicate 59 9)
     -- its written text is `$ENTRY Go { = ; } `, 18 bytes
     ∷ writing nodes4 source4 (replicate 20 9) (Done 18) (written4 ++ replicate 2 9)
+    -- all that `tree` prints of it: four lines
+    ∷ printing source4 (line0 (line1 (line2 (line3 []))))
     ∷ []

@@ -16,19 +16,20 @@ use Rattle.refal_ast.specs.Tree.{Program, p0, sizeP}
 use Rattle.refal_ast.specs.Encode.{encP}
 use Rattle.refal_ast.specs.declared.Answer.{Answer}
 use Rattle.refal_ast.specs.declared.Answer.the-variants.{Done, Refused}
-use Rattle.refal_parser.specs.Machine.{Outcome, tree, refuse, items, run}
+use Rattle.refal_ast.specs.Limits.{mostLevels}
+use Rattle.refal_parser.specs.Machine.{outside, Outcome, tree, refuse, run}
 use Rattle.refal_parser.specs.Parse.{pickOutcome, parsed, answerOf, rowsLeft, parseAnswer, parseRows}
-use Rattle.refal_parser.specs.Ready.{rest}
+use Rattle.refal_parser.specs.Post.{runs}
 use Rattle.refal_parser.specs.Writers.{wP}
 use Rattle.refal_parser.proofs.Rows.{writesP}
 
 pub parsed-bad : (w : List ℕ) → wellFormed w ≡ false → parsed w ≡ refuse 30 0 0 0 0
 unfolding parsed
-parsed-bad w e = ap (λ (b : Bool). pickOutcome b (run (tokensOf w) (items p0)) (refuse 30 0 0 0 0)) e
+parsed-bad w e = ap (λ (b : Bool). pickOutcome b (run mostLevels (tokensOf w) p0 outside) (refuse 30 0 0 0 0)) e
 
-pub parsed-good : (w : List ℕ) → wellFormed w ≡ true → parsed w ≡ run (rest w 0) (items p0)
+pub parsed-good : (w : List ℕ) → wellFormed w ≡ true → parsed w ≡ runs w 0 p0 outside
 unfolding parsed
-parsed-good w e = ap (λ (b : Bool). pickOutcome b (run (tokensOf w) (items p0)) (refuse 30 0 0 0 0)) e
+parsed-good w e = ap (λ (b : Bool). pickOutcome b (run mostLevels (tokensOf w) p0 outside) (refuse 30 0 0 0 0)) e
 
 pub refused : (w B B' : List ℕ) (r : Answer) (a b c d e : ℕ) → parsed w ≡ refuse a b c d e → r ≡ Refused (refusal a b c d e 0) → B' ≡ replicate (length B) 0 →
     (r ≡ parseAnswer w B) × (B' ≡ parseRows w B)

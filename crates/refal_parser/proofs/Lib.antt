@@ -1,9 +1,7 @@
--- Laws: TokenLaws (tokens at a word of the rows), CheckLaws (check 30), Steps (the machine at a word), TermLaws (one term more), LeafLaws (leaves among
--- the tokens), Rows (what the writers leave), Final (from the program's answer to what `parse` answers and leaves).
+-- Laws: TokenLaws (tokens at a word of the rows), CheckLaws (check 30), Steps (the machine at a word), TermLaws (one term more), Rows (what the writers leave), Final (from the program's answer to what `parse` answers and leaves).
 pub mod TokenLaws
 pub mod CheckLaws
 pub mod Steps
 pub mod TermLaws
-pub mod LeafLaws
 pub mod Rows
 pub mod Final

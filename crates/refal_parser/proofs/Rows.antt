@@ -141,11 +141,6 @@ module _ (a b n : ℕ) {m : ℕ} (f : Terms) (c : m ≡ n + 1 + sizeT f) where
   size-call s l = omega arith
 
 module _ (n : ℕ) (B : List ℕ) {m k a b from to : ℕ} {B₁ B₂ B₃ : List ℕ} (f : Terms) (s : from ≡ a) (e : to ≡ b) (r₁ : B₁ ≡ wTerms f (n + 1) B) (c₁ : m ≡ n + 1 + 1 + sizeT f) where
-  pub block-condition : {B₄ : List ℕ} (v : Sentences) → B₂ ≡ wS v (m + 1) B₁ → k ≡ m + 1 + sizeS v → B₃ ≡ putNode B₂ m (spanRow nodeConditionBlock from to k) →
-      B₄ ≡ putNode B₃ n (spanRow nodeCondition from to k) → B₄ ≡ wCondition (condition a f (rBlock a v b) b) n B
-  unfolding wC sizeC
-  block-condition {B₄} v r₂ c₂ r₃ r₄ = let c₃ : k ≡ m + (1 + sizeS v) = omega arith in cc
-
   pub terms-condition : (g : Terms) → B₂ ≡ wTerms g m B₁ → k ≡ m + 1 + sizeT g → B₃ ≡ putNode B₂ n (spanRow nodeCondition from to k) →
       B₃ ≡ wCondition (condition a f (rTerms g) b) n B
   unfolding wC sizeC
@@ -156,10 +151,16 @@ module _ (n : ℕ) (B : List ℕ) {m k a b from to : ℕ} {B₁ B₂ B₃ : List
   unfolding wC
   block-ending v r₂ c₂ r₃ = cc
 
+pub block-condition : (n : ℕ) (B : List ℕ) {m k a o b from to : ℕ} {B₁ B₂ B₃ B₄ : List ℕ} (f : Terms) → from ≡ a → from ≡ o → to ≡ b → B₁ ≡ wTerms f (n + 1) B → m ≡ n + 1 + 1 + sizeT f →
+    (v : Sentences) → B₂ ≡ wS v (m + 1) B₁ → k ≡ m + 1 + sizeS v → B₃ ≡ putNode B₂ m (spanRow nodeConditionBlock from to k) →
+    B₄ ≡ putNode B₃ n (spanRow nodeCondition from to k) → B₄ ≡ wCondition (condition a f (rBlock o v b) b) n B
+unfolding wC sizeC
+block-condition n B {m} {k} {a} {o} {b} {from} {to} {B₁} {B₂} {B₃} {B₄} f s s' e r₁ c₁ v r₂ c₂ r₃ r₄ = let c₃ : k ≡ m + (1 + sizeS v) = omega arith in cc
+
 module _ (a b n : ℕ) {m k : ℕ} (f : Terms) (c₁ : m ≡ n + 1 + 1 + sizeT f) where
-  pub size-block-condition : (v : Sentences) → k ≡ m + 1 + sizeS v → k ≡ n + sizeCondition (condition a f (rBlock a v b) b)
+  pub size-block-condition : (o : ℕ) (v : Sentences) → k ≡ m + 1 + sizeS v → k ≡ n + sizeCondition (condition a f (rBlock o v b) b)
   unfolding sizeC
-  size-block-condition v c₂ = omega arith
+  size-block-condition o v c₂ = omega arith
 
   pub size-terms-condition : (g : Terms) → k ≡ m + 1 + sizeT g → k ≡ n + sizeCondition (condition a f (rTerms g) b)
   unfolding sizeC

@@ -2,7 +2,7 @@
 use mathlib.Core.Path.{_≡_, refl, sym, ap, subst, _∙_}
 use Prim.Native.Nat.{ℕ, zero, suc, _+_, _-_}
 use mathlib.Core.List.{List}
-use mathlib.Core.Bool.{Bool, true, false}
+use mathlib.Core.Bool.{true, false}
 use native.Mathlib.Omega.{arith}
 use native.Mathlib.Numerals.{sub-one}
 use lib.ListN.{getD}
@@ -10,16 +10,18 @@ use lib.Dec.{eqb}
 use borrow.Author.Tests.{ne-eqb, eq-eqb, eqb-false}
 use Rattle.refal_ast.specs.Kinds.{tokEntry, tokExtern, tokIdentifier, tokLBrace, tokRBrace, tokComma, tokEquals, tokSemicolon, tokEof}
 use Rattle.refal_ast.specs.Tokens.{Token, token}
-use Rattle.refal_ast.specs.Tree.{Terms, t0, Conditions, eBlock, sentence, Sentences, s0, sMore, Names, nOne, nMore, declaration, Program, pMore}
+use Rattle.refal_ast.specs.Tree.{Terms, t0, Sentences, s0, Names, nOne, nMore, declaration, Program, pMore}
 use Rattle.refal_ast.specs.declared.tree.Term.{Term}
 use Rattle.refal_ast.specs.declared.tree.Term.the-variants.{Symbol as theSymbol, Variable, Bracket, Call, UnknownVariable, NoTerm}
-use Rattle.refal_parser.specs.Machine.{termOf, variableOf, Block, body, inCondition, inEnding, Place, pattern, argument, matching, result, ending, inBracket, inCall}
-use Rattle.refal_parser.specs.Machine.{State, items, wantsName, wantsMore, named, entered, headed, between, within, calling, matched, conditioned, equated, blocked, ended}
-use Rattle.refal_parser.specs.Machine.{tree, refuse, Step, go, opens, expected, wants, afterTerms, inTerms, atTerms, leave, step, run}
+use Rattle.refal_ast.specs.Limits.{mostLevels}
+use Rattle.refal_parser.specs.Machine.{termOf, variableOf, Heading, Begun, Argument, Block, body, inCondition, inEnding, Place, pattern, argument, matching, result, ending, inBracket, inCall}
+use Rattle.refal_parser.specs.Machine.{State, outside, wantsName, wantsMore, named, entered, headed, between, within, calling, matched, conditioned, equated, blocked, ended}
+use Rattle.refal_parser.specs.Machine.{tree, refuse, Step, go, opens, expected, wants, afterTerms, inTerms, atTerms, endBlock, finished, leave, step, run}
 use Rattle.refal_parser.specs.Ready.{rest, tok, termAt, afterFrom, afterTo, Ready}
-use Rattle.refal_parser.specs.Post.{Cases, Same, after}
+use Rattle.refal_parser.specs.Post.{Cases, runs, Same, Refuses, leads, after}
 use Rattle.refal_parser.specs.PostTerms.{Closing}
 use Rattle.refal_parser.specs.PostBlock.{Opens}
+use Rattle.refal_parser.specs.PostItems.{heading}
 use Rattle.refal_parser.specs.declared.answers.Got.{Got}
 use Rattle.refal_parser.specs.declared.answers.Got.the-variants.{At, No}
 use Rattle.refal_parser.proofs.TokenLaws.{rest-step, ready-next, from-next}
@@ -44,9 +46,9 @@ is-no {r} {P} {Q} {a} {b} {c} {d} {e} q p = record {
 pub variable-none : (x s l : ℕ) → (x ≡ 115 → ⊥) → (x ≡ 116 → ⊥) → (x ≡ 101 → ⊥) → UnknownVariable ≡ variableOf x s l
 variable-none x s l n₁ n₂ n₃ = rw (ne-eqb x 115 n₁, ne-eqb x 116 n₂, ne-eqb x 101 n₃) refl
 
-pub term-none : (k d s l : ℕ) → (k ≡ 3 → ⊥) → (k ≡ 5 → ⊥) → (k ≡ 6 → ⊥) → (k ≡ 4 → ⊥) → (k ≡ 9 → ⊥) → (k ≡ 11 → ⊥) → NoTerm ≡ termOf k d s l
-term-none k d s l n₃ n₅ n₆ n₄ n₉ n₁₁ =
-    rw (ne-eqb k 3 n₃, ne-eqb k 5 n₅, ne-eqb k 6 n₆, ne-eqb k 4 n₄, ne-eqb k 9 n₉, ne-eqb k 11 n₁₁) refl
+pub term-none : (k d s l : ℕ) → (k ≡ 3 → ⊥) → (k ≡ 4 → ⊥) → (k ≡ 5 → ⊥) → (k ≡ 6 → ⊥) → (k ≡ 9 → ⊥) → (k ≡ 11 → ⊥) → NoTerm ≡ termOf k d s l
+term-none k d s l n₃ n₄ n₅ n₆ n₉ n₁₁ =
+    rw (ne-eqb k 3 n₃, ne-eqb k 4 n₄, ne-eqb k 5 n₅, ne-eqb k 6 n₆, ne-eqb k 9 n₉, ne-eqb k 11 n₁₁) refl
 
 abbrev pub begins : Term → ℕ
 begins (theSymbol z) = 1
@@ -78,11 +80,11 @@ opens-some : (d : ℕ) (t : Token) (f : ℕ → State) → (d ≡ 0 → ⊥) →
 opens-some zero t f n = absurd (n refl)
 opens-some (suc d) t f n = ap (λ (x : ℕ). go (f x)) (sym (sub-one (suc d)))
 
-pub leveled : (w : List ℕ) (j d : ℕ) (f : ℕ → State) → (d ≡ 0 → ⊥) → run (rest w j) (f (suc (d - 1))) ≡ run (rest w j) (f d)
-leveled w j d f n = ap (λ (x : ℕ). run (rest w j) (f x)) (back d n)
+pub leveled : (w : List ℕ) (j d : ℕ) (f : ℕ → State) → (d ≡ 0 → ⊥) → Same w j (f (suc (d - 1))) j (f d)
+leveled w j d f n p = ap (λ (x : ℕ). runs w j p (f x)) (back d n)
 
 pub moved : (w : List ℕ) (i j : ℕ) (st : State) → j ≡ i → Same w i st j st
-moved w i j st e = ap (λ (k : ℕ). run (rest w k) st) (sym e)
+moved w i j st e p = ap (λ (k : ℕ). runs w k p st) (sym e)
 
 module _ (w : List ℕ) (at : ℕ) where
   -- the token at the word, taken to be of kind k
@@ -90,57 +92,57 @@ module _ (w : List ℕ) (at : ℕ) where
   kinded k = token k (getD w (at + 1) 0) (getD w (at + 2) 0) (getD w (at + 3) 0) (getD w (at + 4) 0) (getD w (at + 5) 0)
 
   -- where no level is left, and where one is
-  pub open-none : (d : ℕ) (f : ℕ → State) → d ≡ 0 → after w at (opens d (tok w at) f) ≡ refuse 37 0 (getD w at 0) (getD w (at + 4) 0) (getD w (at + 5) 0)
-  open-none d f z = ap (λ (x : ℕ). after w at (opens x (tok w at) f)) z
+  pub open-none : (d : ℕ) (f : ℕ → State) → d ≡ 0 → (p : Program) → after w at p (opens d (tok w at) f) ≡ refuse 37 0 (getD w at 0) (getD w (at + 4) 0) (getD w (at + 5) 0)
+  open-none d f z p = ap (λ (x : ℕ). after w at p (opens x (tok w at) f)) z
 
-  pub open-some : (d : ℕ) (f : ℕ → State) → (d ≡ 0 → ⊥) → after w at (opens d (tok w at) f) ≡ run (rest w (at + 6)) (f (d - 1))
-  open-some d f n = ap (λ (x : Step). after w at x) (opens-some d (tok w at) f n)
+  pub open-some : (d : ℕ) (f : ℕ → State) → (d ≡ 0 → ⊥) → (p : Program) → after w at p (opens d (tok w at) f) ≡ runs w (at + 6) p (f (d - 1))
+  open-some d f n p = ap (λ (x : Step). after w at p x) (opens-some d (tok w at) f n)
 
   -- ---- the kind that closes terms
-  pub closes-here : (want : ℕ) (st : State) → getD w at 0 ≡ want → Closing w at want st ≡ run (rest w (at + 6)) st
-  closes-here want st e = rw (eq-eqb (getD w at 0) want e) refl
+  pub closes-here : (want : ℕ) (st : State) (p : Program) → getD w at 0 ≡ want → Closing w at want st p ≡ runs w (at + 6) p st
+  closes-here want st p e = rw (eq-eqb (getD w at 0) want e) refl
 
-  pub closes-eof : (want : ℕ) (st : State) → (getD w at 0 ≡ want → ⊥) → getD w at 0 ≡ tokEof →
-      Closing w at want st ≡ refuse 35 want (getD w at 0) (getD w (at + 4) 0) (getD w (at + 5) 0)
-  closes-eof want st n e = rw (ne-eqb (getD w at 0) want n, eq-eqb (getD w at 0) tokEof e) refl
+  pub closes-eof : (want : ℕ) (st : State) (p : Program) → (getD w at 0 ≡ want → ⊥) → getD w at 0 ≡ tokEof →
+      Closing w at want st p ≡ refuse 35 want (getD w at 0) (getD w (at + 4) 0) (getD w (at + 5) 0)
+  closes-eof want st p n e = rw (ne-eqb (getD w at 0) want n, eq-eqb (getD w at 0) tokEof e) refl
 
-  pub closes-none : (want : ℕ) (st : State) → (getD w at 0 ≡ want → ⊥) → (getD w at 0 ≡ tokEof → ⊥) →
-      Closing w at want st ≡ refuse 34 0 (getD w at 0) (afterFrom w at) (afterTo w at)
-  closes-none want st n n' = rw (ne-eqb (getD w at 0) want n, ne-eqb (getD w at 0) tokEof n') refl
+  pub closes-none : (want : ℕ) (st : State) (p : Program) → (getD w at 0 ≡ want → ⊥) → (getD w at 0 ≡ tokEof → ⊥) →
+      Closing w at want st p ≡ refuse 34 0 (getD w at 0) (afterFrom w at) (afterTo w at)
+  closes-none want st p n n' = rw (ne-eqb (getD w at 0) want n, ne-eqb (getD w at 0) tokEof n') refl
 
   module _ (r : Ready w at) where
-    run-at : (st : State) → run (rest w at) st ≡ after w at (step st (tok w at) (afterFrom w at) (afterTo w at))
+    run-at : (st : State) (p : Program) → runs w at p st ≡ after w at p (step mostLevels st (tok w at) (afterFrom w at) (afterTo w at))
     unfolding run
-    run-at st = ap (λ (l : List Token). run l st) (rest-step w at (r .room))
+    run-at st p = ap (λ (l : List Token). run mostLevels l p st) (rest-step w at (r .room))
 
     -- at a token of kind k
-    run-kind : (st : State) (k : ℕ) → getD w at 0 ≡ k → run (rest w at) st ≡ after w at (step st (kinded k) (afterFrom w at) (afterTo w at))
+    run-kind : (st : State) (k : ℕ) → getD w at 0 ≡ k → (p : Program) → runs w at p st ≡ after w at p (step mostLevels st (kinded k) (afterFrom w at) (afterTo w at))
     unfolding kinded
-    run-kind st k e = run-at st ∙ ap (λ (k : ℕ). after w at (step st (kinded k) (afterFrom w at) (afterTo w at))) e
+    run-kind st k e p = run-at st p ∙ ap (λ (k : ℕ). after w at p (step mostLevels st (kinded k) (afterFrom w at) (afterTo w at))) e
 
     -- where the step is known to be x
-    run-as : (st : State) (x : Step) → step st (tok w at) (afterFrom w at) (afterTo w at) ≡ x → run (rest w at) st ≡ after w at x
-    run-as st x e = run-at st ∙ ap (λ (y : Step). after w at y) e
+    run-as : (st : State) (x : Step) → step mostLevels st (tok w at) (afterFrom w at) (afterTo w at) ≡ x → (p : Program) → runs w at p st ≡ after w at p x
+    run-as st x e p = run-at st p ∙ ap (λ (y : Step). after w at p y) e
 
     -- ---- in terms, by what the token begins
     pub term-step : (d : ℕ) (c : Place) (f : Terms) (q : Term) → termAt w at ≡ q →
-        run (rest w at) (within d c f) ≡ after w at (inTerms d c f (tok w at) (afterFrom w at) (afterTo w at) q)
-    term-step d c f q e = run-at (within d c f) ∙ ap (λ (q : Term). after w at (inTerms d c f (tok w at) (afterFrom w at) (afterTo w at) q)) e
+        (p : Program) → runs w at p (within d c f) ≡ after w at p (inTerms d c f (tok w at) (afterFrom w at) (afterTo w at) q)
+    term-step d c f q e p = run-at (within d c f) p ∙ ap (λ (q : Term). after w at p (inTerms d c f (tok w at) (afterFrom w at) (afterTo w at) q)) e
 
     pub bracket-deep : (d : ℕ) (c : Place) (f : Terms) → termAt w at ≡ Bracket → d ≡ 0 →
-        run (rest w at) (within d c f) ≡ refuse 37 0 (getD w at 0) (getD w (at + 4) 0) (getD w (at + 5) 0)
-    bracket-deep d c f e z = term-step d c f Bracket e ∙ open-none d (λ (x : ℕ). within x (inBracket c f (getD w (at + 4) 0)) t0) z
+        Refuses w at (within d c f) 37 0 (getD w at 0) (getD w (at + 4) 0) (getD w (at + 5) 0)
+    bracket-deep d c f e z p = term-step d c f Bracket e p ∙ open-none d (λ (x : ℕ). within x (inBracket c f (getD w (at + 4) 0)) t0) z p
 
     pub bracket-open : (d : ℕ) (c : Place) (f : Terms) → termAt w at ≡ Bracket → (d ≡ 0 → ⊥) →
         Same w at (within d c f) (at + 6) (within (d - 1) (inBracket c f (getD w (at + 4) 0)) t0)
-    bracket-open d c f e n = term-step d c f Bracket e ∙ open-some d (λ (x : ℕ). within x (inBracket c f (getD w (at + 4) 0)) t0) n
+    bracket-open d c f e n p = term-step d c f Bracket e p ∙ open-some d (λ (x : ℕ). within x (inBracket c f (getD w (at + 4) 0)) t0) n p
 
     pub call-deep : (d : ℕ) (c : Place) (f : Terms) → termAt w at ≡ Call → d ≡ 0 →
-        run (rest w at) (within d c f) ≡ refuse 37 0 (getD w at 0) (getD w (at + 4) 0) (getD w (at + 5) 0)
-    call-deep d c f e z = term-step d c f Call e ∙ open-none d (λ (x : ℕ). calling x c f (getD w (at + 4) 0)) z
+        Refuses w at (within d c f) 37 0 (getD w at 0) (getD w (at + 4) 0) (getD w (at + 5) 0)
+    call-deep d c f e z p = term-step d c f Call e p ∙ open-none d (λ (x : ℕ). calling x c f (getD w (at + 4) 0)) z p
 
     pub call-open : (d : ℕ) (c : Place) (f : Terms) → termAt w at ≡ Call → (d ≡ 0 → ⊥) → Same w at (within d c f) (at + 6) (calling (d - 1) c f (getD w (at + 4) 0))
-    call-open d c f e n = term-step d c f Call e ∙ open-some d (λ (x : ℕ). calling x c f (getD w (at + 4) 0)) n
+    call-open d c f e n p = term-step d c f Call e p ∙ open-some d (λ (x : ℕ). calling x c f (getD w (at + 4) 0)) n p
 
     pub call-name : (d : ℕ) (c : Place) (f : Terms) (a : ℕ) → getD w at 0 ≡ tokIdentifier →
         Same w at (calling d c f a) (at + 6) (within d (inCall c f a (getD w (at + 2) 0) (getD w (at + 3) 0)) t0)
@@ -148,172 +150,171 @@ module _ (w : List ℕ) (at : ℕ) where
     call-name d c f a e = run-kind (calling d c f a) tokIdentifier e
 
     pub call-nameless : (d : ℕ) (c : Place) (f : Terms) (a : ℕ) → (getD w at 0 ≡ tokIdentifier → ⊥) →
-        run (rest w at) (calling d c f a) ≡ refuse 33 tokIdentifier (getD w at 0) (afterFrom w at) (afterTo w at)
+        Refuses w at (calling d c f a) 33 tokIdentifier (getD w at 0) (afterFrom w at) (afterTo w at)
     call-nameless d c f a n = run-as (calling d c f a) (wants 33 (tok w at) (afterFrom w at) (afterTo w at)) (rw (ne-eqb (getD w at 0) tokIdentifier n) refl)
 
     -- ---- after a sentence's pattern and conditions
-    module _ (d : ℕ) (p : Block) (s : Sentences) (st : ℕ) (f : Terms) (cs : Conditions) where
+    module _ (d : ℕ) (b : Block) (s : Begun) where
       joint : Step
-      joint = afterTerms d p s st f cs (tok w at) (afterFrom w at) (afterTo w at)
+      joint = afterTerms d b s (tok w at) (afterFrom w at) (afterTo w at)
 
-      joint-kind : (k : ℕ) → getD w at 0 ≡ k → after w at joint ≡ after w at (afterTerms d p s st f cs (kinded k) (afterFrom w at) (afterTo w at))
+      joint-kind : (k : ℕ) → getD w at 0 ≡ k → (p : Program) → after w at p joint ≡ after w at p (afterTerms d b s (kinded k) (afterFrom w at) (afterTo w at))
       unfolding kinded joint
-      joint-kind k e = ap (λ (k : ℕ). after w at (afterTerms d p s st f cs (kinded k) (afterFrom w at) (afterTo w at))) e
+      joint-kind k e p = ap (λ (k : ℕ). after w at p (afterTerms d b s (kinded k) (afterFrom w at) (afterTo w at))) e
 
-      pub joint-comma : getD w at 0 ≡ tokComma → after w at (afterTerms d p s st f cs (tok w at) (afterFrom w at) (afterTo w at)) ≡ run (rest w at) (conditioned d p s st f cs)
+      pub joint-comma : getD w at 0 ≡ tokComma → (p : Program) → after w at p (afterTerms d b s (tok w at) (afterFrom w at) (afterTo w at)) ≡ runs w at p (conditioned d b s)
       unfolding kinded joint
-      joint-comma e = joint-kind tokComma e ∙ sym (run-kind (conditioned d p s st f cs) tokComma e)
+      joint-comma e p = joint-kind tokComma e p ∙ sym (run-kind (conditioned d b s) tokComma e p)
 
-      pub joint-equals : getD w at 0 ≡ tokEquals → after w at (afterTerms d p s st f cs (tok w at) (afterFrom w at) (afterTo w at)) ≡ run (rest w at) (conditioned d p s st f cs)
+      pub joint-equals : getD w at 0 ≡ tokEquals → (p : Program) → after w at p (afterTerms d b s (tok w at) (afterFrom w at) (afterTo w at)) ≡ runs w at p (conditioned d b s)
       unfolding kinded joint
-      joint-equals e = joint-kind tokEquals e ∙ sym (run-kind (conditioned d p s st f cs) tokEquals e)
+      joint-equals e p = joint-kind tokEquals e p ∙ sym (run-kind (conditioned d b s) tokEquals e p)
 
       pub joint-eof : getD w at 0 ≡ tokEof →
-          after w at (afterTerms d p s st f cs (tok w at) (afterFrom w at) (afterTo w at)) ≡ refuse 35 tokEquals (getD w at 0) (getD w (at + 4) 0) (getD w (at + 5) 0)
+          (p : Program) → after w at p (afterTerms d b s (tok w at) (afterFrom w at) (afterTo w at)) ≡ refuse 35 tokEquals (getD w at 0) (getD w (at + 4) 0) (getD w (at + 5) 0)
       unfolding kinded joint
-      joint-eof e = joint-kind tokEof e ∙ ap (λ (k : ℕ). refuse 35 tokEquals k (getD w (at + 4) 0) (getD w (at + 5) 0)) (sym e)
+      joint-eof e p = joint-kind tokEof e p ∙ ap (λ (k : ℕ). refuse 35 tokEquals k (getD w (at + 4) 0) (getD w (at + 5) 0)) (sym e)
 
       pub joint-none : (getD w at 0 ≡ tokComma → ⊥) → (getD w at 0 ≡ tokEquals → ⊥) → (getD w at 0 ≡ tokEof → ⊥) →
-          after w at (afterTerms d p s st f cs (tok w at) (afterFrom w at) (afterTo w at)) ≡ refuse 34 0 (getD w at 0) (afterFrom w at) (afterTo w at)
-      joint-none n₁ n₂ n₃ = rw (ne-eqb (getD w at 0) tokComma n₁, ne-eqb (getD w at 0) tokEquals n₂, ne-eqb (getD w at 0) tokEof n₃) refl
+          (p : Program) → after w at p (afterTerms d b s (tok w at) (afterFrom w at) (afterTo w at)) ≡ refuse 34 0 (getD w at 0) (afterFrom w at) (afterTo w at)
+      joint-none n₁ n₂ n₃ p = rw (ne-eqb (getD w at 0) tokComma n₁, ne-eqb (getD w at 0) tokEquals n₂, ne-eqb (getD w at 0) tokEof n₃) refl
 
       pub joins-none : (getD w at 0 ≡ tokComma → ⊥) → (getD w at 0 ≡ tokEquals → ⊥) →
-          run (rest w at) (conditioned d p s st f cs) ≡ refuse 35 tokEquals (getD w at 0) (getD w (at + 4) 0) (getD w (at + 5) 0)
+          Refuses w at (conditioned d b s) 35 tokEquals (getD w at 0) (getD w (at + 4) 0) (getD w (at + 5) 0)
       joins-none n₁ n₂ =
-          run-as (conditioned d p s st f cs) (expected tokEquals (tok w at)) (rw (ne-eqb (getD w at 0) tokComma n₁, ne-eqb (getD w at 0) tokEquals n₂) refl)
+          run-as (conditioned d b s) (expected tokEquals (tok w at)) (rw (ne-eqb (getD w at 0) tokComma n₁, ne-eqb (getD w at 0) tokEquals n₂) refl)
 
-      pub cond-start : Ready w (at + 6) → getD w at 0 ≡ tokComma → Same w at (conditioned d p s st f cs) (at + 6) (within d (argument p s st f cs (getD w (at + 6 + 4) 0)) t0)
+      pub cond-start : Ready w (at + 6) → getD w at 0 ≡ tokComma → Same w at (conditioned d b s) (at + 6) (within d (argument b s (getD w (at + 6 + 4) 0)) t0)
       unfolding kinded
-      cond-start r' e =
-          run-kind (conditioned d p s st f cs) tokComma e
-          ∙ ap (λ (x : ℕ). run (rest w (at + 6)) (within d (argument p s st f cs x) t0)) (from-next w at r')
+      cond-start r' e p =
+          run-kind (conditioned d b s) tokComma e p
+          ∙ ap (λ (x : ℕ). runs w (at + 6) p (within d (argument b s x) t0)) (from-next w at r')
 
-      pub cond-equals : getD w at 0 ≡ tokEquals → Same w at (conditioned d p s st f cs) (at + 6) (equated d p s st f cs)
+      pub cond-equals : getD w at 0 ≡ tokEquals → Same w at (conditioned d b s) (at + 6) (equated d b s)
       unfolding kinded
-      cond-equals e = run-kind (conditioned d p s st f cs) tokEquals e
+      cond-equals e = run-kind (conditioned d b s) tokEquals e
 
       -- ---- after a condition's `:`
-      pub match-block : (a : ℕ) (g : Terms) (e : ℕ) → getD w at 0 ≡ tokLBrace → run (rest w at) (matched d p s st f cs a g e) ≡ Opens w at d (inCondition p s st f cs a g)
-      match-block a g e k =
-          run-as (matched d p s st f cs a g e) (opens d (tok w at) (λ (x : ℕ). between x (inCondition p s st f cs a g) s0)) (rw (eq-eqb (getD w at 0) tokLBrace k) refl)
+      pub match-block : (o : ℕ) (g : Argument) → getD w at 0 ≡ tokLBrace → (p : Program) → runs w at p (matched d b s o g) ≡ Opens w at d (inCondition b s o g) p
+      match-block o g k =
+          run-as (matched d b s o g) (opens d (tok w at) (λ (x : ℕ). between x (inCondition b s o g) s0)) (rw (eq-eqb (getD w at 0) tokLBrace k) refl)
 
-      pub match-terms : (a : ℕ) (g : Terms) (e : ℕ) → (getD w at 0 ≡ tokLBrace → ⊥) → Same w at (matched d p s st f cs a g e) at (within d (matching p s st f cs a g e) t0)
-      match-terms a g e n =
-          run-as (matched d p s st f cs a g e) (atTerms d (matching p s st f cs a g e) t0 (tok w at) (afterFrom w at) (afterTo w at)) (rw (ne-eqb (getD w at 0) tokLBrace n) refl)
-          ∙ sym (run-at (within d (matching p s st f cs a g e) t0))
+      pub match-terms : (o : ℕ) (g : Argument) → (getD w at 0 ≡ tokLBrace → ⊥) → Same w at (matched d b s o g) at (within d (matching b s o g) t0)
+      match-terms o g n p =
+          run-as (matched d b s o g) (atTerms d (matching b s o g) t0 (tok w at) (afterFrom w at) (afterTo w at)) (rw (ne-eqb (getD w at 0) tokLBrace n) refl) p
+          ∙ sym (run-at (within d (matching b s o g) t0) p)
 
       -- ---- the end of a sentence
-      pub end-terms : (getD w at 0 ≡ tokComma → ⊥) → Same w at (equated d p s st f cs) at (within d (result p s st f cs) t0)
-      end-terms n =
-          run-as (equated d p s st f cs) (atTerms d (result p s st f cs) t0 (tok w at) (afterFrom w at) (afterTo w at)) (rw (ne-eqb (getD w at 0) tokComma n) refl)
-          ∙ sym (run-at (within d (result p s st f cs) t0))
+      pub end-terms : (getD w at 0 ≡ tokComma → ⊥) → Same w at (equated d b s) at (within d (result b s) t0)
+      end-terms n p =
+          run-as (equated d b s) (atTerms d (result b s) t0 (tok w at) (afterFrom w at) (afterTo w at)) (rw (ne-eqb (getD w at 0) tokComma n) refl) p
+          ∙ sym (run-at (within d (result b s) t0) p)
 
-      pub end-start : Ready w (at + 6) → getD w at 0 ≡ tokComma → Same w at (equated d p s st f cs) (at + 6) (within d (ending p s st f cs (getD w (at + 6 + 4) 0)) t0)
+      pub end-start : getD w at 0 ≡ tokComma → Same w at (equated d b s) (at + 6) (within d (ending b s) t0)
       unfolding kinded
-      end-start r' e =
-          run-kind (equated d p s st f cs) tokComma e
-          ∙ ap (λ (x : ℕ). run (rest w (at + 6)) (within d (ending p s st f cs x) t0)) (from-next w at r')
+      end-start e = run-kind (equated d b s) tokComma e
 
-      pub end-block : (a : ℕ) (g : Terms) → getD w at 0 ≡ tokLBrace → run (rest w at) (blocked d p s st f cs a g) ≡ Opens w at d (inEnding p s st f cs a g)
-      end-block a g k =
-          run-as (blocked d p s st f cs a g) (opens d (tok w at) (λ (x : ℕ). between x (inEnding p s st f cs a g) s0)) (rw (eq-eqb (getD w at 0) tokLBrace k) refl)
+      pub end-block : (g : Argument) → getD w at 0 ≡ tokLBrace → (p : Program) → runs w at p (blocked d b s g) ≡ Opens w at d (inEnding b s g) p
+      end-block g k =
+          run-as (blocked d b s g) (opens d (tok w at) (λ (x : ℕ). between x (inEnding b s g) s0)) (rw (eq-eqb (getD w at 0) tokLBrace k) refl)
 
-      pub end-unopened : (a : ℕ) (g : Terms) → (getD w at 0 ≡ tokLBrace → ⊥) →
-          run (rest w at) (blocked d p s st f cs a g) ≡ refuse 35 tokLBrace (getD w at 0) (getD w (at + 4) 0) (getD w (at + 5) 0)
-      end-unopened a g n = run-as (blocked d p s st f cs a g) (expected tokLBrace (tok w at)) (rw (ne-eqb (getD w at 0) tokLBrace n) refl)
+      pub end-unopened : (g : Argument) → (getD w at 0 ≡ tokLBrace → ⊥) →
+          Refuses w at (blocked d b s g) 35 tokLBrace (getD w at 0) (getD w (at + 4) 0) (getD w (at + 5) 0)
+      end-unopened g n = run-as (blocked d b s g) (expected tokLBrace (tok w at)) (rw (ne-eqb (getD w at 0) tokLBrace n) refl)
 
-      pub end-closed : (a : ℕ) (g : Terms) (v : Sentences) (e : ℕ) → getD w at 0 ≡ tokSemicolon →
-          Same w at (ended d p s st f cs a g v e) (at + 6) (between d p (sMore s (sentence st f cs (eBlock a g v e) (getD w (at + 5) 0))))
+      pub end-closed : (g : Argument) (v : Sentences) (e : ℕ) → getD w at 0 ≡ tokSemicolon →
+          Same w at (ended d b s g v e) (at + 6) (between d b (finished s (endBlock g v e) (getD w (at + 5) 0)))
       unfolding kinded
-      end-closed a g v e k = run-kind (ended d p s st f cs a g v e) tokSemicolon k
+      end-closed g v e k = run-kind (ended d b s g v e) tokSemicolon k
 
-      pub end-unclosed : (a : ℕ) (g : Terms) (v : Sentences) (e : ℕ) → (getD w at 0 ≡ tokSemicolon → ⊥) →
-          run (rest w at) (ended d p s st f cs a g v e) ≡ refuse 35 tokSemicolon (getD w at 0) (getD w (at + 4) 0) (getD w (at + 5) 0)
-      end-unclosed a g v e n = run-as (ended d p s st f cs a g v e) (expected tokSemicolon (tok w at)) (rw (ne-eqb (getD w at 0) tokSemicolon n) refl)
+      pub end-unclosed : (g : Argument) (v : Sentences) (e : ℕ) → (getD w at 0 ≡ tokSemicolon → ⊥) →
+          Refuses w at (ended d b s g v e) 35 tokSemicolon (getD w at 0) (getD w (at + 4) 0) (getD w (at + 5) 0)
+      end-unclosed g v e n = run-as (ended d b s g v e) (expected tokSemicolon (tok w at)) (rw (ne-eqb (getD w at 0) tokSemicolon n) refl)
 
     -- ---- between sentences
-    module _ (d : ℕ) (p : Block) (v : Sentences) where
-      pub block-close : getD w at 0 ≡ tokRBrace → Same w at (between d p v) (at + 6) (leave d p v (tok w at))
-      block-close e = run-as (between d p v) (go (leave d p v (tok w at))) (rw (eq-eqb (getD w at 0) tokRBrace e) refl)
+    module _ (d : ℕ) (b : Block) (v : Sentences) where
+      pub block-close : getD w at 0 ≡ tokRBrace → (p : Program) → runs w at p (between d b v) ≡ leads w (at + 6) p (leave d b v (getD w (at + 5) 0))
+      block-close e = run-as (between d b v) (leave d b v (getD w (at + 5) 0)) (rw (eq-eqb (getD w at 0) tokRBrace e) refl)
 
       pub block-eof : (getD w at 0 ≡ tokRBrace → ⊥) → getD w at 0 ≡ tokEof →
-          run (rest w at) (between d p v) ≡ refuse 35 tokRBrace (getD w at 0) (getD w (at + 4) 0) (getD w (at + 5) 0)
-      block-eof n e = run-as (between d p v) (expected tokRBrace (tok w at)) (rw (ne-eqb (getD w at 0) tokRBrace n, eq-eqb (getD w at 0) tokEof e) refl)
+          Refuses w at (between d b v) 35 tokRBrace (getD w at 0) (getD w (at + 4) 0) (getD w (at + 5) 0)
+      block-eof n e = run-as (between d b v) (expected tokRBrace (tok w at)) (rw (ne-eqb (getD w at 0) tokRBrace n, eq-eqb (getD w at 0) tokEof e) refl)
 
-      pub block-more : (getD w at 0 ≡ tokRBrace → ⊥) → (getD w at 0 ≡ tokEof → ⊥) → Same w at (between d p v) at (within d (pattern p v (getD w (at + 4) 0)) t0)
-      block-more n n' =
-          run-as (between d p v) (atTerms d (pattern p v (getD w (at + 4) 0)) t0 (tok w at) (afterFrom w at) (afterTo w at))
-          (rw (ne-eqb (getD w at 0) tokRBrace n, ne-eqb (getD w at 0) tokEof n') refl)
-          ∙ sym (run-at (within d (pattern p v (getD w (at + 4) 0)) t0))
+      pub block-more : (getD w at 0 ≡ tokRBrace → ⊥) → (getD w at 0 ≡ tokEof → ⊥) → Same w at (between d b v) at (within d (pattern b v (getD w (at + 4) 0)) t0)
+      block-more n n' p =
+          run-as (between d b v) (atTerms d (pattern b v (getD w (at + 4) 0)) t0 (tok w at) (afterFrom w at) (afterTo w at))
+          (rw (ne-eqb (getD w at 0) tokRBrace n, ne-eqb (getD w at 0) tokEof n') refl) p
+          ∙ sym (run-at (within d (pattern b v (getD w (at + 4) 0)) t0) p)
 
     -- ---- items
-    module _ (p : Program) where
-      pub items-eof : getD w at 0 ≡ tokEof → run (rest w at) (items p) ≡ tree p
+    pub items-eof : getD w at 0 ≡ tokEof → (p : Program) → runs w at p outside ≡ tree p
+    unfolding kinded
+    items-eof e = run-kind outside tokEof e
+
+    pub items-pass : getD w at 0 ≡ tokSemicolon → Same w at outside (at + 6) outside
+    unfolding kinded
+    items-pass e = run-kind outside tokSemicolon e
+
+    pub items-extern : getD w at 0 ≡ tokExtern → Same w at outside (at + 6) (wantsName (getD w (at + 4) 0))
+    unfolding kinded
+    items-extern e = run-kind outside tokExtern e
+
+    pub items-entry : getD w at 0 ≡ tokEntry → Same w at outside (at + 6) (entered (getD w (at + 4) 0))
+    unfolding kinded
+    items-entry e = run-kind outside tokEntry e
+
+    pub items-name : getD w at 0 ≡ tokIdentifier → Same w at outside (at + 6) (headed (heading w at at false))
+    unfolding kinded
+    items-name e = run-kind outside tokIdentifier e
+
+    pub items-none : (getD w at 0 ≡ tokEof → ⊥) → (getD w at 0 ≡ tokSemicolon → ⊥) → (getD w at 0 ≡ tokExtern → ⊥) → (getD w at 0 ≡ tokEntry → ⊥) →
+        (getD w at 0 ≡ tokIdentifier → ⊥) → Refuses w at outside 32 tokIdentifier (getD w at 0) (afterFrom w at) (afterTo w at)
+    items-none n₁ n₂ n₃ n₄ n₅ =
+        run-as outside (wants 32 (tok w at) (afterFrom w at) (afterTo w at))
+        (rw (ne-eqb (getD w at 0) tokEof n₁, ne-eqb (getD w at 0) tokSemicolon n₂, ne-eqb (getD w at 0) tokExtern n₃, ne-eqb (getD w at 0) tokEntry n₄, ne-eqb (getD w at 0) tokIdentifier n₅) refl)
+
+    module _ (a : ℕ) where
+      pub first-name : getD w at 0 ≡ tokIdentifier → Same w at (wantsName a) (at + 6) (named a (nOne (getD w (at + 2) 0) (getD w (at + 3) 0)))
       unfolding kinded
-      items-eof e = run-kind (items p) tokEof e
+      first-name e = run-kind (wantsName a) tokIdentifier e
 
-      pub items-pass : getD w at 0 ≡ tokSemicolon → Same w at (items p) (at + 6) (items p)
+      pub more-name : (ns : Names) → getD w at 0 ≡ tokIdentifier → Same w at (wantsMore a ns) (at + 6) (named a (nMore ns (getD w (at + 2) 0) (getD w (at + 3) 0)))
       unfolding kinded
-      items-pass e = run-kind (items p) tokSemicolon e
+      more-name ns e = run-kind (wantsMore a ns) tokIdentifier e
 
-      pub items-extern : getD w at 0 ≡ tokExtern → Same w at (items p) (at + 6) (wantsName p (getD w (at + 4) 0))
+      pub first-none : (getD w at 0 ≡ tokIdentifier → ⊥) → Refuses w at (wantsName a) 31 tokIdentifier (getD w at 0) (afterFrom w at) (afterTo w at)
+      first-none n = run-as (wantsName a) (wants 31 (tok w at) (afterFrom w at) (afterTo w at)) (rw (ne-eqb (getD w at 0) tokIdentifier n) refl)
+
+      pub more-none : (ns : Names) → (getD w at 0 ≡ tokIdentifier → ⊥) →
+          Refuses w at (wantsMore a ns) 31 tokIdentifier (getD w at 0) (afterFrom w at) (afterTo w at)
+      more-none ns n = run-as (wantsMore a ns) (wants 31 (tok w at) (afterFrom w at) (afterTo w at)) (rw (ne-eqb (getD w at 0) tokIdentifier n) refl)
+
+      pub named-comma : (ns : Names) → getD w at 0 ≡ tokComma → Same w at (named a ns) (at + 6) (wantsMore a ns)
       unfolding kinded
-      items-extern e = run-kind (items p) tokExtern e
+      named-comma ns e = run-kind (named a ns) tokComma e
 
-      pub items-entry : getD w at 0 ≡ tokEntry → Same w at (items p) (at + 6) (entered p (getD w (at + 4) 0))
+      pub named-end : (ns : Names) → getD w at 0 ≡ tokSemicolon → (p : Program) →
+          runs w at p (named a ns) ≡ runs w (at + 6) (pMore p (declaration a ns (getD w (at + 5) 0))) outside
       unfolding kinded
-      items-entry e = run-kind (items p) tokEntry e
+      named-end ns e = run-kind (named a ns) tokSemicolon e
 
-      pub items-name : getD w at 0 ≡ tokIdentifier → Same w at (items p) (at + 6) (headed p (getD w (at + 4) 0) false (getD w (at + 2) 0) (getD w (at + 3) 0))
+      pub named-none : (ns : Names) → (getD w at 0 ≡ tokComma → ⊥) → (getD w at 0 ≡ tokSemicolon → ⊥) →
+          Refuses w at (named a ns) 35 tokSemicolon (getD w at 0) (getD w (at + 4) 0) (getD w (at + 5) 0)
+      named-none ns n n' =
+          run-as (named a ns) (expected tokSemicolon (tok w at)) (rw (ne-eqb (getD w at 0) tokComma n, ne-eqb (getD w at 0) tokSemicolon n') refl)
+
+      pub entry-name : getD w at 0 ≡ tokIdentifier →
+          Same w at (entered a) (at + 6) (headed (record { from = a; entry = true; start = getD w (at + 2) 0; len = getD w (at + 3) 0 }))
       unfolding kinded
-      items-name e = run-kind (items p) tokIdentifier e
+      entry-name e = run-kind (entered a) tokIdentifier e
 
-      pub items-none : (getD w at 0 ≡ tokEof → ⊥) → (getD w at 0 ≡ tokSemicolon → ⊥) → (getD w at 0 ≡ tokExtern → ⊥) → (getD w at 0 ≡ tokEntry → ⊥) →
-          (getD w at 0 ≡ tokIdentifier → ⊥) → run (rest w at) (items p) ≡ refuse 32 tokIdentifier (getD w at 0) (afterFrom w at) (afterTo w at)
-      items-none n₁ n₂ n₃ n₄ n₅ =
-          run-as (items p) (wants 32 (tok w at) (afterFrom w at) (afterTo w at))
-          (rw (ne-eqb (getD w at 0) tokEof n₁, ne-eqb (getD w at 0) tokSemicolon n₂, ne-eqb (getD w at 0) tokExtern n₃, ne-eqb (getD w at 0) tokEntry n₄, ne-eqb (getD w at 0) tokIdentifier n₅) refl)
+      pub entry-none : (getD w at 0 ≡ tokIdentifier → ⊥) → Refuses w at (entered a) 32 tokIdentifier (getD w at 0) (afterFrom w at) (afterTo w at)
+      entry-none n = run-as (entered a) (wants 32 (tok w at) (afterFrom w at) (afterTo w at)) (rw (ne-eqb (getD w at 0) tokIdentifier n) refl)
 
-      module _ (a : ℕ) where
-        pub first-name : getD w at 0 ≡ tokIdentifier → Same w at (wantsName p a) (at + 6) (named p a (nOne (getD w (at + 2) 0) (getD w (at + 3) 0)))
-        unfolding kinded
-        first-name e = run-kind (wantsName p a) tokIdentifier e
+    module _ (h : Heading) where
+      pub head-open : getD w at 0 ≡ tokLBrace → (p : Program) → runs w at p (headed h) ≡ Opens w at (suc mostLevels) (body h) p
+      unfolding kinded
+      head-open e = run-kind (headed h) tokLBrace e
 
-        pub more-name : (ns : Names) → getD w at 0 ≡ tokIdentifier → Same w at (wantsMore p a ns) (at + 6) (named p a (nMore ns (getD w (at + 2) 0) (getD w (at + 3) 0)))
-        unfolding kinded
-        more-name ns e = run-kind (wantsMore p a ns) tokIdentifier e
-
-        pub first-none : (getD w at 0 ≡ tokIdentifier → ⊥) → run (rest w at) (wantsName p a) ≡ refuse 31 tokIdentifier (getD w at 0) (afterFrom w at) (afterTo w at)
-        first-none n = run-as (wantsName p a) (wants 31 (tok w at) (afterFrom w at) (afterTo w at)) (rw (ne-eqb (getD w at 0) tokIdentifier n) refl)
-
-        pub more-none : (ns : Names) → (getD w at 0 ≡ tokIdentifier → ⊥) →
-            run (rest w at) (wantsMore p a ns) ≡ refuse 31 tokIdentifier (getD w at 0) (afterFrom w at) (afterTo w at)
-        more-none ns n = run-as (wantsMore p a ns) (wants 31 (tok w at) (afterFrom w at) (afterTo w at)) (rw (ne-eqb (getD w at 0) tokIdentifier n) refl)
-
-        pub named-comma : (ns : Names) → getD w at 0 ≡ tokComma → Same w at (named p a ns) (at + 6) (wantsMore p a ns)
-        unfolding kinded
-        named-comma ns e = run-kind (named p a ns) tokComma e
-
-        pub named-end : (ns : Names) → getD w at 0 ≡ tokSemicolon → Same w at (named p a ns) (at + 6) (items (pMore p (declaration a ns (getD w (at + 5) 0))))
-        unfolding kinded
-        named-end ns e = run-kind (named p a ns) tokSemicolon e
-
-        pub named-none : (ns : Names) → (getD w at 0 ≡ tokComma → ⊥) → (getD w at 0 ≡ tokSemicolon → ⊥) →
-            run (rest w at) (named p a ns) ≡ refuse 35 tokSemicolon (getD w at 0) (getD w (at + 4) 0) (getD w (at + 5) 0)
-        named-none ns n n' =
-            run-as (named p a ns) (expected tokSemicolon (tok w at)) (rw (ne-eqb (getD w at 0) tokComma n, ne-eqb (getD w at 0) tokSemicolon n') refl)
-
-        pub entry-name : getD w at 0 ≡ tokIdentifier → Same w at (entered p a) (at + 6) (headed p a true (getD w (at + 2) 0) (getD w (at + 3) 0))
-        unfolding kinded
-        entry-name e = run-kind (entered p a) tokIdentifier e
-
-        pub entry-none : (getD w at 0 ≡ tokIdentifier → ⊥) → run (rest w at) (entered p a) ≡ refuse 32 tokIdentifier (getD w at 0) (afterFrom w at) (afterTo w at)
-        entry-none n = run-as (entered p a) (wants 32 (tok w at) (afterFrom w at) (afterTo w at)) (rw (ne-eqb (getD w at 0) tokIdentifier n) refl)
-
-        pub head-open : (x : Bool) (s l : ℕ) → getD w at 0 ≡ tokLBrace → run (rest w at) (headed p a x s l) ≡ Opens w at 65 (body p a x s l)
-        unfolding kinded
-        head-open x s l e = run-kind (headed p a x s l) tokLBrace e
-
-        pub head-none : (x : Bool) (s l : ℕ) → (getD w at 0 ≡ tokLBrace → ⊥) →
-            run (rest w at) (headed p a x s l) ≡ refuse 35 tokLBrace (getD w at 0) (getD w (at + 4) 0) (getD w (at + 5) 0)
-        head-none x s l n = run-as (headed p a x s l) (expected tokLBrace (tok w at)) (rw (ne-eqb (getD w at 0) tokLBrace n) refl)
+      pub head-none : (getD w at 0 ≡ tokLBrace → ⊥) → Refuses w at (headed h) 35 tokLBrace (getD w at 0) (getD w (at + 4) 0) (getD w (at + 5) 0)
+      head-none n = run-as (headed h) (expected tokLBrace (tok w at)) (rw (ne-eqb (getD w at 0) tokLBrace n) refl)

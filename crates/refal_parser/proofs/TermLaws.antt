@@ -4,32 +4,41 @@ use Prim.Native.Nat.{ℕ, _+_, _≤_}
 use mathlib.Core.List.{List}
 use native.Mathlib.Omega.{arith}
 use lib.ListN.{length, getD}
-use Rattle.refal_ast.specs.Tree.{Leaf, symbol, variable, leaf, Terms, tMore, sizeTerm}
+use Rattle.refal_ast.specs.Tree.{Leaf, symbol, variable, leaf, Terms, tMore, Program, sizeTerm}
 use Rattle.refal_ast.specs.Encode.{leafRow}
-use Rattle.refal_parser.specs.Machine.{Place, within, inTerms, lastEnd, run}
-use Rattle.refal_parser.specs.Ready.{rest, tok, termAt, afterFrom, afterTo, Ready}
-use Rattle.refal_parser.specs.Leaves.{leafTerm}
+use Rattle.refal_parser.specs.Machine.{Place, within, inTerms, firstStart}
+use Rattle.refal_parser.specs.Ready.{tok, termAt, afterFrom, afterTo, Ready}
+use Rattle.refal_ast.specs.declared.tree.Term.{Term}
+use Rattle.refal_ast.specs.declared.tree.Term.the-variants.{Symbol as theSymbol, Variable}
 use Rattle.refal_parser.specs.Writers.{putNode, wTerm}
-use Rattle.refal_parser.specs.Post.{after}
+use Rattle.refal_parser.specs.Post.{runs, after}
 use Rattle.refal_parser.specs.PostTerms.{TermGot, TermsInv}
 use Rattle.refal_parser.proofs.TokenLaws.{end-before}
 use Rattle.refal_parser.proofs.Rows.{more-terms, size-terms}
 use Rattle.refal_parser.proofs.Steps.{begins, ready-term, term-step}
 
 -- ---- the machine at a leaf
+-- what a token that is a leaf begins
+abbrev pub leafTerm : Leaf → Term
+leafTerm (symbol z) = theSymbol z
+leafTerm (variable v s l) = Variable v s l
+
 leaf-begins : (x : Leaf) → begins (leafTerm x) ≡ 1
 leaf-begins (symbol z) = refl
 leaf-begins (variable v s l) = refl
 
-module _ (w : List ℕ) (i d : ℕ) (c : Place) (f : Terms) where
-  leaf-here : (x : Leaf) → after w i (inTerms d c f (tok w i) (afterFrom w i) (afterTo w i) (leafTerm x)) ≡ run (rest w (i + 6)) (within d c (tMore f (leaf x (getD w (i + 4) 0) (getD w (i + 5) 0))))
+module _ (w : List ℕ) (i d : ℕ) (c : Place) (f : Terms) (p : Program) where
+  leaf-here : (x : Leaf) → after w i p (inTerms d c f (tok w i) (afterFrom w i) (afterTo w i) (leafTerm x))
+      ≡ runs w (i + 6) p (within d c (tMore f (leaf x (getD w (i + 4) 0) (getD w (i + 5) 0))))
   leaf-here (symbol z) = refl
   leaf-here (variable v s l) = refl
 
   leaf-step : (x : Leaf) {a b : ℕ} → a ≡ getD w (i + 4) 0 → b ≡ getD w (i + 5) 0 →
-      after w i (inTerms d c f (tok w i) (afterFrom w i) (afterTo w i) (leafTerm x)) ≡ run (rest w (i + 6)) (within d c (tMore f (leaf x a b)))
+      after w i p (inTerms d c f (tok w i) (afterFrom w i) (afterTo w i) (leafTerm x)) ≡ runs w (i + 6) p (within d c (tMore f (leaf x a b)))
   leaf-step x {a} {b} ea eb =
-      leaf-here x ∙ ap (λ (y : ℕ). run (rest w (i + 6)) (within d c (tMore f (leaf x y (getD w (i + 5) 0))))) (sym ea) ∙ ap (λ (y : ℕ). run (rest w (i + 6)) (within d c (tMore f (leaf x a y)))) (sym eb)
+      leaf-here x
+      ∙ ap (λ (y : ℕ). runs w (i + 6) p (within d c (tMore f (leaf x y (getD w (i + 5) 0))))) (sym ea)
+      ∙ ap (λ (y : ℕ). runs w (i + 6) p (within d c (tMore f (leaf x a y)))) (sym eb)
 
 pub ready-leaf : (w : List ℕ) (i : ℕ) (x : Leaf) → Ready w i → termAt w i ≡ leafTerm x → Ready w (i + 6)
 ready-leaf w i x r e = ready-term w i (leafTerm x) r e (leaf-begins x)
@@ -44,8 +53,9 @@ one-term {w} {B₀} {B} {B'} {at} {n} {left} {i} {m} {j} {m'} same T I = record 
   same = same ∙ I .same;
   rows = more-terms n B₀ (I .g) (T .x) (I .count) (I .rows) (T .rows);
   count = size-terms n (I .g) (T .x) (I .count) (T .count);
+  first = ap (firstStart (I .g)) (T .first) ∙ I .first;
   last = T .last;
-  means = λ c. I .means c ∙ T .means c (I .g);
+  means = λ c p. I .means c p ∙ T .means c (I .g) p;
 }
 
 -- ---- a leaf
@@ -66,8 +76,9 @@ leaf-got {w} {B} {B'} {i} {m} {left} {a} {b} x r few e ea eb put = record {
   few = omega arith;
   rows = leaf-rows x a b m B B' put;
   count = leaf-size x a b m;
+  first = ea;
   last = eb ∙ end-before w i;
-  means = λ c f. term-step w i r left c f (leafTerm x) e ∙ leaf-step w i left c f x ea eb;
+  means = λ c f p. term-step w i r left c f (leafTerm x) e p ∙ leaf-step w i left c f p x ea eb;
 }
 
 pub one-leaf : {w B₀ B B' : List ℕ} {at n left i m a b : ℕ} (x : Leaf) → termAt w i ≡ leafTerm x → a ≡ getD w (i + 4) 0 → b ≡ getD w (i + 5) 0 → length B' ≡ length B →

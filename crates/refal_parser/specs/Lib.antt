@@ -1,10 +1,9 @@
 -- Definitions: Machine (parsing a list of tokens), Parse (what `parse` answers and leaves). Parts of inner contracts: Ready (a word where a token
--- begins), Leaves (tokens that are a symbol or a variable by themselves), Writers (rows in the order in which the code puts them), Post, PostTerms,
+-- begins), Writers (rows in the order in which the code puts them), Post, PostTerms,
 -- PostBlock, PostItems.
 pub mod Machine
 pub mod Parse
 pub mod Ready
-pub mod Leaves
 pub mod Writers
 pub mod Post
 pub mod PostTerms

@@ -1,5 +1,9 @@
--- Parsing, as document 01 "From tokens to the tree" has it: a machine that takes one token at a time and keeps a stack of what is open.
+-- Parsing, as document 01 "From tokens to the tree" has it: a machine that takes one token at a time. Its state is that of one item: it keeps a stack
+-- of what is open, and nothing of the items before. The program stands beside it, and an item that ends is added to it.
 -- It recurses on the list of tokens alone, so the first refusal from the left is the answer.
+-- One letter for one thing: t a token, x and y the span of the token after it, L the most levels, d the levels left, b a block, s sentences, r the
+-- sentence being read, o the start of the condition being read, g an argument, cs conditions, c what terms stand in, f terms, a the start of what is being read,
+-- ns names, h a function's heading, v the sentences of a block that has ended, e its end, p the items before.
 use Prim.Native.Nat.{ℕ, zero, suc}
 use mathlib.Core.List.{List, [], _∷_}
 use mathlib.Core.Bool.{Bool, true, false}
@@ -7,8 +11,8 @@ use lib.Dec.{eqb}
 use Rattle.refal_ast.specs.Kinds.{tokEntry, tokExtern, tokIdentifier, tokVariable, tokNumber, tokChar, tokLBrace, tokRBrace, tokLParen, tokRParen, tokLAngle, tokRAngle, tokComma}
 use Rattle.refal_ast.specs.Kinds.{tokColon, tokEquals, tokSemicolon, tokEof}
 use Rattle.refal_ast.specs.Tokens.{Token}
-use Rattle.refal_ast.specs.Tree.{symbol, variable, Term as TreeTerm, leaf, bracket, call, Terms, t0, tMore, rTerms, rBlock, condition, Conditions, c0, cMore}
-use Rattle.refal_ast.specs.Tree.{eTerms, eBlock, sentence, Sentences, s0, sMore, Names, nOne, nMore, declaration, function, Program, pMore}
+use Rattle.refal_ast.specs.Tree.{symbol, variable, Term as TreeTerm, leaf, bracket, call, Terms, t0, tMore, rTerms, rBlock, Condition, condition, Conditions, c0, cMore}
+use Rattle.refal_ast.specs.Tree.{End, eTerms, eBlock, sentence, Sentences, s0, sMore, Sentence, Names, nOne, nMore, Item, declaration, function, Program, pMore}
 use Rattle.refal_ast.specs.declared.tree.Symbol.the-variants.{Char, Identifier, Number}
 use Rattle.refal_ast.specs.declared.tree.VariableKind.the-variants.{Symbol as kindS, Term as kindT, Expression as kindE}
 use Rattle.refal_ast.specs.declared.tree.Term.{Term}
@@ -31,33 +35,53 @@ variableOf letter start len =
 abbrev pub termOf : ℕ → ℕ → ℕ → ℕ → Term
 termOf kind detail start len =
     pickTerm (eqb kind tokIdentifier) (theSymbol (Identifier start len))
+    (pickTerm (eqb kind tokVariable) (variableOf detail start len)
     (pickTerm (eqb kind tokNumber) (theSymbol (Number start len))
     (pickTerm (eqb kind tokChar) (theSymbol (Char detail))
-    (pickTerm (eqb kind tokVariable) (variableOf detail start len)
     (pickTerm (eqb kind tokLParen) Bracket
     (pickTerm (eqb kind tokLAngle) Call
     NoTerm)))))
 
 -- ---- states
--- what sentences stand in: a function's body (the items before, its start, whether it is an entry, its name's text); a condition's block and an
--- ending block (the block outside, the sentences before, the sentence's start, pattern and conditions, the block's start, its argument)
+-- a function up to its name
+pub record Heading : Type 0 where
+  pub from : ℕ
+  pub entry : Bool
+  pub start : ℕ
+  pub len : ℕ
+
+-- a sentence up to some of its conditions, and the sentences before it
+pub record Begun : Type 0 where
+  pub before : Sentences
+  pub from : ℕ
+  pub pattern : Terms
+  pub conditions : Conditions
+
+-- an argument with its `:`: where a block of it starts, its terms, the end of the `:`
+pub record Argument : Type 0 where
+  pub from : ℕ
+  pub terms : Terms
+  pub to : ℕ
+
+-- what sentences stand in: a function; a condition's block, which stands in another block, in a sentence, in a condition with its start and argument;
+-- an ending block, which stands in another block, in a sentence, with its argument
 pub data Block : Type 0 where
-  body : Program → ℕ → Bool → ℕ → ℕ → Block
-  inCondition : Block → Sentences → ℕ → Terms → Conditions → ℕ → Terms → Block
-  inEnding : Block → Sentences → ℕ → Terms → Conditions → ℕ → Terms → Block
+  body : Heading → Block
+  inCondition : Block → Begun → ℕ → Argument → Block
+  inEnding : Block → Begun → Argument → Block
 
 -- what terms stand in
 pub data Place : Type 0 where
   -- a sentence's pattern: the block, the sentences before, the sentence's start
   pattern : Block → Sentences → ℕ → Place
-  -- a condition's first terms: as above, with the pattern and the conditions before; the condition's start
-  argument : Block → Sentences → ℕ → Terms → Conditions → ℕ → Place
-  -- a condition's terms after `:`: as above, with the first terms, and the end of the `:`
-  matching : Block → Sentences → ℕ → Terms → Conditions → ℕ → Terms → ℕ → Place
-  -- a sentence's result: the block, the sentences before, the start, the pattern, the conditions
-  result : Block → Sentences → ℕ → Terms → Conditions → Place
-  -- an ending block's argument: as above, with the block's start
-  ending : Block → Sentences → ℕ → Terms → Conditions → ℕ → Place
+  -- a condition's first terms: the block, the sentence, the condition's start
+  argument : Block → Begun → ℕ → Place
+  -- a condition's terms after `:`: as above, with the argument
+  matching : Block → Begun → ℕ → Argument → Place
+  -- a sentence's result
+  result : Block → Begun → Place
+  -- an ending block's argument
+  ending : Block → Begun → Place
   -- a bracket: what it stands in, the terms before it, its start
   inBracket : Place → Terms → ℕ → Place
   -- a call: what it stands in, the terms before it, its start, its name's text
@@ -66,42 +90,42 @@ pub data Place : Type 0 where
 -- where the machine is. A number of levels left comes first where something can be opened
 pub data State : Type 0 where
   -- between items
-  items : Program → State
-  -- a declaration wants its first name: the items before, its start; then a next name: the names before
-  wantsName : Program → ℕ → State
-  wantsMore : Program → ℕ → Names → State
-  -- after a declaration's name
-  named : Program → ℕ → Names → State
-  -- after Entry: the function's start
-  entered : Program → ℕ → State
-  -- after a function's name
-  headed : Program → ℕ → Bool → ℕ → ℕ → State
+  outside : State
+  -- a declaration wants its first name; a next name; is after a name
+  wantsName : ℕ → State
+  wantsMore : ℕ → Names → State
+  named : ℕ → Names → State
+  -- after Entry; after a function's name
+  entered : ℕ → State
+  headed : Heading → State
   -- between sentences
   between : ℕ → Block → Sentences → State
   -- in terms, with those read so far
   within : ℕ → Place → Terms → State
   -- a call wants its name: what it stands in, the terms before it, its start
   calling : ℕ → Place → Terms → ℕ → State
-  -- after a condition's `:`: the sentence so far, the condition's start and first terms, the end of the `:`
-  matched : ℕ → Block → Sentences → ℕ → Terms → Conditions → ℕ → Terms → ℕ → State
-  -- after a condition's block: the sentence so far
-  conditioned : ℕ → Block → Sentences → ℕ → Terms → Conditions → State
+  -- after a condition's `:`: the condition's start and argument
+  matched : ℕ → Block → Begun → ℕ → Argument → State
+  -- after a condition's block
+  conditioned : ℕ → Block → Begun → State
   -- after a sentence's `=`
-  equated : ℕ → Block → Sentences → ℕ → Terms → Conditions → State
-  -- after an ending block's `:`: its start and argument
-  blocked : ℕ → Block → Sentences → ℕ → Terms → Conditions → ℕ → Terms → State
-  -- after an ending block: its start, argument, sentences and end
-  ended : ℕ → Block → Sentences → ℕ → Terms → Conditions → ℕ → Terms → Sentences → ℕ → State
+  equated : ℕ → Block → Begun → State
+  -- after an ending block's `:`
+  blocked : ℕ → Block → Begun → Argument → State
+  -- after an ending block: its argument, sentences and end
+  ended : ℕ → Block → Begun → Argument → Sentences → ℕ → State
 
 -- what comes of it: a tree; or a refusal, with number, expected, found, span start and end
 pub data Outcome : Type 0 where
   tree : Program → Outcome
   refuse : ℕ → ℕ → ℕ → ℕ → ℕ → Outcome
 
--- what a token does: go on in a state, or stop
+-- what a token does: go on in a state; end an item; end the program; stop with a refusal
 pub data Step : Type 0 where
   go : State → Step
-  stop : Outcome → Step
+  made : Item → Step
+  over : Step
+  stop : ℕ → ℕ → ℕ → ℕ → ℕ → Step
 
 abbrev pub pick : Bool → Step → Step → Step
 pick true x y = x
@@ -114,57 +138,105 @@ on k n x y = pick (eqb k n) x y
 -- ---- refusals. Those of 31 to 34 and 36 find the token taken and show the span x, y of the token after it, or of Eof, which isn't passed;
 -- 35 and 37 find and show the present token
 abbrev pub wants : ℕ → Token → ℕ → ℕ → Step
-wants number t x y = stop (refuse number tokIdentifier (t .kind) x y)
+wants number t x y = stop number tokIdentifier (t .kind) x y
 
 abbrev pub noTerm : Token → ℕ → ℕ → Step
-noTerm t x y = stop (refuse 34 0 (t .kind) x y)
+noTerm t x y = stop 34 0 (t .kind) x y
 
 abbrev pub unknownVariable : Token → ℕ → ℕ → Step
-unknownVariable t x y = stop (refuse 36 0 (t .kind) x y)
+unknownVariable t x y = stop 36 0 (t .kind) x y
 
 abbrev pub expected : ℕ → Token → Step
-expected kind t = stop (refuse 35 kind (t .kind) (t .from) (t .to))
+expected kind t = stop 35 kind (t .kind) (t .from) (t .to)
 
 -- a bracket, call or block opens where a level is left
 abbrev pub opens : ℕ → Token → (ℕ → State) → Step
-opens zero t f = stop (refuse 37 0 (t .kind) (t .from) (t .to))
+opens zero t f = stop 37 0 (t .kind) (t .from) (t .to)
 opens (suc d) t f = go (f d)
 
--- ---- where terms end: at the kind that closes them; Eof there is 35, another kind 34
-abbrev pub closing : ℕ → Token → ℕ → ℕ → Step → Step
-closing kind t x y next = on (t .kind) kind next (on (t .kind) tokEof (expected kind t) (noTerm t x y))
+-- ---- where terms end: at a kind that closes them; Eof there is 35, another kind 34
+pub record Closer : Type 0 where
+  pub kind : ℕ
+  pub next : Step
 
--- the end of a term; of the last of some terms, or e where there are none
+abbrev pub closing : ℕ → List Closer → Token → ℕ → ℕ → Step
+closing want [] t x y = on (t .kind) tokEof (expected want t) (noTerm t x y)
+closing want (k ∷ ks) t x y = on (t .kind) (k .kind) (k .next) (closing want ks t x y)
+
+-- the kind wanted, and no other
+abbrev pub only : ℕ → State → List Closer
+only want st = record { kind = want; next = go st } ∷ []
+
+-- ---- spans
+abbrev pub startTerm : TreeTerm → ℕ
+startTerm (leaf x a b) = a
+startTerm (bracket a f b) = a
+startTerm (call a s l f b) = a
+
 abbrev pub endTerm : TreeTerm → ℕ
 endTerm (leaf x a b) = b
 endTerm (bracket a f b) = b
 endTerm (call a s l f b) = b
 
+-- the start of the first of some terms, or a where there are none
+abbrev pub firstStart : Terms → ℕ → ℕ
+firstStart t0 a = a
+firstStart (tMore f x) a = firstStart f (startTerm x)
+
+-- the end of the last of some terms, or e where there are none
 abbrev pub lastEnd : Terms → ℕ → ℕ
 lastEnd t0 e = e
 lastEnd (tMore f x) e = endTerm x
 
--- after a pattern and conditions: another condition, which starts at the token after the comma; or `=`
-abbrev pub afterPattern : ℕ → Block → Sentences → ℕ → Terms → Conditions → Token → ℕ → ℕ → Step → Step
-afterPattern d p s st f cs t x y other =
-    on (t .kind) tokComma (go (within d (argument p s st f cs x) t0))
-    (on (t .kind) tokEquals (go (equated d p s st f cs))
+-- "A block starts at its argument's first token, or at the `:` if that is empty": the argument f, with a `:` of the span a, e
+abbrev pub asked : Terms → ℕ → ℕ → Argument
+asked f a e = record { from = firstStart f a; terms = f; to = e }
+
+-- ---- the parts of a sentence
+abbrev pub begun : Sentences → ℕ → Terms → Conditions → Begun
+begun s a f cs = record { before = s; from = a; pattern = f; conditions = cs }
+
+abbrev pub withCondition : Begun → Condition → Begun
+withCondition r z = begun (r .before) (r .from) (r .pattern) (cMore (r .conditions) z)
+
+-- a condition with terms, which end with the last of them or with the `:`
+abbrev pub toTerms : ℕ → Argument → Terms → Condition
+toTerms o g f = condition o (g .terms) (rTerms f) (lastEnd f (g .to))
+
+-- a condition with a block, which ends with the block
+abbrev pub toBlock : ℕ → Argument → Sentences → ℕ → Condition
+toBlock o g v e = condition o (g .terms) (rBlock (g .from) v e) e
+
+abbrev pub endBlock : Argument → Sentences → ℕ → End
+endBlock g v e = eBlock (g .from) (g .terms) v e
+
+-- the sentences with this one, which ends in z at e
+abbrev pub finished : Begun → End → ℕ → Sentences
+finished r z e = sMore (r .before) (sentence (r .from) (r .pattern) (r .conditions) z e)
+
+abbrev pub functionOf : Heading → Sentences → ℕ → Item
+functionOf h v e = function (h .from) (h .entry) (h .start) (h .len) v e
+
+-- ---- after a pattern and conditions: another condition, which "starts at the token after its comma"; or `=`
+abbrev pub afterPattern : ℕ → Block → Begun → Token → ℕ → ℕ → Step → Step
+afterPattern d b r t x y other =
+    on (t .kind) tokComma (go (within d (argument b r x) t0))
+    (on (t .kind) tokEquals (go (equated d b r))
     other)
 
 -- after pattern terms, Eof is 35 and another kind 34
-abbrev pub afterTerms : ℕ → Block → Sentences → ℕ → Terms → Conditions → Token → ℕ → ℕ → Step
-afterTerms d p s st f cs t x y =
-    afterPattern d p s st f cs t x y (on (t .kind) tokEof (expected tokEquals t) (noTerm t x y))
+abbrev pub afterTerms : ℕ → Block → Begun → Token → ℕ → ℕ → Step
+afterTerms d b r t x y = afterPattern d b r t x y (closing tokEquals [] t x y)
 
 -- at a token that begins no term, in terms f
 abbrev pub endOf : ℕ → Place → Terms → Token → ℕ → ℕ → Step
-endOf d (pattern p s st) f t x y = afterTerms d p s st f c0 t x y
-endOf d (argument p s st h cs o) f t x y = closing tokColon t x y (go (matched d p s st h cs o f (t .to)))
-endOf d (matching p s st h cs o g e) f t x y = afterTerms d p s st h (cMore cs (condition o g (rTerms f) (lastEnd f e))) t x y
-endOf d (result p s st h cs) f t x y = closing tokSemicolon t x y (go (between d p (sMore s (sentence st h cs (eTerms f) (t .to)))))
-endOf d (ending p s st h cs o) f t x y = closing tokColon t x y (go (blocked d p s st h cs o f))
-endOf d (inBracket c g a) f t x y = closing tokRParen t x y (go (within (suc d) c (tMore g (bracket a f (t .to)))))
-endOf d (inCall c g a s l) f t x y = closing tokRAngle t x y (go (within (suc d) c (tMore g (call a s l f (t .to)))))
+endOf d (pattern b s a) f t x y = afterTerms d b (begun s a f c0) t x y
+endOf d (argument b r o) f t x y = closing tokColon (only tokColon (matched d b r o (asked f (t .from) (t .to)))) t x y
+endOf d (matching b r o g) f t x y = afterTerms d b (withCondition r (toTerms o g f)) t x y
+endOf d (result b r) f t x y = closing tokSemicolon (only tokSemicolon (between d b (finished r (eTerms f) (t .to)))) t x y
+endOf d (ending b r) f t x y = closing tokColon (only tokColon (blocked d b r (asked f (t .from) (t .to)))) t x y
+endOf d (inBracket c g a) f t x y = closing tokRParen (only tokRParen (within (suc d) c (tMore g (bracket a f (t .to))))) t x y
+endOf d (inCall c g a s l) f t x y = closing tokRAngle (only tokRAngle (within (suc d) c (tMore g (call a s l f (t .to))))) t x y
 
 -- at a token, in terms f, by what the token begins
 abbrev pub inTerms : ℕ → Place → Terms → Token → ℕ → ℕ → Term → Step
@@ -178,50 +250,55 @@ inTerms d c f t x y NoTerm = endOf d c f t x y
 abbrev pub atTerms : ℕ → Place → Terms → Token → ℕ → ℕ → Step
 atTerms d c f t x y = inTerms d c f t x y (termOf (t .kind) (t .detail) (t .start) (t .len))
 
--- where a block's `}` leads
-abbrev pub leave : ℕ → Block → Sentences → Token → State
-leave d (body p a x s l) v t = items (pMore p (function a x s l v (t .to)))
-leave d (inCondition p s st f cs o g) v t = conditioned (suc d) p s st f (cMore cs (condition o g (rBlock o v (t .to)) (t .to)))
-leave d (inEnding p s st f cs o g) v t = ended (suc d) p s st f cs o g v (t .to)
+-- where the `}` of a block of the sentences v leads
+abbrev pub leave : ℕ → Block → Sentences → ℕ → Step
+leave d (body h) v e = made (functionOf h v e)
+leave d (inCondition b r o g) v e = go (conditioned (suc d) b (withCondition r (toBlock o g v e)))
+leave d (inEnding b r g) v e = go (ended (suc d) b r g v e)
 
--- ---- a token t, with the span x, y of the token after it
-abbrev pub step : State → Token → ℕ → ℕ → Step
-step (items p) t x y =
-    on (t .kind) tokEof (stop (tree p))
-    (on (t .kind) tokSemicolon (go (items p))
-    (on (t .kind) tokExtern (go (wantsName p (t .from)))
-    (on (t .kind) tokEntry (go (entered p (t .from)))
-    (on (t .kind) tokIdentifier (go (headed p (t .from) false (t .start) (t .len)))
+-- ---- a token t, with the span x, y of the token after it; for each state the kinds in document 01's order
+abbrev pub step : ℕ → State → Token → ℕ → ℕ → Step
+step L outside t x y =
+    on (t .kind) tokEntry (go (entered (t .from)))
+    (on (t .kind) tokExtern (go (wantsName (t .from)))
+    (on (t .kind) tokIdentifier (go (headed (record { from = t .from; entry = false; start = t .start; len = t .len })))
+    (on (t .kind) tokSemicolon (go outside)
+    (on (t .kind) tokEof over
     (wants 32 t x y)))))
-step (wantsName p a) t x y = on (t .kind) tokIdentifier (go (named p a (nOne (t .start) (t .len)))) (wants 31 t x y)
-step (wantsMore p a ns) t x y = on (t .kind) tokIdentifier (go (named p a (nMore ns (t .start) (t .len)))) (wants 31 t x y)
-step (named p a ns) t x y =
-    on (t .kind) tokComma (go (wantsMore p a ns))
-    (on (t .kind) tokSemicolon (go (items (pMore p (declaration a ns (t .to)))))
+step L (wantsName a) t x y = on (t .kind) tokIdentifier (go (named a (nOne (t .start) (t .len)))) (wants 31 t x y)
+step L (wantsMore a ns) t x y = on (t .kind) tokIdentifier (go (named a (nMore ns (t .start) (t .len)))) (wants 31 t x y)
+step L (named a ns) t x y =
+    on (t .kind) tokComma (go (wantsMore a ns))
+    (on (t .kind) tokSemicolon (made (declaration a ns (t .to)))
     (expected tokSemicolon t))
-step (entered p a) t x y = on (t .kind) tokIdentifier (go (headed p a true (t .start) (t .len))) (wants 32 t x y)
-step (headed p a e s l) t x y = on (t .kind) tokLBrace (go (between 64 (body p a e s l) s0)) (expected tokLBrace t)
-step (between d p s) t x y =
-    on (t .kind) tokRBrace (go (leave d p s t))
+step L (entered a) t x y =
+    on (t .kind) tokIdentifier (go (headed (record { from = a; entry = true; start = t .start; len = t .len }))) (wants 32 t x y)
+step L (headed h) t x y = on (t .kind) tokLBrace (go (between L (body h) s0)) (expected tokLBrace t)
+step L (between d b s) t x y =
+    on (t .kind) tokRBrace (leave d b s (t .to))
     (on (t .kind) tokEof (expected tokRBrace t)
-    (atTerms d (pattern p s (t .from)) t0 t x y))
-step (within d c f) t x y = atTerms d c f t x y
-step (calling d c f a) t x y = on (t .kind) tokIdentifier (go (within d (inCall c f a (t .start) (t .len)) t0)) (wants 33 t x y)
-step (matched d p s st f cs o g e) t x y =
-    on (t .kind) tokLBrace (opens d t (λ d'. between d' (inCondition p s st f cs o g) s0))
-    (atTerms d (matching p s st f cs o g e) t0 t x y)
-step (conditioned d p s st f cs) t x y = afterPattern d p s st f cs t x y (expected tokEquals t)
-step (equated d p s st f cs) t x y =
-    on (t .kind) tokComma (go (within d (ending p s st f cs x) t0))
-    (atTerms d (result p s st f cs) t0 t x y)
-step (blocked d p s st f cs o g) t x y =
-    on (t .kind) tokLBrace (opens d t (λ d'. between d' (inEnding p s st f cs o g) s0)) (expected tokLBrace t)
-step (ended d p s st f cs o g v e) t x y =
-    on (t .kind) tokSemicolon (go (between d p (sMore s (sentence st f cs (eBlock o g v e) (t .to))))) (expected tokSemicolon t)
+    (atTerms d (pattern b s (t .from)) t0 t x y))
+step L (within d c f) t x y = atTerms d c f t x y
+step L (calling d c f a) t x y =
+    on (t .kind) tokIdentifier (go (within d (inCall c f a (t .start) (t .len)) t0)) (wants 33 t x y)
+step L (matched d b r o g) t x y =
+    on (t .kind) tokLBrace (opens d t (λ d'. between d' (inCondition b r o g) s0))
+    (atTerms d (matching b r o g) t0 t x y)
+step L (conditioned d b r) t x y = afterPattern d b r t x y (expected tokEquals t)
+step L (equated d b r) t x y =
+    on (t .kind) tokComma (go (within d (ending b r) t0))
+    (atTerms d (result b r) t0 t x y)
+step L (blocked d b r g) t x y =
+    on (t .kind) tokLBrace (opens d t (λ d'. between d' (inEnding b r g) s0)) (expected tokLBrace t)
+step L (ended d b r g v e) t x y =
+    on (t .kind) tokSemicolon (go (between d b (finished r (endBlock g v e) (t .to)))) (expected tokSemicolon t)
 
-abbrev pub follow : Step → (State → Outcome) → Outcome
-follow (go st) f = f st
-follow (stop o) f = o
+-- what a step leads to, after the items p
+abbrev pub follow : Program → Step → (Program → State → Outcome) → Outcome
+follow p (go st) f = f p st
+follow p (made z) f = f (pMore p z) outside
+follow p over f = tree p
+follow p (stop number want found from to) f = refuse number want found from to
 
 -- the span of the token after t, or of t itself where it is the last
 abbrev pub nextFrom : Token → List Token → ℕ
@@ -232,7 +309,8 @@ abbrev pub nextTo : Token → List Token → ℕ
 nextTo t [] = t .to
 nextTo t (u ∷ ts) = u .to
 
+-- after the items p, in a state, with L levels
 -- (a list that check 30 passes ends in an Eof, at which every state stops: its end is never met)
-unfoldable pub run : List Token → State → Outcome
-run [] st = refuse 30 0 0 0 0
-run (t ∷ ts) st = follow (step st t (nextFrom t ts) (nextTo t ts)) (λ st'. run ts st')
+unfoldable pub run : ℕ → List Token → Program → State → Outcome
+run L [] p st = refuse 30 0 0 0 0
+run L (t ∷ ts) p st = follow p (step L st t (nextFrom t ts) (nextTo t ts)) (λ p' st'. run L ts p' st')

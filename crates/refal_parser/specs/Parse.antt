@@ -13,7 +13,8 @@ use Rattle.refal_ast.specs.Nodes.{nodeWidth}
 use Rattle.refal_ast.specs.Encode.{encP}
 use Rattle.refal_ast.specs.declared.Answer.{Answer}
 use Rattle.refal_ast.specs.declared.Answer.the-variants.{Done, Refused}
-use Rattle.refal_parser.specs.Machine.{Outcome, tree, refuse, items, run}
+use Rattle.refal_ast.specs.Limits.{mostLevels}
+use Rattle.refal_parser.specs.Machine.{outside, Outcome, tree, refuse, run}
 
 abbrev pub pickOutcome : Bool → Outcome → Outcome → Outcome
 pickOutcome true a b = a
@@ -21,7 +22,7 @@ pickOutcome false a b = b
 
 -- the tree, or the first refusal
 unfoldable pub parsed : List ℕ → Outcome
-parsed w = pickOutcome (wellFormed w) (run (tokensOf w) (items p0)) (refuse 30 0 0 0 0)
+parsed w = pickOutcome (wellFormed w) (run mostLevels (tokensOf w) p0 outside) (refuse 30 0 0 0 0)
 
 -- whether a tree's rows fit into the words B
 abbrev pub fits : Program → List ℕ → Bool

@@ -4,12 +4,11 @@ use mathlib.Core.Path.{_≡_}
 use Prim.Native.Nat.{ℕ, _+_, _-_, _≤_, _<_}
 use mathlib.Core.List.{List}
 use lib.ListN.{length, getD}
-use Rattle.refal_ast.specs.Tokens.{Token}
-use Rattle.refal_ast.specs.Tree.{Terms, t0, Condition, Conditions, c0, cMore, End, Sentence, sentence, Sentences, s0, sMore, sizeCondition, sizeC, sizeEnd, sizeSentence, sizeS}
-use Rattle.refal_parser.specs.Machine.{Block, pattern, within, between, conditioned, equated, Outcome, refuse, opens, leave, run}
-use Rattle.refal_parser.specs.Ready.{rest, tok, endBefore, Ready}
+use Rattle.refal_ast.specs.Tree.{Terms, t0, Condition, Conditions, c0, End, Sentence, Sentences, s0, sMore, Program, sizeCondition, sizeC, sizeEnd, sizeSentence, sizeS}
+use Rattle.refal_parser.specs.Machine.{Begun, Block, pattern, within, between, conditioned, equated, Outcome, refuse, opens, begun, withCondition, finished, leave}
+use Rattle.refal_parser.specs.Ready.{tok, endBefore, Ready}
 use Rattle.refal_parser.specs.Writers.{wCondition, wC, wEnd, wSentence, wS}
-use Rattle.refal_parser.specs.Post.{Cases, Same, after, Joint}
+use Rattle.refal_parser.specs.Post.{Cases, runs, Same, Refuses, leads, after, Joint}
 use Rattle.refal_parser.specs.declared.answers.Got.{Got}
 
 -- ---- after a condition's block
@@ -20,8 +19,7 @@ pub record JoinsAt (w : List ℕ) (at m j m' : ℕ) : Type 0 where
   pub joint : Joint w j
 
 abbrev pub CondNo : List ℕ → ℕ → ℕ → ℕ → ℕ → ℕ → ℕ → ℕ → Type 0
-CondNo w at left a b c d e =
-    (p : Block) (s : Sentences) (st : ℕ) (f : Terms) (cs : Conditions) → run (rest w at) (conditioned left p s st f cs) ≡ refuse a b c d e
+CondNo w at left a b c d e = (q : Block) (r : Begun) → Refuses w at (conditioned left q r) a b c d e
 
 abbrev pub JoinsPost : List ℕ → ℕ → ℕ → Got → Type 0
 JoinsPost w at m r = Cases r (JoinsAt w at m) (λ a b c d e. (left : ℕ) → CondNo w at left a b c d e)
@@ -35,7 +33,7 @@ pub record CondAt (w B B' : List ℕ) (at n left j m : ℕ) : Type 0 where
   pub rows : B' ≡ wCondition x n B
   pub count : m ≡ n + sizeCondition x
   pub joint : Joint w j
-  pub means : (p : Block) (s : Sentences) (st : ℕ) (f : Terms) (cs : Conditions) → Same w at (conditioned left p s st f cs) j (conditioned left p s st f (cMore cs x))
+  pub means : (b : Block) (r : Begun) → Same w at (conditioned left b r) j (conditioned left b (withCondition r x))
 
 abbrev pub CondPost : List ℕ → List ℕ → List ℕ → ℕ → ℕ → ℕ → Got → Type 0
 CondPost w B B' at n left r = Cases r (CondAt w B B' at n left) (CondNo w at left)
@@ -50,12 +48,12 @@ pub record EndingAt (w B B' : List ℕ) (at n left j m : ℕ) : Type 0 where
   pub rows : B' ≡ wEnd x n B
   pub count : m ≡ n + sizeEnd x
   pub last : e ≡ endBefore w j
-  pub means : (p : Block) (s : Sentences) (st : ℕ) (f : Terms) (cs : Conditions) → Same w at (equated left p s st f cs) j (between left p (sMore s (sentence st f cs x e)))
+  pub means : (b : Block) (r : Begun) → Same w at (equated left b r) j (between left b (finished r x e))
 
 abbrev pub EndingPost : List ℕ → List ℕ → List ℕ → ℕ → ℕ → ℕ → Got → Type 0
 EndingPost w B B' at n left r =
     Cases r (EndingAt w B B' at n left)
-    (λ a b c d e. (p : Block) (s : Sentences) (st : ℕ) (f : Terms) (cs : Conditions) → run (rest w at) (equated left p s st f cs) ≡ refuse a b c d e)
+    (λ a b c d e. (q : Block) (r : Begun) → Refuses w at (equated left q r) a b c d e)
 
 -- ---- a sentence
 pub record SentenceAt (w B B' : List ℕ) (at n left j m : ℕ) : Type 0 where
@@ -65,12 +63,12 @@ pub record SentenceAt (w B B' : List ℕ) (at n left j m : ℕ) : Type 0 where
   pub few : m ≤ j
   pub rows : B' ≡ wSentence x n B
   pub count : m ≡ n + sizeSentence x
-  pub means : (p : Block) (s : Sentences) → Same w at (within left (pattern p s (getD w (at + 4) 0)) t0) j (between left p (sMore s x))
+  pub means : (b : Block) (s : Sentences) → Same w at (within left (pattern b s (getD w (at + 4) 0)) t0) j (between left b (sMore s x))
 
 abbrev pub SentencePost : List ℕ → List ℕ → List ℕ → ℕ → ℕ → ℕ → Got → Type 0
 SentencePost w B B' at n left r =
     Cases r (SentenceAt w B B' at n left)
-    (λ a b c d e. (p : Block) (s : Sentences) → run (rest w at) (within left (pattern p s (getD w (at + 4) 0)) t0) ≡ refuse a b c d e)
+    (λ a b c d e. (q : Block) (s : Sentences) → Refuses w at (within left (pattern q s (getD w (at + 4) 0)) t0) a b c d e)
 
 -- its loop: the conditions from word j on, whose rows begin at row m; B is the rows as the loop begins
 pub record CondsInv (w B B' : List ℕ) (j m left i k : ℕ) : Type 0 where
@@ -82,26 +80,26 @@ pub record CondsInv (w B B' : List ℕ) (j m left i k : ℕ) : Type 0 where
   pub same : length B' ≡ length B
   pub rows : B' ≡ wC cs m B
   pub count : k ≡ m + sizeC cs
-  pub means : (p : Block) (s : Sentences) (st : ℕ) (f : Terms) → Same w j (conditioned left p s st f c0) i (conditioned left p s st f cs)
+  pub means : (b : Block) (s : Sentences) (a : ℕ) (f : Terms) → Same w j (conditioned left b (begun s a f c0)) i (conditioned left b (begun s a f cs))
 
 -- ---- the sentences of a block, whose `{` is at `at`, with its `}`
-abbrev pub Opens : List ℕ → ℕ → ℕ → Block → Outcome
-Opens w at left p = after w at (opens left (tok w at) (λ d. between d p s0))
+abbrev pub Opens : List ℕ → ℕ → ℕ → Block → Program → Outcome
+Opens w at left b p = after w at p (opens left (tok w at) (λ d. between d b s0))
 
 pub record BlockAt (w B B' : List ℕ) (at n left j m : ℕ) : Type 0 where
   pub v : Sentences
-  pub t : Token
+  pub e : ℕ
   pub some : left ≡ 0 → ⊥
   pub ready : Ready w j
   pub on : at < j
   pub few : m ≤ j
   pub rows : B' ≡ wS v n B
   pub count : m ≡ n + sizeS v
-  pub last : t .to ≡ endBefore w j
-  pub means : (p : Block) → Opens w at left p ≡ run (rest w j) (leave (left - 1) p v t)
+  pub last : e ≡ endBefore w j
+  pub means : (b : Block) (p : Program) → Opens w at left b p ≡ leads w j p (leave (left - 1) b v e)
 
 abbrev pub BlockPost : List ℕ → List ℕ → List ℕ → ℕ → ℕ → ℕ → Got → Type 0
-BlockPost w B B' at n left r = Cases r (BlockAt w B B' at n left) (λ a b c d e. (p : Block) → Opens w at left p ≡ refuse a b c d e)
+BlockPost w B B' at n left r = Cases r (BlockAt w B B' at n left) (λ a b c d e. (q : Block) (p : Program) → Opens w at left q p ≡ refuse a b c d e)
 
 -- its loop
 pub record BlockInv (w B B' : List ℕ) (at n left i m : ℕ) : Type 0 where
@@ -112,4 +110,4 @@ pub record BlockInv (w B B' : List ℕ) (at n left i m : ℕ) : Type 0 where
   pub same : length B' ≡ length B
   pub rows : B' ≡ wS v n B
   pub count : m ≡ n + sizeS v
-  pub means : (p : Block) → Opens w at left p ≡ run (rest w i) (between (left - 1) p v)
+  pub means : (b : Block) (p : Program) → Opens w at left b p ≡ runs w i p (between (left - 1) b v)

@@ -4,12 +4,12 @@ use Prim.Native.Nat.{ℕ, _+_, _≤_, _<_}
 use mathlib.Core.List.{List}
 use lib.ListN.{length, getD}
 use Rattle.refal_ast.specs.Tokens.{Token}
-use Rattle.refal_ast.specs.Tree.{Term, Terms, t0, tMore, Conditions, Sentences, sizeTerm, sizeT}
+use Rattle.refal_ast.specs.Tree.{Term, Terms, t0, tMore, Program, sizeTerm, sizeT}
 use Rattle.refal_ast.specs.declared.tree.Term.the-variants.{NoTerm}
-use Rattle.refal_parser.specs.Machine.{Block, Place, State, within, conditioned, Outcome, refuse, go, closing, endTerm, lastEnd, afterTerms, endOf, run}
-use Rattle.refal_parser.specs.Ready.{rest, tok, termAt, afterFrom, afterTo, endBefore, Ready}
+use Rattle.refal_parser.specs.Machine.{Begun, Block, Place, State, within, conditioned, Outcome, refuse, closing, only, startTerm, endTerm, firstStart, lastEnd, afterTerms, endOf}
+use Rattle.refal_parser.specs.Ready.{tok, termAt, afterFrom, afterTo, endBefore, Ready}
 use Rattle.refal_parser.specs.Writers.{wTerm, wT, wTerms}
-use Rattle.refal_parser.specs.Post.{Cases, Same, after, Joint}
+use Rattle.refal_parser.specs.Post.{Cases, runs, Same, Refuses, after, Joint}
 use Rattle.refal_parser.specs.declared.answers.Got.{Got}
 
 -- ---- terms up to a token that begins none
@@ -21,12 +21,13 @@ pub record TermsAt (w B B' : List ℕ) (at n left j m : ℕ) : Type 0 where
   pub few : m ≤ j + 2
   pub rows : B' ≡ wT g n B
   pub count : m ≡ n + sizeT g
+  pub first : firstStart g (getD w (j + 4) 0) ≡ getD w (at + 4) 0
   pub last : lastEnd g (endBefore w at) ≡ endBefore w j
   pub means : (c : Place) → Same w at (within left c t0) j (within left c g)
 
 -- a refusal in terms, whatever they stand in
 abbrev pub TermsNo : List ℕ → ℕ → ℕ → ℕ → ℕ → ℕ → ℕ → ℕ → Type 0
-TermsNo w at left a b c d e = (x : Place) → run (rest w at) (within left x t0) ≡ refuse a b c d e
+TermsNo w at left a b c d e = (x : Place) → Refuses w at (within left x t0) a b c d e
 
 abbrev pub TermsPost : List ℕ → List ℕ → List ℕ → ℕ → ℕ → ℕ → Got → Type 0
 TermsPost w B B' at n left r = Cases r (TermsAt w B B' at n left) (TermsNo w at left)
@@ -40,45 +41,40 @@ pub record TermsInv (w B B' : List ℕ) (at n left i m : ℕ) : Type 0 where
   pub same : length B' ≡ length B
   pub rows : B' ≡ wT g n B
   pub count : m ≡ n + sizeT g
+  pub first : firstStart g (getD w (i + 4) 0) ≡ getD w (at + 4) 0
   pub last : lastEnd g (endBefore w at) ≡ endBefore w i
   pub means : (c : Place) → Same w at (within left c t0) i (within left c g)
 
--- leaves, whose rows begin at row n: terms that reach up to them reach past them
-pub record LeavesPost (w B B' : List ℕ) (at n i m : ℕ) : Type 0 where
-  pub ready : Ready w i
-  pub on : at ≤ i
-  pub few : m ≤ i + 2
-  pub same : length B' ≡ length B
-  pub more : (B₀ : List ℕ) (at₀ n₀ left : ℕ) → TermsInv w B₀ B at₀ n₀ left at n → TermsInv w B₀ B' at₀ n₀ left i m
-
 -- ---- the kind that closes terms
-abbrev pub Closing : List ℕ → ℕ → ℕ → State → Outcome
-Closing w at want st = after w at (closing want (tok w at) (afterFrom w at) (afterTo w at) (go st))
+abbrev pub Closing : List ℕ → ℕ → ℕ → State → Program → Outcome
+Closing w at want st p = after w at p (closing want (only want st) (tok w at) (afterFrom w at) (afterTo w at))
 
 pub record ClosesAt (w : List ℕ) (at m want j m' : ℕ) : Type 0 where
   pub ready : Ready w j
   pub next : j ≡ at + 6
   pub rows : m' ≡ m
   pub last : getD w (at + 5) 0 ≡ endBefore w j
-  pub means : (st : State) → Closing w at want st ≡ run (rest w j) st
+  pub means : (st : State) (p : Program) → Closing w at want st p ≡ runs w j p st
 
 abbrev pub ClosesPost : List ℕ → ℕ → ℕ → ℕ → Got → Type 0
-ClosesPost w at m want r = Cases r (ClosesAt w at m want) (λ a b c d e. (st : State) → Closing w at want st ≡ refuse a b c d e)
+ClosesPost w at m want r = Cases r (ClosesAt w at m want) (λ a b c d e. (st : State) (p : Program) → Closing w at want st p ≡ refuse a b c d e)
 
--- ---- terms and the kind that closes them: a place c whose terms f, closed by a token that ends at e, lead to the state st f e
-abbrev pub Ends : ℕ → Place → ℕ → (Terms → ℕ → State) → Type 0
-Ends left c want st = (f : Terms) (t : Token) (x y : ℕ) → endOf left c f t x y ≡ closing want t x y (go (st f (t .to)))
+-- ---- terms and the kind that closes them: a place c whose terms f, closed by a token with the span a, e, lead to the state st f a e
+abbrev pub Ends : ℕ → Place → ℕ → (Terms → ℕ → ℕ → State) → Type 0
+Ends left c want st = (f : Terms) (t : Token) (x y : ℕ) → endOf left c f t x y ≡ closing want (only want (st f (t .from) (t .to))) t x y
 
 pub record Closed (w : List ℕ) (at left want : ℕ) (g : Terms) (j : ℕ) : Type 0 where
+  pub a : ℕ
   pub e : ℕ
   pub ready : Ready w j
   pub on : at < j
+  pub first : firstStart g a ≡ getD w (at + 4) 0
   pub last : e ≡ endBefore w j
-  pub means : (c : Place) (st : Terms → ℕ → State) → Ends left c want st → Same w at (within left c t0) j (st g e)
+  pub means : (c : Place) (st : Terms → ℕ → ℕ → State) → Ends left c want st → Same w at (within left c t0) j (st g a e)
 
 abbrev pub ClosedNo : List ℕ → ℕ → ℕ → ℕ → ℕ → ℕ → ℕ → ℕ → ℕ → Type 0
 ClosedNo w at left want a b c d e =
-    (x : Place) (st : Terms → ℕ → State) → Ends left x want st → run (rest w at) (within left x t0) ≡ refuse a b c d e
+    (x : Place) (st : Terms → ℕ → ℕ → State) → Ends left x want st → Refuses w at (within left x t0) a b c d e
 
 pub record UntilAt (w B B' : List ℕ) (at n left want j m : ℕ) : Type 0 where
   pub g : Terms
@@ -109,12 +105,13 @@ pub record TermGot (w B B' : List ℕ) (at n left j m : ℕ) : Type 0 where
   pub few : m ≤ j
   pub rows : B' ≡ wTerm x n B
   pub count : m ≡ n + sizeTerm x
+  pub first : startTerm x ≡ getD w (at + 4) 0
   pub last : endTerm x ≡ endBefore w j
   pub means : (c : Place) (f : Terms) → Same w at (within left c f) j (within left c (tMore f x))
 
 abbrev pub TermPost : List ℕ → List ℕ → List ℕ → ℕ → ℕ → ℕ → Got → Type 0
 TermPost w B B' at n left r =
-    Cases r (TermGot w B B' at n left) (λ a b c d e. (x : Place) (f : Terms) → run (rest w at) (within left x f) ≡ refuse a b c d e)
+    Cases r (TermGot w B B' at n left) (λ a b c d e. (x : Place) (f : Terms) → Refuses w at (within left x f) a b c d e)
 
 -- ---- after a pattern's terms
 pub record FollowsAt (w : List ℕ) (at m j m' : ℕ) : Type 0 where
@@ -122,17 +119,16 @@ pub record FollowsAt (w : List ℕ) (at m j m' : ℕ) : Type 0 where
   pub stays : j ≡ at
   pub rows : m' ≡ m
   pub joint : Joint w j
-  pub means : (d : ℕ) (p : Block) (s : Sentences) (st : ℕ) (f : Terms) (cs : Conditions) →
-      after w at (afterTerms d p s st f cs (tok w at) (afterFrom w at) (afterTo w at)) ≡ run (rest w j) (conditioned d p s st f cs)
+  pub means : (d : ℕ) (b : Block) (r : Begun) (p : Program) → after w at p (afterTerms d b r (tok w at) (afterFrom w at) (afterTo w at)) ≡ runs w j p (conditioned d b r)
 
 abbrev pub FollowsPost : List ℕ → ℕ → ℕ → Got → Type 0
 FollowsPost w at m r =
     Cases r (FollowsAt w at m)
-    (λ a b c x y. (d : ℕ) (p : Block) (s : Sentences) (st : ℕ) (f : Terms) (cs : Conditions) → after w at (afterTerms d p s st f cs (tok w at) (afterFrom w at) (afterTo w at)) ≡ refuse a b c x y)
+    (λ a b c x y. (d : ℕ) (q : Block) (r : Begun) (p : Program) → after w at p (afterTerms d q r (tok w at) (afterFrom w at) (afterTo w at)) ≡ refuse a b c x y)
 
--- ---- a pattern with its Terms row, row n: a place c whose terms g make a sentence's pattern f g and conditions cs g
-abbrev pub Turns : ℕ → Place → Block → Sentences → ℕ → (Terms → Terms) → (Terms → Conditions) → Type 0
-Turns left c p s st f cs = (g : Terms) (t : Token) (x y : ℕ) → endOf left c g t x y ≡ afterTerms left p s st (f g) (cs g) t x y
+-- ---- a pattern with its Terms row, row n: a place c whose terms f make the sentence r f
+abbrev pub Turns : ℕ → Place → Block → (Terms → Begun) → Type 0
+Turns left c b r = (f : Terms) (t : Token) (x y : ℕ) → endOf left c f t x y ≡ afterTerms left b (r f) t x y
 
 pub record PatternAt (w B B' : List ℕ) (at n left j m : ℕ) : Type 0 where
   pub g : Terms
@@ -143,10 +139,9 @@ pub record PatternAt (w B B' : List ℕ) (at n left j m : ℕ) : Type 0 where
   pub count : m ≡ n + 1 + sizeT g
   pub last : lastEnd g (endBefore w at) ≡ endBefore w j
   pub joint : Joint w j
-  pub means : (c : Place) (p : Block) (s : Sentences) (st : ℕ) (f : Terms → Terms) (cs : Terms → Conditions) → Turns left c p s st f cs →
-      Same w at (within left c t0) j (conditioned left p s st (f g) (cs g))
+  pub means : (c : Place) (b : Block) (r : Terms → Begun) → Turns left c b r → Same w at (within left c t0) j (conditioned left b (r g))
 
 abbrev pub PatternPost : List ℕ → List ℕ → List ℕ → ℕ → ℕ → ℕ → Got → Type 0
 PatternPost w B B' at n left r =
     Cases r (PatternAt w B B' at n left)
-    (λ a b c x y. (q : Place) (p : Block) (s : Sentences) (st : ℕ) (f : Terms → Terms) (cs : Terms → Conditions) → Turns left q p s st f cs → run (rest w at) (within left q t0) ≡ refuse a b c x y)
+    (λ a b c x y. (q : Place) (z : Block) (r : Terms → Begun) → Turns left q z r → Refuses w at (within left q t0) a b c x y)

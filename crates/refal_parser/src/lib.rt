@@ -8,7 +8,6 @@ mod answers;
 mod block;
 mod check;
 mod items;
-mod leaves;
 mod nodes;
 mod terms;
 mod tokens;

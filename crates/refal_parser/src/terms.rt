@@ -8,7 +8,6 @@ ghost use Rattle.refal_parser.specs.PostTerms.{ClausePost, ClosesPost, F
 use crate::answers::Got;
 use crate::answers::present;
 use crate::answers::taken;
-use crate::leaves::leaves;
 use crate::nodes::put_node;
 use crate::nodes::put_span;
 use crate::nodes::put_symbol;
@@ -56,9 +55,9 @@ fn term_of(kind: u32, detail: u32, start: u32, len: u32) -> Term
 {
     match kind {
         token::IDENTIFIER => Term::Symbol(Symbol::Identifier { start, len }),
+        token::VARIABLE => variable_of(detail, start, len),
         token::NUMBER => Term::Symbol(Symbol::Number { start, len }),
         token::CHAR => Term::Symbol(Symbol::Char(detail)),
-        token::VARIABLE => variable_of(detail, start, len),
         token::LPAREN => Term::Bracket,
         token::LANGLE => Term::Call,
         _ => Term::NoTerm,
@@ -100,10 +99,6 @@ fn terms(tokens: &[u32], rows: &mut [u32], at: usize, n: usize, left: usize) -> 
     let mut i = at;
     let mut m = n;
     loop {
-        // `leaves` promises that what it passed is right, not that it passed all: the arms below take any term.
-        let past = leaves(tokens, rows, i, m);
-        i = past.at;
-        m = past.row;
         let t = term_at(tokens, i);
         match t {
             Term::Symbol(s) => {

@@ -3,9 +3,9 @@ use mathlib.Core.Path.{_≡_, refl, sym, ap, _∙_}
 use Prim.Native.Nat.{ℕ, _+_, _-_, _<_}
 use native.Mathlib.Omega.{arith}
 use lib.ListN.{length, getD}
-use Rattle.refal_ast.specs.Tree.{Terms, rTerms, rBlock, condition as theCondition, c0, cMore, eTerms, eBlock, sentence as theSentence, s0, sMore, sizeC, sizeS}
+use Rattle.refal_ast.specs.Tree.{Terms, c0, cMore, eTerms, sentence as theSentence, s0, sMore, sizeC, sizeS}
 use Rattle.refal_parser.specs.Machine.{pattern as inPattern, argument, matching, result, ending as inArgument, inCondition, inEnding, between, matched, conditioned, blocked, ended, lastEnd}
-use Rattle.refal_parser.specs.Ready.{tok}
+use Rattle.refal_parser.specs.Machine.{asked, begun, withCondition, toTerms, toBlock, endBlock, finished}
 use Rattle.refal_parser.specs.Writers.{wC, wS}
 use Rattle.refal_parser.specs.PostBlock.{CondsInv, BlockInv}
 use Rattle.refal_parser.proofs.TokenLaws.{ready-next, end-before}
@@ -103,7 +103,7 @@ block-returns : (t : ℕ) → block-lts.Need-returns (block-claims t) (block-at 
 block-returns t c = let w = c .before .before .before .before .args .tokens .now in
     let at₀ = c .before .before .before .before .args .at in
     let left₀ = c .before .before .before .before .args .left in
-    is-no (c .present .ensures) (λ p. open-none w at₀ left₀ (λ (d : ℕ). between d p s0) (c .before .if1 .taken))
+    is-no (c .present .ensures) (λ b. open-none w at₀ left₀ (λ (d : ℕ). between d b s0) (c .before .if1 .taken))
 
 block-sub-under : (t : ℕ) → block-lts.Need-sub-under (block-claims t) (block-at t) block.Post block-Inv-loop block-μ-loop
 block-sub-under t c = search needs
@@ -118,7 +118,7 @@ block-loop-holds t c = let w = c .before .before .before .args .tokens .now in
     let at₀ = c .before .before .before .args .at in
     let left₀ = c .before .before .before .args .left in
     let pre₀ = c .before .before .before .pre .1 in
-    record { v = s0; ready = ready-next _ _ (pre₀ .0) (other _ _ _ (pre₀ .2) refl); on = omega arith; few = omega arith; same = refl; rows = refl; count = omega arith; means = λ p. open-some w at₀ left₀ (λ (d : ℕ). between d p s0) (c .if1 .left) }
+    record { v = s0; ready = ready-next _ _ (pre₀ .0) (other _ _ _ (pre₀ .2) refl); on = omega arith; few = omega arith; same = refl; rows = refl; count = omega arith; means = λ b. open-some w at₀ left₀ (λ (d : ℕ). between d b s0) (c .if1 .left) }
 
 block-kind-requires : (t : ℕ) → block-lts.Need-kind-requires (block-claims t) (block-at t) block.Post block-Inv-loop block-μ-loop
 block-kind-requires t c κs = c .loop .inv .ready
@@ -135,8 +135,8 @@ block-same-length t c = let I = c .before .before .before .before .before .loop 
 
 block-returns-2 : (t : ℕ) → block-lts.Need-returns-2 (block-claims t) (block-at t) block.Post block-Inv-loop block-μ-loop
 block-returns-2 t c = let I = c .before .before .before .before .before .loop .inv in
-    is-no (c .present2 .ensures) (λ p. I .means p ∙ block-eof _ _ (I .ready) _ p (I .v) (λ e. c .before .before .before .if2 .taken (c .before .before .before .before .kind .ensures
-    ∙ e)) (sym (c .before .before .kind2 .ensures) ∙ c .before .if3 .taken))
+    is-no (c .present2 .ensures) (λ b p. I .means b p ∙ block-eof _ _ (I .ready) _ b (I .v) (λ e. c .before .before .before .if2 .taken (c .before .before .before .before .kind .ensures
+    ∙ e)) (sym (c .before .before .kind2 .ensures) ∙ c .before .if3 .taken) p)
 
 block-sentence-requires : (t : ℕ) → block-lts.Need-sentence-requires (block-claims t) (block-at t) block.Post block-Inv-loop block-μ-loop
 block-sentence-requires t c κs = let pre₀ = c .before .before .before .before .before .before .before .before .before .pre .1 in
@@ -154,8 +154,8 @@ block-same-length-2 t c = search needs
 
 block-returns-3 : (t : ℕ) → block-lts.Need-returns-3 (block-claims t) (block-at t) block.Post block-Inv-loop block-μ-loop
 block-returns-3 t c = let I = c .before .before .before .before .before .before .before .before .before .before .loop .inv in
-    is-no (c .enum-told .given .1) (λ p. I .means p ∙ block-more _ _ (I .ready) _ p (I .v) (λ e. c .before .before .before .before .before .before .before .before .if2 .taken (c .before .before .before .before .before .before .before .before .before .kind .ensures
-    ∙ e)) (λ e. c .before .before .before .before .before .before .if3 .left (c .before .before .before .before .before .before .before .kind2 .ensures ∙ e)) ∙ c .before .before .before .before .sentence .ensures .no _ _ _ _ _ (c .enum-told .given .1) p (I .v))
+    is-no (c .enum-told .given .1) (λ b p. I .means b p ∙ block-more _ _ (I .ready) _ b (I .v) (λ e. c .before .before .before .before .before .before .before .before .if2 .taken (c .before .before .before .before .before .before .before .before .before .kind .ensures
+    ∙ e)) (λ e. c .before .before .before .before .before .before .if3 .left (c .before .before .before .before .before .before .before .kind2 .ensures ∙ e)) p ∙ c .before .before .before .before .sentence .ensures .no _ _ _ _ _ (c .enum-told .given .1) b (I .v) p)
 
 block-loop-less : (t : ℕ) → block-lts.Need-loop-less (block-claims t) (block-at t) block.Post block-Inv-loop block-μ-loop
 block-loop-less t c = let S = c .before .before .before .before .before .sentence .ensures .at _ _ (c .before .r .given .1) in let R = S .ready in let q = S .on in omega arith
@@ -173,8 +173,8 @@ block-loop-again t c = let w = c .before .before .before .before .before .before
       same = c .before .before .before .before .before .sentence .kept .1 .0 ∙ I .same;
       rows = more-sentences _ _ (I .v) (S .x) (I .count) (I .rows) (S .rows);
       count = size-sentences _ (I .v) (S .x) (I .count) (S .count);
-      means = λ p. I .means p ∙ block-more _ _ (I .ready) _ p (I .v) (λ e. c .before .before .before .before .before .before .before .before .before .if2 .taken (c .before .before .before .before .before .before .before .before .before .before .kind .ensures
-          ∙ e)) (λ e. c .before .before .before .before .before .before .before .if3 .left (c .before .before .before .before .before .before .before .before .kind2 .ensures ∙ e)) ∙ S .means p (I .v);
+      means = λ b p. I .means b p ∙ block-more _ _ (I .ready) _ b (I .v) (λ e. c .before .before .before .before .before .before .before .before .before .if2 .taken (c .before .before .before .before .before .before .before .before .before .before .kind .ensures
+          ∙ e)) (λ e. c .before .before .before .before .before .before .before .if3 .left (c .before .before .before .before .before .before .before .before .kind2 .ensures ∙ e)) p ∙ S .means b (I .v) p;
     }
 
 block-add-next : (t : ℕ) → block-lts.Need-add-next (block-claims t) (block-at t) block.Post block-Inv-loop block-μ-loop
@@ -190,7 +190,7 @@ block-returns-4 t c = let w = c .before .before .before .before .before .before 
     let k₈ : getD w i₀ 0 ≡ 8 = sym (c .before .kind .ensures) ∙ c .if2 .left in
     is-at refl (record {
       v = I .v;
-      t = tok w i₀;
+      e = getD w (i₀ + 5) 0;
       some = c .before .before .before .if1 .left;
       ready = ready-next _ _ (I .ready) (other _ _ _ k₈ refl);
       on = let g = I .on in omega arith;
@@ -198,7 +198,7 @@ block-returns-4 t c = let w = c .before .before .before .before .before .before 
       rows = I .rows;
       count = I .count;
       last = end-before w i₀;
-      means = λ p. I .means p ∙ block-close _ _ (I .ready) _ p (I .v) k₈;
+      means = λ b p. I .means b p ∙ block-close _ _ (I .ready) _ b (I .v) k₈ p;
     })
 
 condition-add-start : (t : ℕ) → condition-lts.Need-add-start (condition-claims t) (condition-at t) condition.Post
@@ -227,8 +227,8 @@ condition-returns t c = let w = c .before .before .before .before .before .befor
     let at₀ = c .before .before .before .before .before .before .before .before .before .args .at in
     let left₀ = c .before .before .before .before .before .before .before .before .before .args .left in
     let pre₀ = c .before .before .before .before .before .before .before .before .before .pre .1 in
-    is-no (c .enum-told .given .1) (λ p s st f cs. cond-start _ _ (pre₀ .0) _ p s st f cs (ready-next _ _ (pre₀ .0) (other _ _ _ (pre₀ .2) refl)) (pre₀ .2)
-    ∙ c .before .before .before .before .clause .ensures .no _ _ _ _ _ (c .enum-told .given .1) (argument p s st f cs (getD w (at₀ + 6 + 4) 0)) (λ (g : Terms) (e : ℕ). matched left₀ p s st f cs (getD w (at₀ + 6 + 4) 0) g e) (λ h t y z. refl))
+    is-no (c .enum-told .given .1) (λ b r p. cond-start _ _ (pre₀ .0) _ b r (ready-next _ _ (pre₀ .0) (other _ _ _ (pre₀ .2) refl)) (pre₀ .2) p
+    ∙ c .before .before .before .before .clause .ensures .no _ _ _ _ _ (c .enum-told .given .1) (argument b r (getD w (at₀ + 6 + 4) 0)) (λ (g : Terms) (a e : ℕ). matched left₀ b r (getD w (at₀ + 6 + 4) 0) (asked g a e)) (λ h t y z. refl) p)
 
 condition-kind-requires : (t : ℕ) → condition-lts.Need-kind-requires (condition-claims t) (condition-at t) condition.Post
 condition-kind-requires t c κs = let K = c .before .before .before .before .before .clause .ensures .at _ _ (c .before .r .given .1) in K .closed .ready
@@ -264,10 +264,10 @@ condition-returns-2 t c = let w = c .before .before .before .before .before .bef
     let pre₀ = c .before .before .before .before .before .before .before .before .before .before .before .before .before .before .before .before .before .before .pre .1 in
     let K = c .before .before .before .before .before .before .before .before .before .before .before .before .before .clause .ensures .at _ _ (c .before .before .before .before .before .before .before .before .before .r .given .1) in
     let k₇ : getD w j₁ 0 ≡ 7 = sym (c .before .before .before .before .before .before .before .kind .ensures) ∙ c .before .before .before .before .before .before .if1 .taken in
-    is-no (c .enum-told2 .given .1) (λ p s st f cs. cond-start _ _ (pre₀ .0) _ p s st f cs (ready-next _ _ (pre₀ .0) (other _ _ _ (pre₀ .2) refl)) (pre₀ .2)
-    ∙ K .closed .means (argument p s st f cs (getD w (at₀ + 6 + 4) 0)) (λ (g : Terms) (e : ℕ). matched left₀ p s st f cs (getD w (at₀ + 6 + 4) 0) g e) (λ h t y z. refl)
-    ∙ match-block _ _ (K .closed .ready) _ p s st f cs (getD w (at₀ + 6 + 4) 0) (K .g) (K .closed .e) k₇
-    ∙ c .before .before .before .before .block .ensures .no _ _ _ _ _ (c .enum-told2 .given .1) (inCondition p s st f cs (getD w (at₀ + 6 + 4) 0) (K .g)))
+    is-no (c .enum-told2 .given .1) (λ b r p. cond-start _ _ (pre₀ .0) _ b r (ready-next _ _ (pre₀ .0) (other _ _ _ (pre₀ .2) refl)) (pre₀ .2) p
+    ∙ K .closed .means (argument b r (getD w (at₀ + 6 + 4) 0)) (λ (g : Terms) (a e : ℕ). matched left₀ b r (getD w (at₀ + 6 + 4) 0) (asked g a e)) (λ h t y z. refl) p
+    ∙ match-block _ _ (K .closed .ready) _ b r (getD w (at₀ + 6 + 4) 0) (asked (K .g) (K .closed .a) (K .closed .e)) k₇ p
+    ∙ c .before .before .before .before .block .ensures .no _ _ _ _ _ (c .enum-told2 .given .1) (inCondition b r (getD w (at₀ + 6 + 4) 0) (asked (K .g) (K .closed .a) (K .closed .e))) p)
 
 condition-span-from-requires : (t : ℕ) → condition-lts.Need-span-from-requires (condition-claims t) (condition-at t) condition.Post
 condition-span-from-requires t c κs = let pre₀ = c .before .before .pre .1 in
@@ -317,27 +317,27 @@ condition-returns-3 t c = let w = c .before .before .before .before .before .bef
       at = λ j m e.
           let N = c .joins .ensures .at j m e in
           record {
-            x = theCondition (getD w (at₀ + 6 + 4) 0) (K .g) (rBlock (getD w (at₀ + 6 + 4) 0) (B .v) (B .t .to)) (B .t .to);
+            x = toBlock (getD w (at₀ + 6 + 4) 0) (asked (K .g) (K .closed .a) (K .closed .e)) (B .v) (B .e);
             ready = N .ready;
             on = let o = K .closed .on in let q = B .on in let y = N .stays in omega arith;
             few = let v = B .few in let y = N .stays in let z = N .rows in omega arith;
-            rows = block-condition _ _ (K .g) (c .before .before .before .before .before .before .before .before .before .before .before .before .before .before .before .before .before .before .before .before .before .before .before .before .before .before .span-from .ensures) (c .before .before .before .before .before .before .before .before .before .end-before .ensures
+            rows = block-condition _ _ (K .g) (c .before .before .before .before .before .before .before .before .before .before .before .before .before .before .before .before .before .before .before .before .before .before .before .before .before .before .span-from .ensures) ((c .before .before .before .before .before .before .before .before .before .before .before .before .before .before .before .before .before .before .before .before .before .before .before .before .before .before .span-from .ensures) ∙ sym (K .closed .first)) (c .before .before .before .before .before .before .before .before .before .end-before .ensures
                 ∙ sym (B .last)) (K .rows) (K .count) (B .v) (B .rows) (B .count) (c .before .before .before .before .before .before .before .put-span .ensures) (c .before .before .before .put-span2 .ensures);
-            count = N .rows ∙ size-block-condition _ _ _ (K .g) (K .count) (B .v) (B .count);
+            count = N .rows ∙ size-block-condition _ _ _ (K .g) (K .count) _ (B .v) (B .count);
             joint = N .joint;
-            means = λ p s st f cs. cond-start _ _ (pre₀ .0) _ p s st f cs (ready-next _ _ (pre₀ .0) (other _ _ _ (pre₀ .2) refl)) (pre₀ .2)
-                ∙ K .closed .means (argument p s st f cs (getD w (at₀ + 6 + 4) 0)) (λ (g : Terms) (e : ℕ). matched left₀ p s st f cs (getD w (at₀ + 6 + 4) 0) g e) (λ h t y z. refl)
-                ∙ match-block _ _ (K .closed .ready) _ p s st f cs (getD w (at₀ + 6 + 4) 0) (K .g) (K .closed .e) k₇
-                ∙ B .means (inCondition p s st f cs (getD w (at₀ + 6 + 4) 0) (K .g))
-                ∙ leveled w j₂ left₀ (λ (d : ℕ). conditioned d p s st f (cMore cs (theCondition (getD w (at₀ + 6 + 4) 0) (K .g) (rBlock (getD w (at₀ + 6 + 4) 0) (B .v) (B .t .to)) (B .t .to)))) (B .some)
-                ∙ moved w j₂ j (conditioned left₀ p s st f (cMore cs (theCondition (getD w (at₀ + 6 + 4) 0) (K .g) (rBlock (getD w (at₀ + 6 + 4) 0) (B .v) (B .t .to)) (B .t .to)))) (N .stays);
+            means = λ b r p. cond-start _ _ (pre₀ .0) _ b r (ready-next _ _ (pre₀ .0) (other _ _ _ (pre₀ .2) refl)) (pre₀ .2) p
+                ∙ K .closed .means (argument b r (getD w (at₀ + 6 + 4) 0)) (λ (g : Terms) (a e : ℕ). matched left₀ b r (getD w (at₀ + 6 + 4) 0) (asked g a e)) (λ h t y z. refl) p
+                ∙ match-block _ _ (K .closed .ready) _ b r (getD w (at₀ + 6 + 4) 0) (asked (K .g) (K .closed .a) (K .closed .e)) k₇ p
+                ∙ B .means (inCondition b r (getD w (at₀ + 6 + 4) 0) (asked (K .g) (K .closed .a) (K .closed .e))) p
+                ∙ leveled w j₂ left₀ (λ (d : ℕ). conditioned d b (withCondition r (toBlock (getD w (at₀ + 6 + 4) 0) (asked (K .g) (K .closed .a) (K .closed .e)) (B .v) (B .e)))) (B .some) p
+                ∙ moved w j₂ j (conditioned left₀ b (withCondition r (toBlock (getD w (at₀ + 6 + 4) 0) (asked (K .g) (K .closed .a) (K .closed .e)) (B .v) (B .e)))) (N .stays) p;
           };
-      no = λ a b k d e q. λ p s st f cs. cond-start _ _ (pre₀ .0) _ p s st f cs (ready-next _ _ (pre₀ .0) (other _ _ _ (pre₀ .2) refl)) (pre₀ .2)
-          ∙ K .closed .means (argument p s st f cs (getD w (at₀ + 6 + 4) 0)) (λ (g : Terms) (e : ℕ). matched left₀ p s st f cs (getD w (at₀ + 6 + 4) 0) g e) (λ h t y z. refl)
-          ∙ match-block _ _ (K .closed .ready) _ p s st f cs (getD w (at₀ + 6 + 4) 0) (K .g) (K .closed .e) k₇
-          ∙ B .means (inCondition p s st f cs (getD w (at₀ + 6 + 4) 0) (K .g))
-          ∙ leveled w j₂ left₀ (λ (d : ℕ). conditioned d p s st f (cMore cs (theCondition (getD w (at₀ + 6 + 4) 0) (K .g) (rBlock (getD w (at₀ + 6 + 4) 0) (B .v) (B .t .to)) (B .t .to)))) (B .some)
-          ∙ c .joins .ensures .no a b k d e q left₀ p s st f (cMore cs (theCondition (getD w (at₀ + 6 + 4) 0) (K .g) (rBlock (getD w (at₀ + 6 + 4) 0) (B .v) (B .t .to)) (B .t .to)));
+      no = λ a z k d e q. λ b r p. cond-start _ _ (pre₀ .0) _ b r (ready-next _ _ (pre₀ .0) (other _ _ _ (pre₀ .2) refl)) (pre₀ .2) p
+          ∙ K .closed .means (argument b r (getD w (at₀ + 6 + 4) 0)) (λ (g : Terms) (a e : ℕ). matched left₀ b r (getD w (at₀ + 6 + 4) 0) (asked g a e)) (λ h t y z. refl) p
+          ∙ match-block _ _ (K .closed .ready) _ b r (getD w (at₀ + 6 + 4) 0) (asked (K .g) (K .closed .a) (K .closed .e)) k₇ p
+          ∙ B .means (inCondition b r (getD w (at₀ + 6 + 4) 0) (asked (K .g) (K .closed .a) (K .closed .e))) p
+          ∙ leveled w j₂ left₀ (λ (d : ℕ). conditioned d b (withCondition r (toBlock (getD w (at₀ + 6 + 4) 0) (asked (K .g) (K .closed .a) (K .closed .e)) (B .v) (B .e)))) (B .some) p
+          ∙ c .joins .ensures .no a z k d e q left₀ b (withCondition r (toBlock (getD w (at₀ + 6 + 4) 0) (asked (K .g) (K .closed .a) (K .closed .e)) (B .v) (B .e))) p;
     }
 
 condition-pattern-requires : (t : ℕ) → condition-lts.Need-pattern-requires (condition-claims t) (condition-at t) condition.Post
@@ -359,11 +359,11 @@ condition-returns-4 t c = let w = c .before .before .before .before .before .bef
     let left₀ = c .before .before .before .before .before .before .before .before .before .before .before .before .before .before .before .before .before .before .args .left in
     let pre₀ = c .before .before .before .before .before .before .before .before .before .before .before .before .before .before .before .before .before .before .pre .1 in
     let K = c .before .before .before .before .before .before .before .before .before .before .before .before .before .clause .ensures .at _ _ (c .before .before .before .before .before .before .before .before .before .r .given .1) in
-    is-no (c .enum-told3 .given .1) (λ p s st f cs. cond-start _ _ (pre₀ .0) _ p s st f cs (ready-next _ _ (pre₀ .0) (other _ _ _ (pre₀ .2) refl)) (pre₀ .2)
-    ∙ K .closed .means (argument p s st f cs (getD w (at₀ + 6 + 4) 0)) (λ (g : Terms) (e : ℕ). matched left₀ p s st f cs (getD w (at₀ + 6 + 4) 0) g e) (λ h t y z. refl)
-    ∙ match-terms _ _ (K .closed .ready) _ p s st f cs (getD w (at₀ + 6 + 4) 0) (K .g) (K .closed .e) (λ e. c .before .before .before .before .before .before .if1 .left (c .before .before .before .before .before .before .before .kind .ensures
-    ∙ e))
-    ∙ c .before .before .before .before .pattern .ensures .no _ _ _ _ _ (c .enum-told3 .given .1) (matching p s st f cs (getD w (at₀ + 6 + 4) 0) (K .g) (K .closed .e)) p s st (λ (h : Terms). f) (λ (h : Terms). cMore cs (theCondition (getD w (at₀ + 6 + 4) 0) (K .g) (rTerms h) (lastEnd h (K .closed .e)))) (λ h t y z. refl))
+    is-no (c .enum-told3 .given .1) (λ b r p. cond-start _ _ (pre₀ .0) _ b r (ready-next _ _ (pre₀ .0) (other _ _ _ (pre₀ .2) refl)) (pre₀ .2) p
+    ∙ K .closed .means (argument b r (getD w (at₀ + 6 + 4) 0)) (λ (g : Terms) (a e : ℕ). matched left₀ b r (getD w (at₀ + 6 + 4) 0) (asked g a e)) (λ h t y z. refl) p
+    ∙ match-terms _ _ (K .closed .ready) _ b r (getD w (at₀ + 6 + 4) 0) (asked (K .g) (K .closed .a) (K .closed .e)) (λ e. c .before .before .before .before .before .before .if1 .left (c .before .before .before .before .before .before .before .kind .ensures
+    ∙ e)) p
+    ∙ c .before .before .before .before .pattern .ensures .no _ _ _ _ _ (c .enum-told3 .given .1) (matching b r (getD w (at₀ + 6 + 4) 0) (asked (K .g) (K .closed .a) (K .closed .e))) b (λ (h : Terms). withCondition r (toTerms (getD w (at₀ + 6 + 4) 0) (asked (K .g) (K .closed .a) (K .closed .e)) h)) (λ h t y z. refl) p)
 
 condition-put-span-requires-3 : (t : ℕ) → condition-lts.Need-put-span-requires-3 (condition-claims t) (condition-at t) condition.Post
 condition-put-span-requires-3 t c κs = let pre₀ = c .before .before .before .before .before .before .before .before .before .before .before .before .before .before .before .before .before .before .before .before .before .pre .1 in
@@ -383,7 +383,7 @@ condition-returns-5 t c = let w = c .before .before .before .before .before .bef
     let K = c .before .before .before .before .before .before .before .before .before .before .before .before .before .before .before .before .before .before .before .clause .ensures .at _ _ (c .before .before .before .before .before .before .before .before .before .before .before .before .before .before .before .r .given .1) in
     let Q = c .before .before .before .before .before .before .before .before .before .before .pattern .ensures .at _ _ (c .before .before .before .before .before .before .r3 .given .1) in
     is-at refl (record {
-      x = theCondition (getD w (at₀ + 6 + 4) 0) (K .g) (rTerms (Q .g)) (lastEnd (Q .g) (K .closed .e));
+      x = toTerms (getD w (at₀ + 6 + 4) 0) (asked (K .g) (K .closed .a) (K .closed .e)) (Q .g);
       ready = Q .ready;
       on = let o = K .closed .on in let q = Q .on in omega arith;
       few = Q .few;
@@ -392,11 +392,11 @@ condition-returns-5 t c = let w = c .before .before .before .before .before .bef
           ∙ sym l) (K .rows) (K .count) (Q .g) (Q .rows) (Q .count) (c .before .before .put-span3 .ensures);
       count = size-terms-condition _ _ _ (K .g) (K .count) (Q .g) (Q .count);
       joint = Q .joint;
-      means = λ p s st f cs. cond-start _ _ (pre₀ .0) _ p s st f cs (ready-next _ _ (pre₀ .0) (other _ _ _ (pre₀ .2) refl)) (pre₀ .2)
-          ∙ K .closed .means (argument p s st f cs (getD w (at₀ + 6 + 4) 0)) (λ (g : Terms) (e : ℕ). matched left₀ p s st f cs (getD w (at₀ + 6 + 4) 0) g e) (λ h t y z. refl)
-          ∙ match-terms _ _ (K .closed .ready) _ p s st f cs (getD w (at₀ + 6 + 4) 0) (K .g) (K .closed .e) (λ e. c .before .before .before .before .before .before .before .before .before .before .before .before .if1 .left (c .before .before .before .before .before .before .before .before .before .before .before .before .before .kind .ensures
-          ∙ e))
-          ∙ Q .means (matching p s st f cs (getD w (at₀ + 6 + 4) 0) (K .g) (K .closed .e)) p s st (λ (h : Terms). f) (λ (h : Terms). cMore cs (theCondition (getD w (at₀ + 6 + 4) 0) (K .g) (rTerms h) (lastEnd h (K .closed .e)))) (λ h t y z. refl);
+      means = λ b r p. cond-start _ _ (pre₀ .0) _ b r (ready-next _ _ (pre₀ .0) (other _ _ _ (pre₀ .2) refl)) (pre₀ .2) p
+          ∙ K .closed .means (argument b r (getD w (at₀ + 6 + 4) 0)) (λ (g : Terms) (a e : ℕ). matched left₀ b r (getD w (at₀ + 6 + 4) 0) (asked g a e)) (λ h t y z. refl) p
+          ∙ match-terms _ _ (K .closed .ready) _ b r (getD w (at₀ + 6 + 4) 0) (asked (K .g) (K .closed .a) (K .closed .e)) (λ e. c .before .before .before .before .before .before .before .before .before .before .before .before .if1 .left (c .before .before .before .before .before .before .before .before .before .before .before .before .before .kind .ensures
+          ∙ e)) p
+          ∙ Q .means (matching b r (getD w (at₀ + 6 + 4) 0) (asked (K .g) (K .closed .a) (K .closed .e))) b (λ (h : Terms). withCondition r (toTerms (getD w (at₀ + 6 + 4) 0) (asked (K .g) (K .closed .a) (K .closed .e)) h)) (λ h t y z. refl) p;
     })
 
 ending-kind-requires : (t : ℕ) → ending-lts.Need-kind-requires (ending-claims t) (ending-at t) ending.Post
@@ -425,11 +425,11 @@ ending-returns t c = let left₀ = c .before .before .before .before .before .be
             rows = terms-ending (K .g) _ _ (K .rows);
             count = size-terms-ending (K .g) _ (K .count);
             last = K .closed .last;
-            means = λ p s st f cs. end-terms _ _ (pre₀ .0) _ p s st f cs (λ e. c .before .before .before .before .if1 .taken (c .before .before .before .before .before .kind .ensures ∙ e))
-                ∙ K .closed .means (result p s st f cs) (λ (g : Terms) (b : ℕ). between left₀ p (sMore s (theSentence st f cs (eTerms g) b))) (λ h t y z. refl);
+            means = λ b r p. end-terms _ _ (pre₀ .0) _ b r (λ e. c .before .before .before .before .if1 .taken (c .before .before .before .before .before .kind .ensures ∙ e)) p
+                ∙ K .closed .means (result b r) (λ (g : Terms) (a e : ℕ). between left₀ b (finished r (eTerms g) e)) (λ h t y z. refl) p;
           };
-      no = λ a b k d e q. λ p s st f cs. end-terms _ _ (pre₀ .0) _ p s st f cs (λ e. c .before .before .before .before .if1 .taken (c .before .before .before .before .before .kind .ensures ∙ e))
-          ∙ c .before .before .clause .ensures .no a b k d e q (result p s st f cs) (λ (g : Terms) (b : ℕ). between left₀ p (sMore s (theSentence st f cs (eTerms g) b))) (λ h t y z. refl);
+      no = λ a z k d e q. λ b r p. end-terms _ _ (pre₀ .0) _ b r (λ e. c .before .before .before .before .if1 .taken (c .before .before .before .before .before .kind .ensures ∙ e)) p
+          ∙ c .before .before .clause .ensures .no a z k d e q (result b r) (λ (g : Terms) (a e : ℕ). between left₀ b (finished r (eTerms g) e)) (λ h t y z. refl) p;
     }
 
 ending-add-start : (t : ℕ) → ending-lts.Need-add-start (ending-claims t) (ending-at t) ending.Post
@@ -462,8 +462,8 @@ ending-returns-2 t c = let w = c .before .before .before .before .before .before
     let left₀ = c .before .before .before .before .before .before .before .before .before .before .before .args .left in
     let pre₀ = c .before .before .before .before .before .before .before .before .before .before .before .pre .1 in
     let k₁₃ : getD w at₀ 0 ≡ 13 = sym (c .before .before .before .before .before .before .before .before .kind .ensures) ∙ c .before .before .before .before .before .before .before .if1 .left in
-    is-no (c .enum-told .given .1) (λ p s st f cs. end-start _ _ (pre₀ .0) _ p s st f cs (ready-next _ _ (pre₀ .0) (other _ _ _ k₁₃ refl)) k₁₃
-    ∙ c .before .before .before .before .clause2 .ensures .no _ _ _ _ _ (c .enum-told .given .1) (inArgument p s st f cs (getD w (at₀ + 6 + 4) 0)) (λ (g : Terms) (e : ℕ). blocked left₀ p s st f cs (getD w (at₀ + 6 + 4) 0) g) (λ h t y z. refl))
+    is-no (c .enum-told .given .1) (λ b r p. end-start _ _ (pre₀ .0) _ b r k₁₃ p
+    ∙ c .before .before .before .before .clause2 .ensures .no _ _ _ _ _ (c .enum-told .given .1) (inArgument b r) (λ (g : Terms) (a e : ℕ). blocked left₀ b r (asked g a e)) (λ h t y z. refl) p)
 
 ending-kind-requires-2 : (t : ℕ) → ending-lts.Need-kind-requires-2 (ending-claims t) (ending-at t) ending.Post
 ending-kind-requires-2 t c κs = let K = c .before .before .before .before .before .clause2 .ensures .at _ _ (c .before .r .given .1) in K .closed .ready
@@ -481,10 +481,10 @@ ending-returns-3 t c = let w = c .before .before .before .before .before .before
     let pre₀ = c .before .before .before .before .before .before .before .before .before .before .before .before .before .before .before .pre .1 in
     let K = c .before .before .before .before .before .before .before .before .clause2 .ensures .at _ _ (c .before .before .before .before .r .given .1) in
     let k₁₃ : getD w at₀ 0 ≡ 13 = sym (c .before .before .before .before .before .before .before .before .before .before .before .before .kind .ensures) ∙ c .before .before .before .before .before .before .before .before .before .before .before .if1 .left in
-    is-no (c .present .ensures) (λ p s st f cs. end-start _ _ (pre₀ .0) _ p s st f cs (ready-next _ _ (pre₀ .0) (other _ _ _ k₁₃ refl)) k₁₃
-    ∙ K .closed .means (inArgument p s st f cs (getD w (at₀ + 6 + 4) 0)) (λ (g : Terms) (e : ℕ). blocked left₀ p s st f cs (getD w (at₀ + 6 + 4) 0) g) (λ h t y z. refl)
-    ∙ end-unopened _ _ (K .closed .ready) _ p s st f cs (getD w (at₀ + 6 + 4) 0) (K .g) (λ e. c .before .if2 .taken (c .before .before .kind2 .ensures
-    ∙ e)))
+    is-no (c .present .ensures) (λ b r p. end-start _ _ (pre₀ .0) _ b r k₁₃ p
+    ∙ K .closed .means (inArgument b r) (λ (g : Terms) (a e : ℕ). blocked left₀ b r (asked g a e)) (λ h t y z. refl) p
+    ∙ end-unopened _ _ (K .closed .ready) _ b r (asked (K .g) (K .closed .a) (K .closed .e)) (λ e. c .before .if2 .taken (c .before .before .kind2 .ensures
+    ∙ e)) p)
 
 ending-block-requires : (t : ℕ) → ending-lts.Need-block-requires (ending-claims t) (ending-at t) ending.Post
 ending-block-requires t c κs = let w = c .before .before .before .before .before .before .before .before .before .before .before .before .before .before .before .args .tokens .now in
@@ -514,10 +514,10 @@ ending-returns-4 t c = let w = c .before .before .before .before .before .before
     let K = c .before .before .before .before .before .before .before .before .before .before .before .before .before .clause2 .ensures .at _ _ (c .before .before .before .before .before .before .before .before .before .r .given .1) in
     let k₁₃ : getD w at₀ 0 ≡ 13 = sym (c .before .before .before .before .before .before .before .before .before .before .before .before .before .before .before .before .before .kind .ensures) ∙ c .before .before .before .before .before .before .before .before .before .before .before .before .before .before .before .before .if1 .left in
     let k₇ : getD w j₁ 0 ≡ 7 = sym (c .before .before .before .before .before .before .before .kind2 .ensures) ∙ c .before .before .before .before .before .before .if2 .left in
-    is-no (c .enum-told2 .given .1) (λ p s st f cs. end-start _ _ (pre₀ .0) _ p s st f cs (ready-next _ _ (pre₀ .0) (other _ _ _ k₁₃ refl)) k₁₃
-    ∙ K .closed .means (inArgument p s st f cs (getD w (at₀ + 6 + 4) 0)) (λ (g : Terms) (e : ℕ). blocked left₀ p s st f cs (getD w (at₀ + 6 + 4) 0) g) (λ h t y z. refl)
-    ∙ end-block _ _ (K .closed .ready) _ p s st f cs (getD w (at₀ + 6 + 4) 0) (K .g) k₇
-    ∙ c .before .before .before .before .block .ensures .no _ _ _ _ _ (c .enum-told2 .given .1) (inEnding p s st f cs (getD w (at₀ + 6 + 4) 0) (K .g)))
+    is-no (c .enum-told2 .given .1) (λ b r p. end-start _ _ (pre₀ .0) _ b r k₁₃ p
+    ∙ K .closed .means (inArgument b r) (λ (g : Terms) (a e : ℕ). blocked left₀ b r (asked g a e)) (λ h t y z. refl) p
+    ∙ end-block _ _ (K .closed .ready) _ b r (asked (K .g) (K .closed .a) (K .closed .e)) k₇ p
+    ∙ c .before .before .before .before .block .ensures .no _ _ _ _ _ (c .enum-told2 .given .1) (inEnding b r (asked (K .g) (K .closed .a) (K .closed .e))) p)
 
 ending-kind-requires-3 : (t : ℕ) → ending-lts.Need-kind-requires-3 (ending-claims t) (ending-at t) ending.Post
 ending-kind-requires-3 t c κs = let B = c .before .before .before .before .before .block .ensures .at _ _ (c .before .r2 .given .1) in B .ready
@@ -539,13 +539,13 @@ ending-returns-5 t c = let w = c .before .before .before .before .before .before
     let B = c .before .before .before .before .before .before .before .before .block .ensures .at _ _ (c .before .before .before .before .r2 .given .1) in
     let k₁₃ : getD w at₀ 0 ≡ 13 = sym (c .before .before .before .before .before .before .before .before .before .before .before .before .before .before .before .before .before .before .before .before .before .kind .ensures) ∙ c .before .before .before .before .before .before .before .before .before .before .before .before .before .before .before .before .before .before .before .before .if1 .left in
     let k₇ : getD w j₁ 0 ≡ 7 = sym (c .before .before .before .before .before .before .before .before .before .before .before .kind2 .ensures) ∙ c .before .before .before .before .before .before .before .before .before .before .if2 .left in
-    is-no (c .present2 .ensures) (λ p s st f cs. end-start _ _ (pre₀ .0) _ p s st f cs (ready-next _ _ (pre₀ .0) (other _ _ _ k₁₃ refl)) k₁₃
-    ∙ K .closed .means (inArgument p s st f cs (getD w (at₀ + 6 + 4) 0)) (λ (g : Terms) (e : ℕ). blocked left₀ p s st f cs (getD w (at₀ + 6 + 4) 0) g) (λ h t y z. refl)
-    ∙ end-block _ _ (K .closed .ready) _ p s st f cs (getD w (at₀ + 6 + 4) 0) (K .g) k₇
-    ∙ B .means (inEnding p s st f cs (getD w (at₀ + 6 + 4) 0) (K .g))
-    ∙ leveled w j₂ left₀ (λ (d : ℕ). ended d p s st f cs (getD w (at₀ + 6 + 4) 0) (K .g) (B .v) (B .t .to)) (B .some)
-    ∙ end-unclosed _ _ (B .ready) _ p s st f cs (getD w (at₀ + 6 + 4) 0) (K .g) (B .v) (B .t .to) (λ e. c .before .if3 .taken (c .before .before .kind3 .ensures
-    ∙ e)))
+    is-no (c .present2 .ensures) (λ b r p. end-start _ _ (pre₀ .0) _ b r k₁₃ p
+    ∙ K .closed .means (inArgument b r) (λ (g : Terms) (a e : ℕ). blocked left₀ b r (asked g a e)) (λ h t y z. refl) p
+    ∙ end-block _ _ (K .closed .ready) _ b r (asked (K .g) (K .closed .a) (K .closed .e)) k₇ p
+    ∙ B .means (inEnding b r (asked (K .g) (K .closed .a) (K .closed .e))) p
+    ∙ leveled w j₂ left₀ (λ (d : ℕ). ended d b r (asked (K .g) (K .closed .a) (K .closed .e)) (B .v) (B .e)) (B .some) p
+    ∙ end-unclosed _ _ (B .ready) _ b r (asked (K .g) (K .closed .a) (K .closed .e)) (B .v) (B .e) (λ e. c .before .if3 .taken (c .before .before .kind3 .ensures
+    ∙ e)) p)
 
 ending-span-from-requires : (t : ℕ) → ending-lts.Need-span-from-requires (ending-claims t) (ending-at t) ending.Post
 ending-span-from-requires t c κs = let w = c .before .before .before .before .args .tokens .now in
@@ -583,21 +583,21 @@ ending-returns-6 t c = let w = c .before .before .before .before .before .before
     let k₇ : getD w j₁ 0 ≡ 7 = sym (c .before .before .before .before .before .before .before .before .before .before .before .before .before .before .before .kind2 .ensures) ∙ c .before .before .before .before .before .before .before .before .before .before .before .before .before .before .if2 .left in
     let k₁₆ : getD w j₂ 0 ≡ 16 = sym (c .before .before .before .before .before .before .kind3 .ensures) ∙ c .before .before .before .before .before .if3 .left in
     is-at refl (record {
-      x = eBlock (getD w (at₀ + 6 + 4) 0) (K .g) (B .v) (B .t .to);
+      x = endBlock (asked (K .g) (K .closed .a) (K .closed .e)) (B .v) (B .e);
       e = getD w (j₂ + 5) 0;
       ready = ready-next _ _ (B .ready) (other _ _ _ k₁₆ refl);
       on = let o = K .closed .on in let q = B .on in omega arith;
       few = let v = B .few in omega arith;
-      rows = block-ending _ _ (K .g) (c .before .before .before .before .before .before .before .before .before .before .before .before .before .before .before .before .before .before .before .before .before .before .before .span-from .ensures) (c .before .before .before .before .end-before .ensures
+      rows = block-ending _ _ (K .g) (c .before .before .before .before .before .before .before .before .before .before .before .before .before .before .before .before .before .before .before .before .before .before .before .span-from .ensures ∙ sym (K .closed .first)) (c .before .before .before .before .end-before .ensures
           ∙ sym (B .last)) (K .rows) (K .count) (B .v) (B .rows) (B .count) (c .before .before .put-span .ensures);
       count = size-block-ending _ _ _ (K .g) (K .count) (B .v) (B .count);
       last = end-before w j₂;
-      means = λ p s st f cs. end-start _ _ (pre₀ .0) _ p s st f cs (ready-next _ _ (pre₀ .0) (other _ _ _ k₁₃ refl)) k₁₃
-          ∙ K .closed .means (inArgument p s st f cs (getD w (at₀ + 6 + 4) 0)) (λ (g : Terms) (e : ℕ). blocked left₀ p s st f cs (getD w (at₀ + 6 + 4) 0) g) (λ h t y z. refl)
-          ∙ end-block _ _ (K .closed .ready) _ p s st f cs (getD w (at₀ + 6 + 4) 0) (K .g) k₇
-          ∙ B .means (inEnding p s st f cs (getD w (at₀ + 6 + 4) 0) (K .g))
-          ∙ leveled w j₂ left₀ (λ (d : ℕ). ended d p s st f cs (getD w (at₀ + 6 + 4) 0) (K .g) (B .v) (B .t .to)) (B .some)
-          ∙ end-closed _ _ (B .ready) _ p s st f cs (getD w (at₀ + 6 + 4) 0) (K .g) (B .v) (B .t .to) k₁₆;
+      means = λ b r p. end-start _ _ (pre₀ .0) _ b r k₁₃ p
+          ∙ K .closed .means (inArgument b r) (λ (g : Terms) (a e : ℕ). blocked left₀ b r (asked g a e)) (λ h t y z. refl) p
+          ∙ end-block _ _ (K .closed .ready) _ b r (asked (K .g) (K .closed .a) (K .closed .e)) k₇ p
+          ∙ B .means (inEnding b r (asked (K .g) (K .closed .a) (K .closed .e))) p
+          ∙ leveled w j₂ left₀ (λ (d : ℕ). ended d b r (asked (K .g) (K .closed .a) (K .closed .e)) (B .v) (B .e)) (B .some) p
+          ∙ end-closed _ _ (B .ready) _ b r (asked (K .g) (K .closed .a) (K .closed .e)) (B .v) (B .e) k₁₆ p;
     })
 
 abbrev sentence-Inv-loop : sentence-lts.InvT-loop
@@ -626,12 +626,12 @@ sentence-same-length t c = search needs
 sentence-returns : (t : ℕ) → sentence-lts.Need-returns (sentence-claims t) (sentence-at t) sentence.Post sentence-Inv-loop sentence-μ-loop
 sentence-returns t c = let w = c .before .before .before .before .before .before .before .before .args .tokens .now in
     let at₀ = c .before .before .before .before .before .before .before .before .args .at in
-    is-no (c .enum-told .given .1) (λ p s. c .before .before .before .before .pattern .ensures .no _ _ _ _ _ (c .enum-told .given .1) (inPattern p s (getD w (at₀ + 4) 0)) p s (getD w (at₀ + 4) 0) (λ (g : Terms). g) (λ (g : Terms). c0) (λ h t y z. refl))
+    is-no (c .enum-told .given .1) (λ b s p. c .before .before .before .before .pattern .ensures .no _ _ _ _ _ (c .enum-told .given .1) (inPattern b s (getD w (at₀ + 4) 0)) b (λ (g : Terms). begun s (getD w (at₀ + 4) 0) g c0) (λ h t y z. refl) p)
 
 sentence-loop-holds : (t : ℕ) → sentence-lts.Need-loop-holds (sentence-claims t) (sentence-at t) sentence.Post sentence-Inv-loop sentence-μ-loop
 unfolding sizeC wC
 sentence-loop-holds t c = let Q = c .before .before .before .before .before .pattern .ensures .at _ _ (c .before .r .given .1) in
-    record { cs = c0; ready = Q .ready; joint = Q .joint; on = omega arith; few = Q .few; same = refl; rows = refl; count = omega arith; means = λ p s st f. refl }
+    record { cs = c0; ready = Q .ready; joint = Q .joint; on = omega arith; few = Q .few; same = refl; rows = refl; count = omega arith; means = λ b s a f p. refl }
 
 sentence-kind-requires : (t : ℕ) → sentence-lts.Need-kind-requires (sentence-claims t) (sentence-at t) sentence.Post sentence-Inv-loop sentence-μ-loop
 sentence-kind-requires t c κs = c .loop .inv .ready
@@ -662,9 +662,9 @@ sentence-returns-2 t c = let w = c .before .before .before .before .before .befo
     let at₀ = c .before .before .before .before .before .before .before .before .before .before .before .before .before .before .before .before .before .before .args .at in
     let Q = c .before .before .before .before .before .before .before .before .before .before .before .before .before .before .pattern .ensures .at _ _ (c .before .before .before .before .before .before .before .before .before .before .r .given .1) in
     let I = c .before .before .before .before .before .before .before .before .loop .inv in
-    is-no (c .enum-told2 .given .1) (λ p s. Q .means (inPattern p s (getD w (at₀ + 4) 0)) p s (getD w (at₀ + 4) 0) (λ (g : Terms). g) (λ (g : Terms). c0) (λ h t y z. refl)
-    ∙ I .means p s (getD w (at₀ + 4) 0) (Q .g)
-    ∙ c .before .before .before .before .condition .ensures .no _ _ _ _ _ (c .enum-told2 .given .1) p s (getD w (at₀ + 4) 0) (Q .g) (I .cs))
+    is-no (c .enum-told2 .given .1) (λ b s p. Q .means (inPattern b s (getD w (at₀ + 4) 0)) b (λ (g : Terms). begun s (getD w (at₀ + 4) 0) g c0) (λ h t y z. refl) p
+    ∙ I .means b s (getD w (at₀ + 4) 0) (Q .g) p
+    ∙ c .before .before .before .before .condition .ensures .no _ _ _ _ _ (c .enum-told2 .given .1) b (begun s (getD w (at₀ + 4) 0) (Q .g) (I .cs)) p)
 
 sentence-loop-less : (t : ℕ) → sentence-lts.Need-loop-less (sentence-claims t) (sentence-at t) sentence.Post sentence-Inv-loop sentence-μ-loop
 sentence-loop-less t c = let X = c .before .before .before .before .before .condition .ensures .at _ _ (c .before .r2 .given .1) in let R = X .ready in let q = X .on in omega arith
@@ -681,7 +681,7 @@ sentence-loop-again t c = let I = c .before .before .before .before .before .bef
       same = c .before .before .before .before .before .condition .kept .1 .0 ∙ I .same;
       rows = more-conditions _ _ (I .cs) (X .x) (I .count) (I .rows) (X .rows);
       count = size-conditions _ (I .cs) (X .x) (I .count) (X .count);
-      means = λ p s st f. I .means p s st f ∙ X .means p s st f (I .cs);
+      means = λ b s a f p. I .means b s a f p ∙ X .means b (begun s a f (I .cs)) p;
     }
 
 sentence-add-after : (t : ℕ) → sentence-lts.Need-add-after (sentence-claims t) (sentence-at t) sentence.Post sentence-Inv-loop sentence-μ-loop
@@ -718,9 +718,9 @@ sentence-returns-3 t c = let w = c .before .before .before .before .before .befo
     let Q = c .before .before .before .before .before .before .before .before .before .before .before .before .before .before .pattern .ensures .at _ _ (c .before .before .before .before .before .before .before .before .before .before .r .given .1) in
     let I = c .before .before .before .before .before .before .before .before .loop .inv in
     let k₁₅ : getD w i₀ 0 ≡ 15 = c .before .before .before .before .before .before .before .before .loop .inv .joint (λ e. c .before .before .before .before .before .before .if1 .left (c .before .before .before .before .before .before .before .kind .ensures ∙ e)) in
-    is-no (c .enum-told3 .given .1) (λ p s. Q .means (inPattern p s (getD w (at₀ + 4) 0)) p s (getD w (at₀ + 4) 0) (λ (g : Terms). g) (λ (g : Terms). c0) (λ h t y z. refl)
-    ∙ I .means p s (getD w (at₀ + 4) 0) (Q .g) ∙ cond-equals _ _ (I .ready) _ p s (getD w (at₀ + 4) 0) (Q .g) (I .cs) k₁₅
-    ∙ c .before .before .before .before .ending .ensures .no _ _ _ _ _ (c .enum-told3 .given .1) p s (getD w (at₀ + 4) 0) (Q .g) (I .cs))
+    is-no (c .enum-told3 .given .1) (λ b s p. Q .means (inPattern b s (getD w (at₀ + 4) 0)) b (λ (g : Terms). begun s (getD w (at₀ + 4) 0) g c0) (λ h t y z. refl) p
+    ∙ I .means b s (getD w (at₀ + 4) 0) (Q .g) p ∙ cond-equals _ _ (I .ready) _ b (begun s (getD w (at₀ + 4) 0) (Q .g) (I .cs)) k₁₅ p
+    ∙ c .before .before .before .before .ending .ensures .no _ _ _ _ _ (c .enum-told3 .given .1) b (begun s (getD w (at₀ + 4) 0) (Q .g) (I .cs)) p)
 
 sentence-span-from-requires : (t : ℕ) → sentence-lts.Need-span-from-requires (sentence-claims t) (sentence-at t) sentence.Post sentence-Inv-loop sentence-μ-loop
 sentence-span-from-requires t c κs = let pre₀ = c .before .before .before .before .before .before .before .before .before .before .before .before .before .before .before .before .before .before .before .pre .1 in
@@ -756,9 +756,9 @@ sentence-returns-4 t c = let w = c .before .before .before .before .before .befo
       few = N .few;
       rows = whole-sentence _ _ _ (Q .g) (Q .count) _ (I .cs) (N .x) (I .count) (N .count) (let h₁ = Q .rows in let h₂ = I .rows in let h₃ = N .rows in let h₇ = N .last in cc);
       count = size-sentence _ _ _ (Q .g) (Q .count) (I .cs) (N .x) (I .count) (N .count);
-      means = λ p s. Q .means (inPattern p s (getD w (at₀ + 4) 0)) p s (getD w (at₀ + 4) 0) (λ (g : Terms). g) (λ (g : Terms). c0) (λ h t y z. refl)
-          ∙ I .means p s (getD w (at₀ + 4) 0) (Q .g) ∙ cond-equals _ _ (I .ready) _ p s (getD w (at₀ + 4) 0) (Q .g) (I .cs) k₁₅
-          ∙ N .means p s (getD w (at₀ + 4) 0) (Q .g) (I .cs);
+      means = λ b s p. Q .means (inPattern b s (getD w (at₀ + 4) 0)) b (λ (g : Terms). begun s (getD w (at₀ + 4) 0) g c0) (λ h t y z. refl) p
+          ∙ I .means b s (getD w (at₀ + 4) 0) (Q .g) p ∙ cond-equals _ _ (I .ready) _ b (begun s (getD w (at₀ + 4) 0) (Q .g) (I .cs)) k₁₅ p
+          ∙ N .means b (begun s (getD w (at₀ + 4) 0) (Q .g) (I .cs)) p;
     })
 
 pub +block+condition+ending+sentence-spec : {M : Type 1} → statement M

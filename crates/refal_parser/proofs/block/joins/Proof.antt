@@ -23,7 +23,7 @@ present-requires c κs = search needs
 
 -- src/block.rt:16:1
 returns-3 : tie.Need-returns-3
-returns-3 c = is-no (c .present .ensures) (λ d p s st f cs. joins-none _ _ (c .before .before .before .before .before .pre) d p s st f cs (λ e. c .before .before .if1 .left (c .before .before .before .kind .ensures ∙ e)) (λ e. c .before .if2 .left (c .before .before .before .kind .ensures ∙ e)))
+returns-3 c = is-no (c .present .ensures) (λ d b r. joins-none _ _ (c .before .before .before .before .before .pre) d b r (λ e. c .before .before .if1 .left (c .before .before .before .kind .ensures ∙ e)) (λ e. c .before .if2 .left (c .before .before .before .kind .ensures ∙ e)))
 
 pub joins-spec : {M : Type 1} → statement M
 joins-spec = tie.close (tie.spec kind-requires returns returns-2 present-requires returns-3)

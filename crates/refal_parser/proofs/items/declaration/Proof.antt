@@ -51,8 +51,8 @@ returns : tie.Need-returns Inv-loop μ-loop
 returns c = let w = c .before .before .before .before .before .before .before .before .args .tokens .now in
     let at₀ = c .before .before .before .before .before .before .before .before .args .at in
     let pre₀ = c .before .before .before .before .before .before .before .before .pre in
-    is-no (c .enum-told .given .1) (λ p. items-extern _ _ (pre₀ .0) p (pre₀ .2)
-    ∙ (c .before .before .before .before .name .ensures .no _ _ _ _ _ (c .enum-told .given .1)) .first p (getD w (at₀ + 4) 0))
+    is-no (c .enum-told .given .1) (λ p. items-extern _ _ (pre₀ .0) (pre₀ .2) p
+    ∙ (c .before .before .before .before .name .ensures .no _ _ _ _ _ (c .enum-told .given .1)) .first (getD w (at₀ + 4) 0) p)
 
 -- src/items.rt:42:5
 loop-holds : tie.Need-loop-holds Inv-loop μ-loop
@@ -69,7 +69,7 @@ loop-holds c = let w = c .before .before .before .before .before .before .before
       same = refl;
       rows = λ B e. e;
       count = F .count;
-      means = λ p. items-extern _ _ (pre₀ .0) p (pre₀ .2) ∙ F .first p (getD w (at₀ + 4) 0);
+      means = λ p. items-extern _ _ (pre₀ .0) (pre₀ .2) p ∙ F .first (getD w (at₀ + 4) 0) p;
     }
 
 -- src/items.rt:42:11
@@ -107,8 +107,8 @@ returns-2 c = let w = c .before .before .before .before .before .before .before 
     let i₀ = c .before .before .before .before .before .before .before .before .loop .i in
     let I = c .before .before .before .before .before .before .before .before .loop .inv in
     let k₁₃ : getD w i₀ 0 ≡ 13 = sym (c .before .before .before .before .before .before .before .kind .ensures) ∙ c .before .before .before .before .before .before .if1 .taken in
-    is-no (c .enum-told2 .given .1) (λ p. I .means p ∙ named-comma _ _ (I .ready) p (getD w (at₀ + 4) 0) (I .ns) k₁₃
-    ∙ (c .before .before .before .before .name2 .ensures .no _ _ _ _ _ (c .enum-told2 .given .1)) .more p (getD w (at₀ + 4) 0) (I .ns))
+    is-no (c .enum-told2 .given .1) (λ p. I .means p ∙ named-comma _ _ (I .ready) (getD w (at₀ + 4) 0) (I .ns) k₁₃ p
+    ∙ (c .before .before .before .before .name2 .ensures .no _ _ _ _ _ (c .enum-told2 .given .1)) .more (getD w (at₀ + 4) 0) (I .ns) p)
 
 -- src/items.rt:42:5
 loop-less : tie.Need-loop-less Inv-loop μ-loop
@@ -131,7 +131,7 @@ loop-again c = let w = c .before .before .before .before .before .before .before
       same = c .before .before .before .before .before .name2 .kept .1 .0 ∙ I .same;
       rows = λ B e. let h = I .rows B e in let k = I .count in let r = X .rows in cc;
       count = let b = X .count in let k = I .count in omega arith;
-      means = λ p. I .means p ∙ named-comma _ _ (I .ready) p (getD w (at₀ + 4) 0) (I .ns) k₁₃ ∙ X .more p (getD w (at₀ + 4) 0) (I .ns);
+      means = λ p. I .means p ∙ named-comma _ _ (I .ready) (getD w (at₀ + 4) 0) (I .ns) k₁₃ p ∙ X .more (getD w (at₀ + 4) 0) (I .ns) p;
     }
 
 -- src/items.rt:51:8
@@ -152,8 +152,8 @@ returns-3 c = let w = c .before .before .before .before .before .before .before 
     let at₀ = c .before .before .before .before .before .before .before .before .before .before .before .before .before .before .before .args .at in
     let I = c .before .before .before .before .before .loop .inv in
     is-no (c .present .ensures) (λ p. I .means p
-    ∙ named-none _ _ (I .ready) p (getD w (at₀ + 4) 0) (I .ns) (λ e. c .before .before .before .if1 .left (c .before .before .before .before .kind .ensures
-    ∙ e)) (λ e. c .before .if2 .taken (c .before .before .kind2 .ensures ∙ e)))
+    ∙ named-none _ _ (I .ready) (getD w (at₀ + 4) 0) (I .ns) (λ e. c .before .before .before .if1 .left (c .before .before .before .before .kind .ensures
+    ∙ e)) (λ e. c .before .if2 .taken (c .before .before .kind2 .ensures ∙ e)) p)
 
 -- src/items.rt:54:16
 add-next : tie.Need-add-next Inv-loop μ-loop
@@ -197,7 +197,7 @@ returns-4 c = let w = c .before .before .before .before .before .before .before 
       few = let v = I .few in omega arith;
       rows = let h = I .rows b₀ (F .rows) in let k = I .count in let l = end-before w i₀ in cc;
       count = let k = I .count in omega arith;
-      means = λ p. I .means p ∙ named-end _ _ (I .ready) p (getD w (at₀ + 4) 0) (I .ns) k₁₆;
+      means = λ p. I .means p ∙ named-end _ _ (I .ready) (getD w (at₀ + 4) 0) (I .ns) k₁₆ p;
     })
 
 pub declaration-spec : {M : Type 1} → statement M

@@ -6,6 +6,7 @@ use lib.ListN.{getD}
 use Rattle.refal_parser.proofs.TokenLaws.{ready-next}
 use Rattle.refal_parser.specs.Machine.{body}
 use Rattle.refal_parser.proofs.Steps.{is-at, is-no, other, head-open, head-none}
+use Rattle.refal_parser.specs.PostItems.{heading}
 use borrow.Author.Needs.{needs}
 use Rattle.refal_parser.proofs.items.function.Statement.{statement}
 use Rattle.refal_parser.proofs.items.function.Tie as tie
@@ -31,7 +32,7 @@ returns c = let w = c .before .before .before .before .before .args .tokens .now
     let at₀ = c .before .before .before .before .before .args .at in
     let name₀ = c .before .before .before .before .before .args .name in
     let pre₀ = c .before .before .before .before .before .pre in
-    is-no (c .present .ensures) (λ p x. head-none _ _ (ready-next _ _ (pre₀ .1) (other _ _ _ (pre₀ .3) refl)) p (getD w (at₀ + 4) 0) x (getD w (name₀ + 2) 0) (getD w (name₀ + 3) 0) (λ e. c .before .if1 .taken (c .before .before .kind .ensures
+    is-no (c .present .ensures) (λ x. head-none _ _ (ready-next _ _ (pre₀ .1) (other _ _ _ (pre₀ .3) refl)) (heading w at₀ name₀ x) (λ e. c .before .if1 .taken (c .before .before .kind .ensures
     ∙ e)))
 
 -- src/items.rt:68:17
@@ -66,8 +67,8 @@ returns-2 c = let w = c .before .before .before .before .before .before .before 
     let name₀ = c .before .before .before .before .before .before .before .before .before .before .args .name in
     let pre₀ = c .before .before .before .before .before .before .before .before .before .before .pre in
     let k₇ : getD w (name₀ + 6) 0 ≡ 7 = sym (c .before .before .before .before .before .before .before .kind .ensures) ∙ c .before .before .before .before .before .before .if1 .left in
-    is-no (c .enum-told .given .1) (λ p x. head-open _ _ (ready-next _ _ (pre₀ .1) (other _ _ _ (pre₀ .3) refl)) p (getD w (at₀ + 4) 0) x (getD w (name₀ + 2) 0) (getD w (name₀ + 3) 0) k₇
-    ∙ c .before .before .before .before .block .ensures .no _ _ _ _ _ (c .enum-told .given .1) (body p (getD w (at₀ + 4) 0) x (getD w (name₀ + 2) 0) (getD w (name₀ + 3) 0)))
+    is-no (c .enum-told .given .1) (λ x p. head-open _ _ (ready-next _ _ (pre₀ .1) (other _ _ _ (pre₀ .3) refl)) (heading w at₀ name₀ x) k₇ p
+    ∙ c .before .before .before .before .block .ensures .no _ _ _ _ _ (c .enum-told .given .1) (body (heading w at₀ name₀ x)) p)
 
 -- src/items.rt:78:9
 text-start-requires : tie.Need-text-start-requires
@@ -107,14 +108,14 @@ returns-3 c = let w = c .before .before .before .before .before .before .before 
     let k₇ : getD w (name₀ + 6) 0 ≡ 7 = sym (c .before .before .before .before .before .before .before .before .before .before .before .before .before .before .before .before .kind .ensures) ∙ c .before .before .before .before .before .before .before .before .before .before .before .before .before .before .before .if1 .left in
     is-at refl (record {
       v = B .v;
-      e = B .t .to;
+      e = B .e;
       ready = B .ready;
       on = let q = B .on in omega arith;
       few = B .few;
       rows = let h = B .rows in let l = B .last in cc;
       count = B .count;
-      means = λ p x. head-open _ _ (ready-next _ _ (pre₀ .1) (other _ _ _ (pre₀ .3) refl)) p (getD w (at₀ + 4) 0) x (getD w (name₀ + 2) 0) (getD w (name₀ + 3) 0) k₇
-          ∙ B .means (body p (getD w (at₀ + 4) 0) x (getD w (name₀ + 2) 0) (getD w (name₀ + 3) 0));
+      means = λ x p. head-open _ _ (ready-next _ _ (pre₀ .1) (other _ _ _ (pre₀ .3) refl)) (heading w at₀ name₀ x) k₇ p
+          ∙ B .means (body (heading w at₀ name₀ x)) p;
     })
 
 pub function-spec : {M : Type 1} → statement M

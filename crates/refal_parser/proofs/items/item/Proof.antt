@@ -56,9 +56,9 @@ returns-2 c = let w = c .before .before .before .before .before .before .before 
             few = F .few;
             rows = let h = F .rows in let k = F .count in cc;
             count = let k = F .count in omega arith;
-            means = λ p. items-name _ _ (pre₀ .0) p k₃ ∙ F .means p false;
+            means = λ p. items-name _ _ (pre₀ .0) k₃ p ∙ F .means false p;
           };
-      no = λ a b k d e q. λ p. items-name _ _ (pre₀ .0) p k₃ ∙ c .before .before .function .ensures .no a b k d e q p false;
+      no = λ a b k d e q. λ p. items-name _ _ (pre₀ .0) k₃ p ∙ c .before .before .function .ensures .no a b k d e q false p;
     }
 
 -- src/items.rt:100:9
@@ -69,7 +69,7 @@ taken-requires c κs = let pre₀ = c .before .before .before .before .before .b
 -- src/items.rt:100:9
 returns-3 : tie.Need-returns-3
 returns-3 c = let pre₀ = c .before .before .before .before .before .before .before .pre in
-    is-no (c .taken .ensures) (λ p. items-none _ _ (pre₀ .0) p (pre₀ .2) (pre₀ .3) (λ e. c .before .before .before .if1 .left (c .before .before .before .before .kind .ensures
+    is-no (c .taken .ensures) (items-none _ _ (pre₀ .0) (pre₀ .2) (pre₀ .3) (λ e. c .before .before .before .if1 .left (c .before .before .before .before .kind .ensures
     ∙ e)) (λ e. c .before .if3 .taken (c .before .before .before .before .kind .ensures ∙ e)) (λ e. c .before .before .if2 .left (c .before .before .before .before .kind .ensures ∙ e)))
 
 -- src/items.rt:102:16
@@ -97,9 +97,9 @@ returns-4 c = let w = c .before .before .before .before .before .before .before 
     let at₀ = c .before .before .before .before .before .before .before .before .before .args .at in
     let pre₀ = c .before .before .before .before .before .before .before .before .before .pre in
     let k₁ : getD w at₀ 0 ≡ 1 = sym (c .before .before .before .before .before .before .kind .ensures) ∙ c .before .before .before .if3 .left in
-    is-no (c .taken2 .ensures) (λ p. items-entry _ _ (pre₀ .0) p k₁
-    ∙ entry-none _ _ (ready-next _ _ (pre₀ .0) (other _ _ _ k₁ refl)) p (getD w (at₀ + 4) 0) (λ e. c .before .if4 .taken (c .before .before .kind2 .ensures
-    ∙ e)))
+    is-no (c .taken2 .ensures) (λ p. items-entry _ _ (pre₀ .0) k₁ p
+    ∙ entry-none _ _ (ready-next _ _ (pre₀ .0) (other _ _ _ k₁ refl)) (getD w (at₀ + 4) 0) (λ e. c .before .if4 .taken (c .before .before .kind2 .ensures
+    ∙ e)) p)
 
 -- src/items.rt:106:5
 function-requires-2 : tie.Need-function-requires-2
@@ -131,12 +131,12 @@ returns-5 c = let w = c .before .before .before .before .before .before .before 
             few = F .few;
             rows = let h = F .rows in let k = F .count in cc;
             count = let k = F .count in omega arith;
-            means = λ p. items-entry _ _ (pre₀ .0) p k₁
-                ∙ entry-name _ _ (ready-next _ _ (pre₀ .0) (other _ _ _ k₁ refl)) p (getD w (at₀ + 4) 0) k₃ ∙ F .means p true;
+            means = λ p. items-entry _ _ (pre₀ .0) k₁ p
+                ∙ entry-name _ _ (ready-next _ _ (pre₀ .0) (other _ _ _ k₁ refl)) (getD w (at₀ + 4) 0) k₃ p ∙ F .means true p;
           };
-      no = λ a b k d e q. λ p. items-entry _ _ (pre₀ .0) p k₁
-          ∙ entry-name _ _ (ready-next _ _ (pre₀ .0) (other _ _ _ k₁ refl)) p (getD w (at₀ + 4) 0) k₃
-          ∙ c .before .before .function2 .ensures .no a b k d e q p true;
+      no = λ a b k d e q. λ p. items-entry _ _ (pre₀ .0) k₁ p
+          ∙ entry-name _ _ (ready-next _ _ (pre₀ .0) (other _ _ _ k₁ refl)) (getD w (at₀ + 4) 0) k₃ p
+          ∙ c .before .before .function2 .ensures .no a b k d e q true p;
     }
 
 pub item-spec : {M : Type 1} → statement M

@@ -19,9 +19,9 @@ taken-requires c κs = search needs
 returns : tie.Need-returns
 returns c = let pre₀ = c .before .before .before .before .before .pre in
     is-no (c .taken .ensures) (record {
-      first = λ p a. first-none _ _ (pre₀ .0) p a (λ e. c .before .if1 .taken (c .before .before .kind .ensures
+      first = λ a. first-none _ _ (pre₀ .0) a (λ e. c .before .if1 .taken (c .before .before .kind .ensures
           ∙ e));
-      more = λ p a ns. more-none _ _ (pre₀ .0) p a ns (λ e. c .before .if1 .taken (c .before .before .kind .ensures ∙ e));
+      more = λ a ns. more-none _ _ (pre₀ .0) a ns (λ e. c .before .if1 .taken (c .before .before .kind .ensures ∙ e));
     })
 
 -- src/items.rt:23:16
@@ -59,8 +59,8 @@ returns-2 c = let w = c .before .before .before .before .before .before .before 
       next = refl;
       count = refl;
       rows = cc;
-      first = λ p a. first-name _ _ (pre₀ .0) p a k;
-      more = λ p a ns. more-name _ _ (pre₀ .0) p a ns k;
+      first = λ a. first-name _ _ (pre₀ .0) a k;
+      more = λ a ns. more-name _ _ (pre₀ .0) a ns k;
     })
 
 pub name-spec : {M : Type 1} → statement M

@@ -55,7 +55,7 @@ loop-again c = let w = c .before .before .before .before .before .before .before
       same = I .same;
       rows = I .rows;
       count = I .count;
-      means = I .means ∙ items-pass _ _ (I .ready) (I .t) k₁₆;
+      means = I .means ∙ items-pass _ _ (I .ready) k₁₆ (I .t);
     }
 
 -- src/items.rt:120:17
@@ -108,7 +108,7 @@ returns-2 c = let I = c .before .before .loop .inv in
       few = let R = I .ready in let v = I .few in omega arith;
       rows = I .rows;
       count = I .count;
-      means = I .means ∙ items-eof _ _ (I .ready) (I .t) (sym (c .before .kind .ensures) ∙ c .if1 .left);
+      means = I .means ∙ items-eof _ _ (I .ready) (sym (c .before .kind .ensures) ∙ c .if1 .left) (I .t);
     })
 
 pub program-spec : {M : Type 1} → statement M

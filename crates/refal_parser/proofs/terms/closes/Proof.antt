@@ -27,7 +27,7 @@ returns c = let w = c .before .before .before .args .tokens .now in
       next = refl;
       rows = refl;
       last = end-before w at₀;
-      means = λ st. closes-here w at₀ (c .before .before .before .args .want) st k;
+      means = λ st p. closes-here w at₀ (c .before .before .before .args .want) st p k;
     })
 
 -- src/terms.rt:58:9
@@ -38,7 +38,7 @@ present-requires c κs = search needs
 returns-2 : tie.Need-returns-2
 returns-2 c = let w = c .before .before .before .before .before .args .tokens .now in
     let at₀ = c .before .before .before .before .before .args .at in
-    is-no (c .present .ensures) (λ st. closes-eof w at₀ (c .before .before .before .before .before .args .want) st (λ e. c .before .before .if1 .left (c .before .before .before .kind .ensures
+    is-no (c .present .ensures) (λ st p. closes-eof w at₀ (c .before .before .before .before .before .args .want) st p (λ e. c .before .before .if1 .left (c .before .before .before .kind .ensures
     ∙ e)) (sym (c .before .before .before .kind .ensures) ∙ c .before .if2 .taken))
 
 -- src/terms.rt:60:5
@@ -49,7 +49,7 @@ taken-requires c κs = search needs
 returns-3 : tie.Need-returns-3
 returns-3 c = let w = c .before .before .before .before .before .args .tokens .now in
     let at₀ = c .before .before .before .before .before .args .at in
-    is-no (c .taken .ensures) (λ st. closes-none w at₀ (c .before .before .before .before .before .args .want) st (λ e. c .before .before .if1 .left (c .before .before .before .kind .ensures
+    is-no (c .taken .ensures) (λ st p. closes-none w at₀ (c .before .before .before .before .before .args .want) st p (λ e. c .before .before .if1 .left (c .before .before .before .kind .ensures
     ∙ e)) (λ e. c .before .if2 .left (c .before .before .before .kind .ensures ∙ e)))
 
 pub closes-spec : {M : Type 1} → statement M

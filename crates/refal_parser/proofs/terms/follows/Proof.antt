@@ -18,7 +18,7 @@ returns c = let pre₀ = c .before .before .before .pre in
       stays = refl;
       rows = refl;
       joint = λ n. absurd (n k);
-      means = λ d p s st f cs. joint-comma _ _ pre₀ d p s st f cs k;
+      means = λ d b r. joint-comma _ _ pre₀ d b r k;
     })
 
 -- src/terms.rt:196:9
@@ -30,7 +30,7 @@ returns-2 c = let pre₀ = c .before .before .before .before .pre in
       stays = refl;
       rows = refl;
       joint = λ n. k;
-      means = λ d p s st f cs. joint-equals _ _ pre₀ d p s st f cs k;
+      means = λ d b r. joint-equals _ _ pre₀ d b r k;
     })
 
 -- src/terms.rt:199:9
@@ -40,7 +40,7 @@ present-requires c κs = search needs
 -- src/terms.rt:199:9
 returns-3 : tie.Need-returns-3
 returns-3 c = let pre₀ = c .before .before .before .before .before .before .pre in
-    is-no (c .present .ensures) (λ d p s st f cs. joint-eof _ _ pre₀ d p s st f cs (sym (c .before .before .before .before .kind .ensures) ∙ c .before .if3 .taken))
+    is-no (c .present .ensures) (λ d b r. joint-eof _ _ pre₀ d b r (sym (c .before .before .before .before .kind .ensures) ∙ c .before .if3 .taken))
 
 -- src/terms.rt:201:5
 taken-requires : tie.Need-taken-requires
@@ -49,7 +49,7 @@ taken-requires c κs = search needs
 -- src/terms.rt:187:1
 returns-4 : tie.Need-returns-4
 returns-4 c = let pre₀ = c .before .before .before .before .before .before .pre in
-    is-no (c .taken .ensures) (λ d p s st f cs. joint-none _ _ pre₀ d p s st f cs (λ e. c .before .before .before .if1 .left (c .before .before .before .before .kind .ensures
+    is-no (c .taken .ensures) (λ d b r. joint-none _ _ pre₀ d b r (λ e. c .before .before .before .if1 .left (c .before .before .before .before .kind .ensures
     ∙ e)) (λ e. c .before .before .if2 .left (c .before .before .before .before .kind .ensures ∙ e)) (λ e. c .before .if3 .left (c .before .before .before .before .kind .ensures ∙ e)))
 
 pub follows-spec : {M : Type 1} → statement M

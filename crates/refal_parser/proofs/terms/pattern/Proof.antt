@@ -35,7 +35,7 @@ same-length c = search needs
 
 -- src/terms.rt:212:9
 returns : tie.Need-returns
-returns c = is-no (c .enum-told .given .1) (λ q p s st f cs h. c .before .before .before .before .terms .ensures .no _ _ _ _ _ (c .enum-told .given .1) q)
+returns c = is-no (c .enum-told .given .1) (λ q b r h. c .before .before .before .before .terms .ensures .no _ _ _ _ _ (c .enum-told .given .1) q)
 
 -- src/terms.rt:214:5
 put-terms-requires : tie.Need-put-terms-requires
@@ -69,13 +69,13 @@ returns-2 c = let w = c .before .before .before .before .before .before .before 
             count = K .rows ∙ T .count;
             last = T .last ∙ ap (λ (i : ℕ). endBefore w i) (sym (K .stays));
             joint = K .joint;
-            means = λ q p s st f cs h. T .means q ∙ term-step _ _ (T .ready) _ q (T .g) NoTerm (T .none)
-                ∙ ap (λ (y : Step). after w j₁ y) (h (T .g) (tok w j₁) (afterFrom w j₁) (afterTo w j₁))
-                ∙ K .means left₀ p s st (f (T .g)) (cs (T .g));
+            means = λ q b r h p. T .means q p ∙ term-step _ _ (T .ready) _ q (T .g) NoTerm (T .none) p
+                ∙ ap (λ (y : Step). after w j₁ p y) (h (T .g) (tok w j₁) (afterFrom w j₁) (afterTo w j₁))
+                ∙ K .means left₀ b (r (T .g)) p;
           };
-      no = λ a b k d e r. λ q p s st f cs h. T .means q ∙ term-step _ _ (T .ready) _ q (T .g) NoTerm (T .none)
-          ∙ ap (λ (y : Step). after w j₁ y) (h (T .g) (tok w j₁) (afterFrom w j₁) (afterTo w j₁))
-          ∙ c .follows .ensures .no a b k d e r left₀ p s st (f (T .g)) (cs (T .g));
+      no = λ a b k d e u. λ q z r h p. T .means q p ∙ term-step _ _ (T .ready) _ q (T .g) NoTerm (T .none) p
+          ∙ ap (λ (y : Step). after w j₁ p y) (h (T .g) (tok w j₁) (afterFrom w j₁) (afterTo w j₁))
+          ∙ c .follows .ensures .no a b k d e u left₀ z (r (T .g)) p;
     }
 
 pub pattern-spec : {M : Type 1} → statement M

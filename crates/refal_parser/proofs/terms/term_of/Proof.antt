@@ -17,7 +17,7 @@ returns c = ap (λ (x : ℕ). termOf x (c .before .args .detail) (c .before .arg
 
 -- src/terms.rt:27:1
 returns-2 : tie.Need-returns-2
-returns-2 c = ap (λ (x : ℕ). termOf x (c .before .args .detail) (c .before .args .start) (c .before .args .len)) (sym (c .match .keys2))
+returns-2 c = c .variable-of .ensures ∙ ap (λ (x : ℕ). termOf x (c .before .before .args .detail) (c .before .before .args .start) (c .before .before .args .len)) (sym (c .before .match .keys2))
 
 -- src/terms.rt:27:1
 returns-3 : tie.Need-returns-3
@@ -25,7 +25,7 @@ returns-3 c = ap (λ (x : ℕ). termOf x (c .before .args .detail) (c .before .a
 
 -- src/terms.rt:27:1
 returns-4 : tie.Need-returns-4
-returns-4 c = c .variable-of .ensures ∙ ap (λ (x : ℕ). termOf x (c .before .before .args .detail) (c .before .before .args .start) (c .before .before .args .len)) (sym (c .before .match .keys4))
+returns-4 c = ap (λ (x : ℕ). termOf x (c .before .args .detail) (c .before .args .start) (c .before .args .len)) (sym (c .match .keys4))
 
 -- src/terms.rt:27:1
 returns-5 : tie.Need-returns-5
@@ -37,7 +37,7 @@ returns-6 c = ap (λ (x : ℕ). termOf x (c .before .args .detail) (c .before .a
 
 -- src/terms.rt:27:1
 returns-7 : tie.Need-returns-7
-returns-7 c = let n = c .match .rest in term-none _ _ _ _ (n .0 .0 .0 .0 .0 .1) (n .0 .0 .0 .0 .1) (n .0 .0 .0 .1) (n .0 .0 .1) (n .0 .1) (n .1)
+returns-7 c = let n = c .match .rest in term-none _ (c .before .args .detail) (c .before .args .start) (c .before .args .len) (n .0 .0 .0 .0 .0 .1) (n .0 .0 .0 .0 .1) (n .0 .0 .0 .1) (n .0 .0 .1) (n .0 .1) (n .1)
 
 pub term-of-spec : {M : Type 1} → statement M
 term-of-spec =
