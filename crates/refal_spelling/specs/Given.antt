@@ -8,7 +8,8 @@ use mathlib.Core.Path.{_≡_, refl, ap, sym, subst, _∙_}
 use Rattle.refal_ast.specs.Kinds.{tokIdentifier, tokVariable, tokNumber, tokEof}
 use Rattle.refal_ast.specs.Flatten.{flatOf}
 use Rattle.refal_ast.specs.Tokens.{Token}
-use Rattle.refal_lexer.specs.Lex.{Out, fine, lex}
+use Rattle.refal_lexer.specs.Lex.{Out, fine}
+use Rattle.refal_lexer.specs.Carried.{lexBy}
 use Rattle.refal_spelling.specs.Spell.{Spelled, spelled, textAt, text}
 use Rattle.refal_spelling.specs.Spells.{spells, spellsIndex}
 use Rattle.refal_spelling.specs.Good.{Good, AllGood, no-more, and-more}
@@ -21,11 +22,11 @@ use Rattle.refal_spelling.specs.RoundTrip.{text-reads, text-views}
 -- reading gives the word, as the text of a token of that kind, from some source
 pub record Gives (kind : ℕ) (word : List ℕ) : Type 0 where
   pub source : List ℕ
-  pub stops : lex 0 0 true source .stop ≡ fine
+  pub stops : lexBy 0 0 true source .stop ≡ fine
   pub before : List Token
   pub t : Token
   pub behind : List Token
-  pub tokens : lex 0 0 true source .tokens ≡ before ++ (t ∷ behind)
+  pub tokens : lexBy 0 0 true source .tokens ≡ before ++ (t ∷ behind)
   pub is-kind : t .kind ≡ kind
   pub is-text : textAt source (t .start) (t .len) ≡ word
 
