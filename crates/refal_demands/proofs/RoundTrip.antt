@@ -16,7 +16,7 @@ use Rattle.refal_ast.specs.Tree.{Program, sizeP, depthP}
 use Rattle.refal_ast.specs.Flatten.{Flat, mark, flatOf, flatsOf, flattenP, Loose}
 use Rattle.refal_ast.specs.declared.Answer.the-variants.{Done, Refused}
 use Rattle.refal_lexer.specs.Lex.{Out}
-use Rattle.refal_lexer.specs.Stars.{source}
+use Rattle.refal_lexer.specs.Source.{source}
 use Rattle.refal_lexer.specs.StarLaws.{source-is}
 use Rattle.refal_ast.specs.Limits.{mostLevels}
 use Rattle.refal_parser.specs.Machine.{Outcome, tree}

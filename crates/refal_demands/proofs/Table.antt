@@ -7,9 +7,10 @@ use Rattle.refal_ast.specs.Check.{okTokens, wellFormed}
 use Rattle.refal_ast.specs.Tree.{sizeT, sizeC, sizeS, sizeN, sizeP}
 use Rattle.refal_ast.specs.Encode.{encT, encC, encS, encN, encP}
 use Rattle.refal_text.specs.Utf8.{decode, wellTo}
-use Rattle.refal_lexer.specs.Blanks.{closeFrom}
+use Rattle.refal_lexer.specs.Blanks.{closeTo}
 use Rattle.refal_lexer.specs.Literals.{litChar, litFrom, charTokens}
-use Rattle.refal_lexer.specs.Stars.{onlyWhite, lex01}
+use Rattle.refal_lexer.specs.Stars.{onlyWhite}
+use Rattle.refal_lexer.specs.Source.{lex01}
 use Rattle.refal_parser.specs.Machine.{run}
 use Rattle.refal_parser.specs.Parse.{parsed}
 use Rattle.refal_ast.specs.Flatten.{flattenT, flattenC, flattenS, flattenP}
@@ -24,7 +25,7 @@ use Rattle.refal_spelling.specs.Spellings.{rowSpelled, nodesSpelled, allSpelled
 use Rattle.refal_writer.specs.Write.{written, writeAnswer, writeBytes}
 
 pub table-holds : AllHold table
-unfolding table tokensOf okTokens wellFormed sizeT sizeC sizeS sizeN sizeP encT encC encS encN encP run parsed decode wellTo closeFrom litChar litFrom
+unfolding table tokensOf okTokens wellFormed sizeT sizeC sizeS sizeN sizeP encT encC encS encN encP run parsed decode wellTo closeTo litChar litFrom
     charTokens lex01 onlyWhite flattenT flattenC flattenS flattenP sizeG joinG cut nodesOf forestN forestOf okG getT getS getSentence getTail getBlock getCondition getRight getN
     getNs getP treeOf lawful body spelling text spells rowSpelled nodesSpelled allSpelled written writeAnswer writeBytes digits rowLines
 table-holds = refl

@@ -7,7 +7,7 @@ use lib.ListN.{length, take}
 use Rattle.refal_ast.specs.Nodes.{nodeWidth}
 use Rattle.refal_ast.specs.Flatten.{flattenP}
 use Rattle.refal_ast.specs.declared.Answer.the-variants.{Done}
-use Rattle.refal_lexer.specs.Stars.{source}
+use Rattle.refal_lexer.specs.Source.{source}
 use Rattle.refal_lexer.specs.Read.{readAnswer, readRows}
 use Rattle.refal_parser.specs.Parse.{parseAnswer}
 use Rattle.refal_spelling.specs.Spell.{Spelled, views}

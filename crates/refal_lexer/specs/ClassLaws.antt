@@ -1,17 +1,18 @@
 -- Laws of classes: what a class says of its byte, and the tests that the table answers.
-use Prim.Native.Nat.{ℕ, zero, suc, _<_, _≤_}
-use borrow.Author.Tests.{le-leb, lt-leb, ne-eqb}
+use Prim.Native.Nat.{ℕ, zero, suc, _<_, _≤_, _+_, _-_, _*_, _%_}
+use borrow.Author.Tests.{le-leb, lt-leb, ne-eqb, eqb-true}
 use native.Mathlib.Decide.{decLe}
 use native.Mathlib.Omega.{arith}
-use mathlib.Core.List.{List}
+use mathlib.Core.List.{List, _∷_, _++_}
 use mathlib.Core.Bool.{Bool, true, false, not, _&&_, _||_, true≢false}
 use mathlib.Core.Path.{_≡_, refl, _∙_, sym, subst}
 use lib.ListN.{length, getD}
 use lib.Dec.{T, leb, eqb}
-use Rattle.refal_rows.specs.Tests.{each-below, below}
+use Rattle.refal_rows.specs.Tests.{each-below, below, range-lo}
 use Rattle.refal_text.specs.Pick.{split}
 use Rattle.refal_text.specs.White.{whiteSpace}
-use Rattle.refal_lexer.specs.Classes.{upper, digit, letter, nameByte, blank, variable, single, classOf, cNone}
+use Rattle.refal_lexer.specs.Classes.{upper, digit, letter, nameByte, blank, variable, single, classOf, cNone, cQuote}
+use Rattle.refal_lexer.specs.Tokens.{one}
 
 -- ---- what a class says of the byte
 pub data ClassIs (b : ℕ) : ℕ → Type 0 where
@@ -131,3 +132,23 @@ blank-class b h =
 pub record Table (t : List ℕ) : Type 0 where
   pub long : length t ≡ 256
   pub rule : (b : ℕ) → b < 256 → getD t b 0 ≡ classOf b
+
+-- the class of quotes
+pub quote-class : (b : ℕ) → eqb (classOf b) cQuote ≡ true → eqb b 39 || eqb b 34 ≡ true
+quote-class b t = go (classOf b) (class-view b) (eqb-true (classOf b) 3 t)
+  where
+    go : (k : ℕ) → ClassIs b k → k ≡ 3 → eqb b 39 || eqb b 34 ≡ true
+    go k (is-quote h) e = h
+    go k (is-wide t) e = absurd (omega arith)
+    go k (is-white n t) e = absurd (omega arith)
+    go k (is-star t) e = absurd (omega arith)
+    go k (is-slash t) e = absurd (omega arith)
+    go k (is-dollar t) e = absurd (omega arith)
+    go k (is-plus t) e = absurd (omega arith)
+    go k (is-minus t) e = absurd (omega arith)
+    go k (is-upper t) e = absurd (omega arith)
+    go k (is-digit t) e = absurd (omega arith)
+    go k (is-variable t) e = absurd (omega arith)
+    go k (is-other t) e = absurd (omega arith)
+    go k (is-single j t f) e = let m = range-lo 7 k 16 t in absurd (omega arith)
+    go k is-none e = absurd (omega arith)

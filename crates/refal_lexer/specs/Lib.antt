@@ -1,17 +1,20 @@
--- Definitions: Classes, Blanks, Words, Numbers, Literals, Scans, Lex, Stars, Read. The bounds of a scan: Within. Rows put one by one: Puts.
--- Laws: ClassLaws, BlankLaws, WordLaws, NumberLaws, LiteralLaws, ScanLaws, ShapeLaws, TokenLaws, PlaceLaws, LexLaws, ReadLaws.
--- That spans stand on character boundaries: Boundaries, BoundaryLaws, EndLaws, ReadBoundaries.
--- That the flag which reading carries along is 01's rule for stars: LineLaws, StarLaws. Telling cases of that rule: StarCases.
+-- Definitions: Classes, Stars, Blanks, Words, Numbers, Literals, Tokens, Lex, Source, Read.
+-- The form that the code follows, with a flag carried along, and what its functions answer: Carried, Steps, Puts.
+-- Laws of each scan: ClassLaws, BlankLaws, WordLaws, NumberLaws, LiteralLaws, ScanLaws, PlaceLaws. Laws of reading: TurnCases, LexLaws, TurnLaws, ReadLaws.
+-- That the flag is 01's rule for stars: LineLaws, StarLaws. Telling cases of that rule: StarCases.
+-- What tokens are: ShapeLaws, TokenLaws. Where they stand: OrderLaws; on character boundaries: Boundaries, BoundaryLaws, EndLaws, ReadBoundaries.
 pub mod Classes
+pub mod Stars
 pub mod Blanks
 pub mod Words
 pub mod Numbers
 pub mod Literals
-pub mod Scans
+pub mod Tokens
 pub mod Lex
-pub mod Stars
+pub mod Source
 pub mod Read
-pub mod Within
+pub mod Carried
+pub mod Steps
 pub mod Puts
 pub mod ClassLaws
 pub mod BlankLaws
@@ -19,15 +22,18 @@ pub mod WordLaws
 pub mod NumberLaws
 pub mod LiteralLaws
 pub mod ScanLaws
+pub mod PlaceLaws
+pub mod TurnCases
+pub mod LexLaws
+pub mod TurnLaws
+pub mod ReadLaws
+pub mod LineLaws
+pub mod BoundaryLaws
+pub mod Boundaries
 pub mod ShapeLaws
 pub mod TokenLaws
-pub mod PlaceLaws
-pub mod LexLaws
-pub mod ReadLaws
-pub mod Boundaries
-pub mod BoundaryLaws
 pub mod EndLaws
-pub mod ReadBoundaries
-pub mod LineLaws
 pub mod StarLaws
 pub mod StarCases
+pub mod OrderLaws
+pub mod ReadBoundaries

@@ -1,13 +1,12 @@
 -- Laws of `lineStart`: what white space, and a byte that is none, make of it.
 use Prim.Native.Nat.{ℕ, zero, suc, _+_, _<_, _≤_}
-use native.Mathlib.Nat.{add-zero}
 use native.Mathlib.Omega.{arith}
 use native.Mathlib.Decide.{decLe}
-use borrow.Author.Tests.{eq-eqb, ne-eqb, lt-leb, lt-ltb, le-ltb, ltb-true, eqb-true}
-use mathlib.Core.Bool.{Bool, true, false, not, _&&_, _||_, true≢false, and-true}
-use mathlib.Core.List.{List, [], _∷_, _++_, append-nil}
-use mathlib.Core.Path.{_≡_, refl, ap, ap₂, sym, subst, _∙_}
-use lib.Dec.{leb, ltb, eqb}
+use borrow.Author.Tests.{ne-eqb, lt-leb, lt-ltb, ltb-true, eqb-true}
+use mathlib.Core.Bool.{Bool, true, false, not, _&&_, _||_, true≢false}
+use mathlib.Core.List.{List, [], _∷_, _++_}
+use mathlib.Core.Path.{_≡_, refl, ap, ap₂, sym, _∙_}
+use lib.Dec.{ltb, eqb}
 use Rattle.refal_rows.specs.Tests.{range-lo}
 use lib.ListN.{length, take, getD, length-append, List·getD-append}
 use lib.Seq.{getD-append-add, getD-take, length-take-le}
@@ -16,7 +15,8 @@ use Rattle.refal_text.specs.Utf8.{char, ill, cont, leads, well2, well3, well4, 
 use Rattle.refal_text.specs.Utf8Laws.{decode-ascii}
 use Rattle.refal_text.specs.White.{whiteSpace}
 use Rattle.refal_text.specs.declared.Char.{Char}
-use Rattle.refal_lexer.specs.Blanks.{lineAfter, whiteLen}
+use Rattle.refal_lexer.specs.Carried.{lineAfter}
+use Rattle.refal_lexer.specs.Blanks.{whiteLen}
 use Rattle.refal_lexer.specs.BoundaryLaws.{past-in, decode-front, decode-behind}
 use Rattle.refal_lexer.specs.Stars.{newlineIn, behindLast, whiteStep, onlyWhite, lineStart}
 

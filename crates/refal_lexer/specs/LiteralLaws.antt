@@ -1,28 +1,28 @@
 -- Laws of literals: the ways out of their loops.
 use Prim.Native.Nat.{ℕ, zero, suc, _+_, _-_, _<_, _≤_}
-use borrow.Author.Tests.{eq-eqb, ne-eqb, lt-ltb, eqb-true, eqb-false, ltb-true}
+use borrow.Author.Tests.{eq-eqb, ne-eqb, lt-ltb, eqb-true, eqb-false}
 use native.Mathlib.Nat.{add-zero}
 use native.Mathlib.Numerals.{add-one}
 use native.Mathlib.Omega.{arith}
 use mathlib.Core.List.{List, [], _∷_}
-use mathlib.Core.Bool.{Bool, true, false, not, _&&_, true≢false}
+use mathlib.Core.Bool.{Bool, true, false, _&&_}
 use mathlib.Core.Path.{_≡_, refl, ap, _∙_, sym, subst}
 use lib.Dec.{ltb, eqb}
 use lib.ListN.{length, drop, getD, drop-of-length-le, length-drop}
 use lib.Seq.{drop-cons, drop-drop, getD-drop}
-use Rattle.refal_text.specs.Pick.{pick, split}
+use Rattle.refal_text.specs.Pick.{pick}
 use Rattle.refal_text.specs.Utf8.{decode, char, ill}
 use Rattle.refal_text.specs.Utf8Laws.{decode-in, decode-ascii}
 use Rattle.refal_text.specs.declared.Char.{Char}
-use Rattle.refal_lexer.specs.Within.{Within}
-use Rattle.refal_lexer.specs.declared.Scan.{Scan}
-use Rattle.refal_lexer.specs.declared.Scan.the-variants.{Literal, Bad}
-use Rattle.refal_ast.specs.Tokens.{Token as Tok, token}
+use Rattle.refal_ast.specs.Tokens.{Token as Tok, token, words}
 use Rattle.refal_lexer.specs.BlankLaws.{nonzero-in}
-use Rattle.refal_lexer.specs.Literals.{some, litChar, closeScan, litStep, litFrom, charStep, charTokens}
+use Rattle.refal_lexer.specs.Literals.{some, litChar, litStep, litFrom, charStep, charTokens, Lit, closed, newline, unclosed}
 use Rattle.refal_lexer.specs.Puts.{putTokens}
 use Rattle.refal_rows.specs.Rows.{putRow}
-use Rattle.refal_ast.specs.Tokens.{words}
+use Rattle.refal_lexer.specs.Tokens.{found, refused, literalOf}
+use Rattle.refal_lexer.specs.declared.Cursor.{Cursor}
+use Rattle.refal_lexer.specs.declared.Step.the-variants.{On, Stop}
+use Rattle.refal_lexer.specs.Steps.{cursor, stepOf, rowsOf, endOf}
 
 -- ---- the character at a place
 decode-low : (s : List ℕ) (at : ℕ) → at < length s → getD s at 0 < 128 → decode (drop at s) ≡ char (getD s at 0) 1
@@ -64,42 +64,31 @@ module _ (q : ℕ) (s : List ℕ) (i : ℕ) (h : i < length s) where
   pub char-low : (getD s i 0 ≡ q → ⊥) → getD s i 0 < 128 → (w : ℕ) → w ≡ getD s i 0 → (char w 1 ≡ litChar q (drop i s)) × (i + 1 ≤ length s)
   char-low e l w v = let f : char w 1 ≡ decode (drop i s) = ap (λ (x : ℕ). char x 1) v ∙ sym (decode-low s i h l) in char-whole e (char w 1) f (λ z. omega arith)
 
--- ---- runs of plain characters: a byte that is no quote, no newline and below 128 is a character by itself
-abbrev pub plain : ℕ → ℕ → Bool
-plain q b = not (eqb b q) && (not (eqb b 10) && ltb b 128)
-
--- ---- the close
-pub close-in : (at end n k : ℕ) → at < end → end ≤ n → Within at n (closeScan k end)
-close-in at end n k l h =
-    split (Within at n) (ltb 255 k) _ _ (λ _. (l, h)) (λ _.
-    split (Within at n) (eqb k 0) _ _ (λ _. (l, h)) (λ _. (l, h)))
-
--- ---- the literal's loop
-pub lit-skip : (q k at n : ℕ) (s : List ℕ) → k ≤ length s → litFrom q k at n s ≡ litFrom q 0 (at + k) n (drop k s)
+pub lit-skip : (q k i n : ℕ) (s : List ℕ) → k ≤ length s → litFrom q k i n s ≡ litFrom q 0 (i + k) n (drop k s)
 unfolding litFrom
-lit-skip q zero at n s h = rw (add-zero at) refl
-lit-skip q (suc k) at n [] h = absurd (omega arith)
-lit-skip q (suc k) at n (b ∷ s) h = lit-skip q k (suc at) n s (omega arith) ∙ ap (λ (j : ℕ). litFrom q 0 j n (drop k s)) (omega arith)
+lit-skip q zero i n s h = rw (add-zero i) refl
+lit-skip q (suc k) i n [] h = absurd (omega arith)
+lit-skip q (suc k) i n (b ∷ s) h = lit-skip q k (suc i) n s (omega arith) ∙ ap (λ (j : ℕ). litFrom q 0 j n (drop k s)) (omega arith)
 
-pub lit-end : (q : ℕ) (s : List ℕ) (i n : ℕ) → length s ≤ i → Bad 23 i ≡ litFrom q 0 i n (drop i s)
+pub lit-end : (q : ℕ) (s : List ℕ) (i n : ℕ) → length s ≤ i → unclosed i ≡ litFrom q 0 i n (drop i s)
 unfolding litFrom
 lit-end q s i n h = rw (drop-of-length-le s h)
 
 module _ (q : ℕ) (s : List ℕ) (i n : ℕ) (c : Char) (h : i < length s) (e : c ≡ litChar q (drop i s)) where
-  abbrev Rest : ℕ → Scan
+  abbrev Rest : ℕ → Lit
   Rest k = litFrom q k (suc i) (suc n) (drop (suc i) s)
 
   lit-here : litFrom q 0 i n (drop i s) ≡ litStep (c .len) i n (getD s i 0) Rest
   unfolding litFrom
   lit-here = rw (drop-cons s i 0 h) (ap (λ (x : Char). litStep (x .len) i n (getD s i 0) Rest) (ap (litChar q) (sym (drop-cons s i 0 h)) ∙ sym e))
 
-  pub lit-close : (r : Scan) → c .len ≡ 0 → r ≡ closeScan n (i + 1) → r ≡ litFrom q 0 i n (drop i s)
-  lit-close r z f = f ∙ sym (lit-here ∙ ap (λ (k : ℕ). litStep k i n (getD s i 0) Rest) z)
+  pub lit-close : c .len ≡ 0 → closed n (i + 1) ≡ litFrom q 0 i n (drop i s)
+  lit-close z = sym (lit-here ∙ ap (λ (k : ℕ). litStep k i n (getD s i 0) Rest) z)
 
-  pub lit-newline : (c .len ≡ 0 → ⊥) → getD s i 0 ≡ 10 → Bad 22 (i + 1) ≡ litFrom q 0 i n (drop i s)
+  pub lit-newline : (c .len ≡ 0 → ⊥) → getD s i 0 ≡ 10 → newline (i + 1) ≡ litFrom q 0 i n (drop i s)
   lit-newline z f = sym (lit-here ∙ go (c .len) z)
     where
-      go : (k : ℕ) → (k ≡ 0 → ⊥) → litStep k i n (getD s i 0) Rest ≡ Bad 22 (i + 1)
+      go : (k : ℕ) → (k ≡ 0 → ⊥) → litStep k i n (getD s i 0) Rest ≡ newline (i + 1)
       go zero y = absurd (y refl)
       go (suc k) y = rw (eq-eqb _ _ f)
 
@@ -113,47 +102,103 @@ module _ (q : ℕ) (s : List ℕ) (i n : ℕ) (c : Char) (h : i < length s) (e :
           let g : suc i + k ≡ i + suc k = omega arith in
           rw (ne-eqb _ _ f) (lit-skip q k (suc i) (suc n) (drop (suc i) s) j ∙ rw (g, drop-drop, g, add-one n))
 
--- from `at` to r all are plain: the literal goes on at r, with as many more characters behind
-pub record PlainRun (q : ℕ) (s : List ℕ) (at r : ℕ) : Type 0 where
-  pub on : at ≤ r
-  pub within : r ≤ length s
-  pub same : (n : ℕ) → litFrom q 0 at n (drop at s) ≡ litFrom q 0 r (n + (r - at)) (drop r s)
+-- ---- a closed literal: it has as many rows as the characters counted, fewer than bytes, and lies within
+pub record Closed (i n m end : ℕ) (s : List ℕ) (ts : List Tok) : Type 0 where
+  pub count : n + length ts ≡ m
+  pub few : i + length ts < end
+  pub within : end ≤ i + length s
 
-pub plain-start : (q : ℕ) (s : List ℕ) (at : ℕ) → at ≤ length s → PlainRun q s at at
-plain-start q s at h =
-    let e : (n : ℕ) → n + (at - at) ≡ n = λ n. omega arith in
-    record { on = omega arith; within = h; same = λ n. rw (e n) refl }
+later : (i n m end b : ℕ) (s : List ℕ) (ts : List Tok) → Closed (suc i) n m end s ts → Closed i n m end (b ∷ s) ts
+later i n m end b s ts c =
+    let f = c .few in
+    let w = c .within in
+    record { count = c .count; few = omega arith; within = omega arith }
 
-module _ (q : ℕ) (s : List ℕ) (i : ℕ) (h : i < length s) (p : plain q (getD s i 0) ≡ true) where
-  is-plain : (getD s i 0 ≡ q → ⊥) × (getD s i 0 ≡ 10 → ⊥) × (getD s i 0 < 128)
-  is-plain = go (eqb (getD s i 0) q) (eqb (getD s i 0) 10) (ltb (getD s i 0) 128) refl refl refl p
+pub lit-closed : (q from to skip i n m end : ℕ) (s : List ℕ) → litFrom q skip i n s ≡ closed m end → Closed i n m end s (charTokens q from to skip s)
+unfolding litFrom charTokens
+lit-closed q from to skip i n m end [] e = let z : _≡_ {A = ℕ} 0 1 = cc in absurd (omega arith)
+lit-closed q from to (suc k) i n m end (b ∷ s) e = later i n m end b s (charTokens q from to k s) (lit-closed q from to k (suc i) n m end s e)
+lit-closed q from to zero i n m end (b ∷ s) e = go (litChar q (b ∷ s) .len) (λ k. lit-closed q from to k (suc i) (suc n) m end s) e
+  where
+    To : ℕ → List Tok
+    To k = charTokens q from to k s
+
+    on : ℕ → Lit
+    on k = litFrom q k (suc i) (suc n) s
+
+    onward : (t : Bool) (x : Lit) → pick t (newline (i + 1)) x ≡ closed m end → x ≡ closed m end
+    onward true x f = let z : _≡_ {A = ℕ} 0 1 = cc in absurd (omega arith)
+    onward false x f = f
+
+    go : (k : ℕ) → ((j : ℕ) → on j ≡ closed m end → Closed (suc i) (suc n) m end s (To j)) → litStep k i n b on ≡ closed m end
+        → Closed i n m end (b ∷ s) (charStep k (token 6 (litChar q (b ∷ s) .code) 0 0 from to) To)
+    go zero ih f =
+        let x : n ≡ m = cc in
+        let y : i + 1 ≡ end = cc in
+        record { count = omega arith; few = omega arith; within = omega arith }
+    go (suc k) ih f =
+        let c = ih k (onward (eqb b 10) (on k) f) in
+        let x = c .count in
+        let y = c .few in
+        let w = c .within in
+        record { count = omega arith; few = omega arith; within = omega arith }
+
+-- ---- the code's ways out of a literal, whose quote q stands first in s
+module _ (at row q : ℕ) (s : List ℕ) where
+  abbrev L : Lit
+  L = litFrom q 0 1 0 (drop 1 s)
+
+  -- what it answers: as many rows as characters
+  pub lit-answer : (l : Lit) → L ≡ l → endOf at row l ≡ stepOf (literalOf at q (drop 1 s) l) row
+  lit-answer (newline len) e = refl
+  lit-answer (unclosed len) e = refl
+  lit-answer (closed n len) e = go (ltb 255 n) (eqb n 0)
     where
-      go : (t u v : Bool) → eqb (getD s i 0) q ≡ t → eqb (getD s i 0) 10 ≡ u → ltb (getD s i 0) 128 ≡ v → not t && (not u && v) ≡ true
-          → (getD s i 0 ≡ q → ⊥) × (getD s i 0 ≡ 10 → ⊥) × (getD s i 0 < 128)
-      go false false true a b c e = (eqb-false _ _ a, eqb-false _ _ b, ltb-true _ _ c)
-      go false false false a b c e = absurd (true≢false (sym e))
-      go false true v a b c e = absurd (true≢false (sym e))
-      go true u v a b c e = absurd (true≢false (sym e))
+      go : (t u : Bool) → pick t (Stop 20 at (at + len)) (pick u (Stop 21 at (at + len)) (On (cursor (at + len) (row + n) false)))
+          ≡ stepOf (pick t (refused 20 at (at + len)) (pick u (refused 21 at (at + len)) (found (charTokens q at (at + len) 0 (drop 1 s)) (at + len)))) row
+      go true u = refl
+      go false true = refl
+      go false false = let c = lit-closed q at (at + len) 0 1 0 n len (drop 1 s) e .count in let z : length (charTokens q at (at + len) 0 (drop 1 s)) ≡ n = omega arith in rw z refl
 
-  plain-char : (w : ℕ) → w ≡ getD s i 0 → char w 1 ≡ litChar q (drop i s)
-  plain-char w e = char-low q s i h (is-plain .0) (is-plain .2) w e .0
+  -- a refusal leaves the words
+  pub lit-stop : (l : Lit) (rows : List ℕ) (number start end : ℕ) → endOf at row l ≡ Stop number start end → rows ≡ rowsOf (literalOf at q (drop 1 s) l) rows row
+  lit-stop (newline len) rows number start end e = refl
+  lit-stop (unclosed len) rows number start end e = refl
+  lit-stop (closed n len) rows number start end e = go (ltb 255 n) (eqb n 0) e
+    where
+      go : (t u : Bool) → pick t (Stop 20 at (at + len)) (pick u (Stop 21 at (at + len)) (On (cursor (at + len) (row + n) false))) ≡ Stop number start end
+          → rows ≡ rowsOf (pick t (refused 20 at (at + len)) (pick u (refused 21 at (at + len)) (found (charTokens q at (at + len) 0 (drop 1 s)) (at + len)))) rows row
+      go true u f = refl
+      go false true f = refl
+      go false false f = let z : _≡_ {A = ℕ} 0 1 = cc in absurd (omega arith)
 
-  pub plain-step : (at : ℕ) → PlainRun q s at i → PlainRun q s at (i + 1)
-  plain-step at r =
-      let o : at ≤ i = r .on in
-      let e : (n : ℕ) → n + (i - at) + 1 ≡ n + (i + 1 - at) = λ n. omega arith in
-      record {
-        on = omega arith;
-        within = omega arith;
-        same = λ n. r .same n ∙ lit-step q s i (n + (i - at)) (char (getD s i 0) 1) h (plain-char (getD s i 0) refl) (λ z. omega arith) (is-plain .1) (omega arith) ∙ ap (λ (m : ℕ). litFrom q 0 (i + 1) m (drop (i + 1) s)) (e n);
-      }
+  -- what it puts down
+  pub lit-puts : (l : Lit) (rows rows′ : List ℕ) (c : Cursor) → endOf at row l ≡ On c → rows′ ≡ putTokens rows row (charTokens q at (c .at) 0 (drop 1 s)) → rows′ ≡ rowsOf (literalOf at q (drop 1 s) l) rows row
+  lit-puts (newline len) rows rows′ c e f = let z : _≡_ {A = ℕ} 0 1 = cc in absurd (omega arith)
+  lit-puts (unclosed len) rows rows′ c e f = let z : _≡_ {A = ℕ} 0 1 = cc in absurd (omega arith)
+  lit-puts (closed n len) rows rows′ c e f = go (ltb 255 n) (eqb n 0) e
+    where
+      go : (t u : Bool) → pick t (Stop 20 at (at + len)) (pick u (Stop 21 at (at + len)) (On (cursor (at + len) (row + n) false))) ≡ On c
+          → rows′ ≡ rowsOf (pick t (refused 20 at (at + len)) (pick u (refused 21 at (at + len)) (found (charTokens q at (at + len) 0 (drop 1 s)) (at + len)))) rows row
+      go true u g = let z : _≡_ {A = ℕ} 0 1 = cc in absurd (omega arith)
+      go false true g = let z : _≡_ {A = ℕ} 0 1 = cc in absurd (omega arith)
+      go false false g = let x : cursor (at + len) (row + n) false ≡ c = cc in f ∙ ap (λ (y : Cursor). putTokens rows row (charTokens q at (y .at) 0 (drop 1 s))) (sym x)
 
--- a run at the literal's start, and one after a character
-pub plain-first : (q : ℕ) (s : List ℕ) (at i : ℕ) → PlainRun q s at i → litFrom q 0 at 0 (drop at s) ≡ litFrom q 0 i (i - at) (drop i s)
-plain-first q s at i r = let e : 0 + (i - at) ≡ i - at = omega arith in r .same 0 ∙ ap (λ (m : ℕ). litFrom q 0 i m (drop i s)) e
-
-pub plain-more : (q : ℕ) (s : List ℕ) (i n next j : ℕ) → litFrom q 0 i n (drop i s) ≡ litFrom q 0 next (n + 1) (drop next s) → PlainRun q s next j → litFrom q 0 i n (drop i s) ≡ litFrom q 0 j (n + 1 + (j - next)) (drop j s)
-plain-more q s i n next j e r = e ∙ r .same (n + 1)
+  -- where it goes on: within the source
+  pub lit-in : (l : Lit) (c : Cursor) → L ≡ l → endOf at row l ≡ On c → 0 < length s → c .at ≤ at + length s
+  lit-in (newline len) c e f h = let z : _≡_ {A = ℕ} 0 1 = cc in absurd (omega arith)
+  lit-in (unclosed len) c e f h = let z : _≡_ {A = ℕ} 0 1 = cc in absurd (omega arith)
+  lit-in (closed n len) c e f h = go (ltb 255 n) (eqb n 0) f
+    where
+      go : (t u : Bool) → pick t (Stop 20 at (at + len)) (pick u (Stop 21 at (at + len)) (On (cursor (at + len) (row + n) false))) ≡ On c → c .at ≤ at + length s
+      go true u g = let z : _≡_ {A = ℕ} 0 1 = cc in absurd (omega arith)
+      go false true g = let z : _≡_ {A = ℕ} 0 1 = cc in absurd (omega arith)
+      go false false g =
+          let x : cursor (at + len) (row + n) false ≡ c = cc in
+          let y : at + len ≡ c .at = ap (λ (k : Cursor). k .at) x in
+          let w = lit-closed q at (at + len) 0 1 0 n len (drop 1 s) e .within in
+          let d = length-drop 1 s in
+          omega arith
 
 -- ---- its tokens' loop
 pub chars-skip : (q from to k : ℕ) (s : List ℕ) → k ≤ length s → charTokens q from to k s ≡ charTokens q from to 0 (drop k s)
@@ -187,37 +232,6 @@ module _ (q from to : ℕ) (s : List ℕ) (i : ℕ) (c : Char) (h : i < length s
           let g : suc i + k ≡ i + suc k = omega arith in
           ap (λ (l : List Tok). token 6 (c .code) 0 0 from to ∷ l) (chars-skip q from to k (drop (suc i) s) j ∙ rw (drop-drop, g))
 
-pub plain-token : (q from to : ℕ) (s : List ℕ) (i : ℕ) → i < length s → plain q (getD s i 0) ≡ true → (w : ℕ) → w ≡ getD s i 0
-    → charTokens q from to 0 (drop i s) ≡ token 6 w 0 0 from to ∷ charTokens q from to 0 (drop (i + 1) s)
-plain-token q from to s i h p w e = chars-step q from to s i (char w 1) h (plain-char q s i h p w e) (λ z. omega arith) (omega arith)
-
--- a literal has fewer characters than bytes
-pub chars-few : (q from to skip at n end : ℕ) (s : List ℕ) → litFrom q skip at n s ≡ Literal end → at + length (charTokens q from to skip s) < end
-unfolding litFrom charTokens
-chars-few q from to skip at n end [] e = let z : _≡_ {A = ℕ} 0 1 = cc in absurd (omega arith)
-chars-few q from to (suc k) at n end (b ∷ s) e = let ih = chars-few q from to k (suc at) n end s e in omega arith
-chars-few q from to zero at n end (b ∷ s) e = go (litChar q (b ∷ s) .len) (λ k. chars-few q from to k (suc at) (suc n) end s) e
-  where
-    To : ℕ → List Tok
-    To k = charTokens q from to k s
-
-    On : ℕ → Scan
-    On k = litFrom q k (suc at) (suc n) s
-
-    closed : (t u : Bool) → pick t (Bad 20 (at + 1)) (pick u (Bad 21 (at + 1)) (Literal (at + 1))) ≡ Literal end → at + 1 ≡ end
-    closed true u f = let z : _≡_ {A = ℕ} 0 1 = cc in absurd (omega arith)
-    closed false true f = let z : _≡_ {A = ℕ} 0 1 = cc in absurd (omega arith)
-    closed false false f = cc
-
-    onward : (t : Bool) (x : Scan) → pick t (Bad 22 (at + 1)) x ≡ Literal end → x ≡ Literal end
-    onward true x f = let z : _≡_ {A = ℕ} 0 1 = cc in absurd (omega arith)
-    onward false x f = f
-
-    go : (k : ℕ) → ((j : ℕ) → On j ≡ Literal end → suc at + length (To j) < end) → litStep k at n b On ≡ Literal end
-        → at + length (charStep k (token 6 (litChar q (b ∷ s) .code) 0 0 from to) To) < end
-    go zero ih f = let g = closed (ltb 255 n) (eqb n 0) f in omega arith
-    go (suc k) ih f = let g = ih k (onward (eqb b 10) (On k) f) in omega arith
-
 -- ---- a loop that puts a literal's rows: what is still to come
 pub record Fills (ts ts₀ : List Tok) (m m₀ : List ℕ) (n n₀ : ℕ) : Type 0 where
   pub count : n + length ts ≡ n₀ + length ts₀
@@ -230,12 +244,6 @@ pub fills-row : (ts us ts₀ : List Tok) (t : Tok) (m m′ m₀ : List ℕ) (n n
 fills-row ts us ts₀ t m m′ m₀ n n₀ e f h =
     let g : Fills (t ∷ us) ts₀ m m₀ n n₀ = subst (λ (x : List Tok). Fills x ts₀ m m₀ n n₀) e h in
     record { count = omega (arith, g .count); words = rw (f, add-one) (g .words) }
-
-pub fills-then : (us ts ts₀ : List Tok) (m′ m m₀ : List ℕ) (k n n₀ : ℕ) → Fills us ts m′ m k n → Fills ts ts₀ m m₀ n n₀ → Fills us ts₀ m′ m₀ k n₀
-fills-then us ts ts₀ m′ m m₀ k n n₀ g h = record { count = g .count ∙ h .count; words = g .words ∙ h .words }
-
-pub fills-at : (us ts : List Tok) (m m₀ : List ℕ) (k j n : ℕ) → k ≡ j → Fills us ts m m₀ k n → Fills us ts m m₀ j n
-fills-at us ts m m₀ k j n e h = subst (λ (x : ℕ). Fills us ts m m₀ x n) e h
 
 pub fills-end : (ts ts₀ : List Tok) (m m₀ : List ℕ) (n n₀ : ℕ) → ts ≡ [] → Fills ts ts₀ m m₀ n n₀ → (n ≡ n₀ + length ts₀) × (m ≡ putTokens m₀ n₀ ts₀)
 fills-end ts ts₀ m m₀ n n₀ e h =

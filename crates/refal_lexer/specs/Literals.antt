@@ -1,15 +1,13 @@
 -- Literals in quotes q: the quote doubled is one quote character; the quote alone closes.
 use Prim.Native.Nat.{ℕ, zero, suc, _+_}
 use mathlib.Core.List.{List, [], _∷_}
-use lib.Dec.{ltb, eqb}
+use lib.Dec.{eqb}
 use lib.ListN.{getD}
 use Rattle.refal_text.specs.Pick.{pick}
 use Rattle.refal_text.specs.Utf8.{decode, char, ill}
 use Rattle.refal_text.specs.declared.Char.{Char}
 use Rattle.refal_ast.specs.Kinds.{tokChar}
 use Rattle.refal_ast.specs.Tokens.{Token, token}
-use Rattle.refal_lexer.specs.declared.Scan.{Scan}
-use Rattle.refal_lexer.specs.declared.Scan.the-variants.{Literal, Bad}
 
 -- a byte that is no character counts as one
 abbrev pub some : Char → Char
@@ -19,20 +17,22 @@ some c = pick (eqb (c .len) 0) (char 0 1) c
 unfoldable pub litChar : ℕ → List ℕ → Char
 litChar q s = pick (eqb (getD s 0 0) q) (pick (eqb (getD s 1 0) q) (char q 2) ill) (some (decode s))
 
--- the close, after n characters
-abbrev pub closeScan : ℕ → ℕ → Scan
-closeScan n end = pick (ltb 255 n) (Bad 20 end) (pick (eqb n 0) (Bad 21 end) (Literal end))
+-- how a literal ends, with the number of its bytes: closed, of n characters; at a newline; or not at all
+pub data Lit : Type 0 where
+  closed : ℕ → ℕ → Lit
+  newline : ℕ → Lit
+  unclosed : ℕ → Lit
 
--- what the byte b at `at` does, where the character there has k bytes and n are behind: `go` goes on, k bytes past b
-abbrev pub litStep : ℕ → ℕ → ℕ → ℕ → (ℕ → Scan) → Scan
-litStep zero at n b go = closeScan n (at + 1)
-litStep (suc k) at n b go = pick (eqb b 10) (Bad 22 (at + 1)) (go k)
+-- what the byte b does, with i bytes and n characters behind, where the character there has k bytes: `go` goes on, k bytes past b
+abbrev pub litStep : ℕ → ℕ → ℕ → ℕ → (ℕ → Lit) → Lit
+litStep zero i n b go = closed n (i + 1)
+litStep (suc k) i n b go = pick (eqb b 10) (newline (i + 1)) (go k)
 
--- the literal of which n characters are behind, at `at`, after `skip` more bytes
-unfoldable pub litFrom : ℕ → ℕ → ℕ → ℕ → List ℕ → Scan
-litFrom q skip at n [] = Bad 23 at
-litFrom q zero at n (b ∷ s) = litStep (litChar q (b ∷ s) .len) at n b (λ k. litFrom q k (suc at) (suc n) s)
-litFrom q (suc k) at n (b ∷ s) = litFrom q k (suc at) n s
+-- the literal of which i bytes and n characters are behind, after `skip` more bytes
+unfoldable pub litFrom : ℕ → ℕ → ℕ → ℕ → List ℕ → Lit
+litFrom q skip i n [] = unclosed i
+litFrom q zero i n (b ∷ s) = litStep (litChar q (b ∷ s) .len) i n b (λ k. litFrom q k (suc i) (suc n) s)
+litFrom q (suc k) i n (b ∷ s) = litFrom q k (suc i) n s
 
 -- a token for each character up to the close, each with the literal's span, after `skip` more bytes
 abbrev pub charStep : ℕ → Token → (ℕ → List Token) → List Token

@@ -1,22 +1,21 @@
 -- Laws of numbers.
-use Prim.Native.Nat.{ℕ, suc, _+_, _-_, _*_, _<_, _≤_}
+use Prim.Native.Nat.{ℕ, zero, suc, _+_, _-_, _<_, _≤_, _*_}
 use borrow.Author.Tests.{le-leb, lt-leb, eq-eqb, ne-eqb}
 use native.Mathlib.Decide.{decLe}
 use native.Mathlib.Nat.{add-zero, le-refl}
 use native.Mathlib.Numerals.{add-one}
 use native.Mathlib.Omega.{arith}
 use mathlib.Core.List.{List, [], _∷_}
-use mathlib.Core.Bool.{Bool, true, false}
+use mathlib.Core.Bool.{Bool, true, false, _&&_, _||_}
 use mathlib.Core.Path.{_≡_, refl, ap, ap₂, _∙_, sym}
-use lib.Dec.{leb, ltb}
+use lib.Dec.{leb, ltb, eqb}
 use lib.ListN.{length, drop, getD, drop-of-length-le}
-use lib.Seq.{drop-cons, drop-drop}
-use Rattle.refal_text.specs.Pick.{pick, split}
+use lib.Seq.{drop-cons}
+use Rattle.refal_text.specs.Pick.{pick}
 use Rattle.refal_text.specs.Span.{span}
-use Rattle.refal_text.specs.SpanLaws.{span-some}
 use Rattle.refal_lexer.specs.Classes.{digit}
-use Rattle.refal_lexer.specs.Numbers.{value, part, wholeScan, numberOf, numberScan}
-use Rattle.refal_lexer.specs.Within.{Within}
+use Rattle.refal_lexer.specs.Numbers.{value, ends, part, pointAt, exponentAt, wholeScan, numberOf, digitsEnd, numberScan}
+use Rattle.refal_lexer.specs.declared.number.Part.{Part}
 use Rattle.refal_lexer.specs.declared.Scan.{Scan}
 use Rattle.refal_lexer.specs.declared.Scan.the-variants.{Token, Bad}
 
@@ -68,63 +67,50 @@ worth-stop v s i h e = rw (drop-cons s i 0, e)
 pub worth-step : (v : ℕ) (s : List ℕ) (i : ℕ) → i < length s → digit (getD s i 0) ≡ true → worth (digitStep v (getD s i 0)) (drop (i + 1) s) ≡ worth v (drop i s)
 worth-step v s i h e = rw (drop-cons s i 0 h, e, add-one i)
 
--- ---- the part that a mark begins
-pub part-here : (mark : ℕ) (s : List ℕ) (i : ℕ) → i < length s → getD s i 0 ≡ mark → i + part mark (drop i s) ≡ i + 1 + span digit (drop (i + 1) s)
-part-here mark s i h e = rw (drop-cons s i 0 h, eq-eqb _ _ e, add-one i) (omega arith)
+-- ---- the part at i that a mark begins
+eqb-sum : (a n : ℕ) → eqb (a + n) a ≡ eqb n 0
+eqb-sum a zero = eq-eqb (a + 0) a (add-zero a)
+eqb-sum a (suc n) = ne-eqb (a + suc n) a (λ e. omega arith) ∙ sym (ne-eqb (suc n) 0 (λ e. omega arith))
 
-pub part-none : (mark : ℕ) (s : List ℕ) (i : ℕ) → (getD s i 0 ≡ mark → ⊥) → i + part mark (drop i s) ≡ i
+pub part-here : (mark : ℕ) (s : List ℕ) (i end : ℕ) (bare : Bool) → i < length s → getD s i 0 ≡ mark → end ≡ i + 1 + span digit (drop (i + 1) s) → bare ≡ eqb end (i + 1)
+    → ends end bare ≡ part mark i (drop i s)
+part-here mark s i end bare h e f g =
+    let n = span digit (drop (i + 1) s) in
+    let z : bare ≡ eqb (span digit (drop (i + 1) s)) 0 = g ∙ ap (λ (k : ℕ). eqb k (i + 1)) f ∙ eqb-sum (i + 1) (span digit (drop (i + 1) s)) in
+    ap₂ ends f z ∙ sym (rw (drop-cons s i 0 h, eq-eqb _ _ e, ← add-one i) refl)
+
+pub part-none : (mark : ℕ) (s : List ℕ) (i : ℕ) → (getD s i 0 ≡ mark → ⊥) → ends i false ≡ part mark i (drop i s)
 part-none mark s i e = go (decLe (suc i) (length s))
   where
-    go : Dec (suc i ≤ length s) → i + part mark (drop i s) ≡ i
-    go (yes h) = rw (drop-cons s i 0 h, ne-eqb _ _ e) (add-zero i)
-    go (no h) = rw (drop-of-length-le s (let l : length s ≤ i = omega arith in l)) (add-zero i)
+    go : Dec (suc i ≤ length s) → ends i false ≡ part mark i (drop i s)
+    go (yes h) = sym (rw (drop-cons s i 0 h, ne-eqb _ _ e) refl)
+    go (no h) = sym (rw (drop-of-length-le s (let l : length s ≤ i = omega arith in l)) refl)
 
--- ---- a number whose parts' ends the code found: digits to a, with the point's part to p, with E's part to q
-module _ (s : List ℕ) (at from a p : ℕ) (ea : a ≡ from + span digit (drop from s)) (ep : p ≡ a + part 46 (drop a s)) where
-  digits-drop : drop (span digit (drop from s)) (drop from s) ≡ drop a s
-  digits-drop = drop-drop (span digit (drop from s)) from s ∙ ap (λ (j : ℕ). drop j s) (sym ea)
+-- ---- a number whose digits end at n, with the parts p and e behind
+module _ (s : List ℕ) (at from n : ℕ) (p : Part) (en : n ≡ digitsEnd from s) (ep : p ≡ pointAt n s) where
+  point-is : p ≡ pointAt (digitsEnd from s) s
+  point-is = ep ∙ ap (λ (k : ℕ). pointAt k s) en
 
-  point-is : p ≡ from + span digit (drop from s) + part 46 (drop (span digit (drop from s)) (drop from s))
-  point-is = ep ∙ ap₂ (λ (x : ℕ) (l : List ℕ). x + part 46 l) ea (sym digits-drop)
+  number-is : (e : Part) → e ≡ exponentAt (p .end) s → numberOf at from n (value 0 (drop from s)) p e ≡ numberScan at from s
+  number-is e f =
+      let g : e ≡ exponentAt (pointAt (digitsEnd from s) s .end) s = f ∙ ap (λ (x : Part). exponentAt (x .end) s) point-is in
+      ap (λ (x : Part). numberOf at from n (value 0 (drop from s)) p x) g
+      ∙ ap (λ (x : Part). numberOf at from n (value 0 (drop from s)) x (exponentAt (pointAt (digitsEnd from s) s .end) s)) point-is
+      ∙ ap (λ (k : ℕ). numberOf at from k (value 0 (drop from s)) (pointAt (digitsEnd from s) s) (exponentAt (pointAt (digitsEnd from s) s .end) s)) en
 
-  point-drop : drop (span digit (drop from s) + part 46 (drop (span digit (drop from s)) (drop from s))) (drop from s) ≡ drop p s
-  point-drop = drop-drop (span digit (drop from s) + part 46 (drop (span digit (drop from s)) (drop from s))) from s
-      ∙ ap (λ (j : ℕ). drop j s) (let z : from + (span digit (drop from s) + part 46 (drop (span digit (drop from s)) (drop from s))) ≡ p = omega (arith, point-is) in z)
+  pub number-point : p .bare ≡ true → Bad 16 at (at + p .end) ≡ numberScan at from s
+  number-point z = sym (rw z refl) ∙ number-is (exponentAt (p .end) s) refl
 
-  number-is : (q : ℕ) → q ≡ p + part 69 (drop p s) → numberOf at from a (value 0 (drop from s)) p q ≡ numberScan at from (drop from s)
-  number-is q eq =
-      let e₁ : q ≡ from + span digit (drop from s) + part 46 (drop (span digit (drop from s)) (drop from s)) + part 69
-      (drop (span digit (drop from s) + part 46 (drop (span digit (drop from s)) (drop from s))) (drop from s))
-      = eq ∙ ap₂ (λ (x : ℕ) (l : List ℕ). x + part 69 l) point-is (sym point-drop) in
-      ap (λ (x : ℕ). numberOf at from a (value 0 (drop from s)) p x) e₁
-      ∙ ap (λ (x : ℕ). numberOf at from a (value 0 (drop from s)) x
-      (from + span digit (drop from s) + part 46 (drop (span digit (drop from s)) (drop from s)) + part 69
-      (drop (span digit (drop from s) + part 46 (drop (span digit (drop from s)) (drop from s))) (drop from s)))) point-is
-      ∙ ap (λ (x : ℕ). numberOf at from x (value 0 (drop from s)) (from + span digit (drop from s) + part 46 (drop (span digit (drop from s)) (drop from s)))
-      (from + span digit (drop from s) + part 46 (drop (span digit (drop from s)) (drop from s)) + part 69
-      (drop (span digit (drop from s) + part 46 (drop (span digit (drop from s)) (drop from s))) (drop from s)))) ea
+  pub number-e : (e : Part) → p .bare ≡ false → e ≡ exponentAt (p .end) s → e .bare ≡ true → Bad 17 at (at + e .end) ≡ numberScan at from s
+  number-e e z f y = sym (rw (z, y) refl) ∙ number-is e f
 
-  pub number-point : p ≡ a + 1 → Bad 16 p ≡ numberScan at from (drop from s)
-  number-point z = sym (rw (eq-eqb _ _ z) refl) ∙ number-is (p + part 69 (drop p s)) refl
+  pub number-whole : (e : Part) (w : ℕ) (r : Scan) → p .bare ≡ false → e ≡ exponentAt (p .end) s → e .bare ≡ false → e .end ≡ n → w ≡ worth 0 (drop from s) → r ≡ wholeScan at from n w
+      → r ≡ numberScan at from s
+  number-whole e w r z f y x g k =
+      k
+      ∙ ap (λ (t : Bool). pick (ltb 0 from) (Bad 18 at (at + n)) (pick t (Token 5 0 at n at (at + n)) (Bad 19 at (at + n)))) (ap (λ (v : ℕ). leb v 4294967295) g ∙ worth-value 0 (drop from s))
+      ∙ sym (rw (z, y, eq-eqb _ _ x) refl)
+      ∙ number-is e f
 
-  pub number-e : (q : ℕ) → (p ≡ a + 1 → ⊥) → q ≡ p + part 69 (drop p s) → q ≡ p + 1 → Bad 17 q ≡ numberScan at from (drop from s)
-  number-e q n eq z = sym (rw (ne-eqb _ _ n, eq-eqb _ _ z) refl) ∙ number-is q eq
-
-  pub number-whole : (q w : ℕ) (r : Scan) → (p ≡ a + 1 → ⊥) → q ≡ p + part 69 (drop p s) → (q ≡ p + 1 → ⊥) → q ≡ a → w ≡ worth 0 (drop from s) → r ≡ wholeScan at from a w
-      → r ≡ numberScan at from (drop from s)
-  number-whole q w r n eq n′ z f g =
-      g
-      ∙ ap (λ (t : Bool). pick (ltb at from) (Bad 18 a) (pick t (Token 5 0 at (a - at) a) (Bad 19 a))) (ap (λ (x : ℕ). leb x 4294967295) f ∙ worth-value 0 (drop from s))
-      ∙ sym (rw (ne-eqb _ _ n, ne-eqb _ _ n′, eq-eqb _ _ z) refl)
-      ∙ number-is q eq
-
-  pub number-real : (q : ℕ) → (p ≡ a + 1 → ⊥) → q ≡ p + part 69 (drop p s) → (q ≡ p + 1 → ⊥) → (q ≡ a → ⊥) → Token 5 0 at (q - at) q ≡ numberScan at from (drop from s)
-  number-real q n eq n′ z = sym (rw (ne-eqb _ _ n, ne-eqb _ _ n′, ne-eqb _ _ z) refl) ∙ number-is q eq
-
-pub number-past : (s : List ℕ) (from a : ℕ) → from < length s → digit (getD s from 0) ≡ true → a ≡ from + span digit (drop from s) → from < a
-number-past s from a h d e = omega (arith, span-some digit s from h d)
-
-pub whole-in : (at from end w n : ℕ) → at < end → end ≤ n → Within at n (wholeScan at from end w)
-whole-in at from end w n l h =
-    split (Within at n) (ltb at from) _ _ (λ _. (l, h)) (λ _.
-    split (Within at n) (leb w 4294967295) _ _ (λ _. (l, h, omega arith, omega arith)) (λ _. (l, h)))
+  pub number-real : (e : Part) → p .bare ≡ false → e ≡ exponentAt (p .end) s → e .bare ≡ false → (e .end ≡ n → ⊥) → Token 5 0 at (e .end) at (at + e .end) ≡ numberScan at from s
+  number-real e z f y x = sym (rw (z, y, ne-eqb _ _ x) refl) ∙ number-is e f

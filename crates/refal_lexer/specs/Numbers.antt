@@ -1,5 +1,5 @@
--- Numbers: digits, then `.` with digits, then `E` with digits, both optional. `at` is the sign's offset, or the first digit's; `from` the first digit's.
-use Prim.Native.Nat.{ℕ, suc, _+_, _-_, _*_}
+-- Numbers: digits, then `.` with digits, then `E` with digits, both optional. s stands at offset `at`; its digits start at `from`, which is 1 behind a sign and else 0.
+use Prim.Native.Nat.{ℕ, _+_, _-_, _*_}
 use mathlib.Core.List.{List, [], _∷_}
 use lib.Dec.{leb, ltb, eqb}
 use lib.ListN.{drop}
@@ -9,35 +9,49 @@ use Rattle.refal_ast.specs.Kinds.{tokNumber}
 use Rattle.refal_lexer.specs.Classes.{digit}
 use Rattle.refal_lexer.specs.declared.Scan.{Scan}
 use Rattle.refal_lexer.specs.declared.Scan.the-variants.{Token, Bad}
+use mathlib.Core.Bool.{Bool, false}
+use Rattle.refal_lexer.specs.declared.number.Part.{Part}
 
 -- what the digits at the front of s are worth, after digits that are worth v
 abbrev pub value : ℕ → List ℕ → ℕ
 value v [] = v
 value v (b ∷ s) = pick (digit b) (value (v * 10 + (b - 48)) s) v
 
--- how many bytes the part at the front of s has that `mark` begins: 0 where it is not there, 1 where no digit follows the mark
-abbrev pub part : ℕ → List ℕ → ℕ
-part mark [] = 0
-part mark (b ∷ s) = pick (eqb b mark) (suc (span digit s)) 0
+-- where a part ends, and whether no digit stands in it
+abbrev pub ends : ℕ → Bool → Part
+ends end bare = record { end = end; bare = bare }
 
--- digits alone, worth v, to `end`
+-- the part at i, where t stands, that `mark` begins: a mark and n digits; no part ends where it would start
+abbrev pub part : ℕ → ℕ → List ℕ → Part
+part mark i [] = ends i false
+part mark i (b ∷ t) = pick (eqb b mark) (ends (i + 1 + span digit t) (eqb (span digit t) 0)) (ends i false)
+
+abbrev pub pointAt : ℕ → List ℕ → Part
+pointAt i s = part 46 i (drop i s)
+
+abbrev pub exponentAt : ℕ → List ℕ → Part
+exponentAt i s = part 69 i (drop i s)
+
+-- digits alone, worth v, to the n-th byte
 abbrev pub wholeScan : ℕ → ℕ → ℕ → ℕ → Scan
-wholeScan at from end v =
-    pick (ltb at from) (Bad 18 end)
-    (pick (leb v 4294967295) (Token tokNumber 0 at (end - at) end)
-    (Bad 19 end))
+wholeScan at from n v =
+    pick (ltb 0 from) (Bad 18 at (at + n))
+    (pick (leb v 4294967295) (Token tokNumber 0 at n at (at + n))
+    (Bad 19 at (at + n)))
 
--- the digits end at `whole`, worth v; with the point's part they end at p, and with E's part at q
-abbrev pub numberOf : ℕ → ℕ → ℕ → ℕ → ℕ → ℕ → Scan
-numberOf at from whole v p q =
-    pick (eqb p (whole + 1)) (Bad 16 p)
-    (pick (eqb q (p + 1)) (Bad 17 q)
-    (pick (eqb q whole) (wholeScan at from whole v)
-    (Token tokNumber 0 at (q - at) q)))
+-- the digits end at n, worth v; then the point's part, then the exponent
+abbrev pub numberOf : ℕ → ℕ → ℕ → ℕ → Part → Part → Scan
+numberOf at from n v p e =
+    pick (p .bare) (Bad 16 at (at + p .end))
+    (pick (e .bare) (Bad 17 at (at + e .end))
+    (pick (eqb (e .end) n) (wholeScan at from n v)
+    (Token tokNumber 0 at (e .end) at (at + e .end))))
 
--- s stands at `from`
+abbrev pub digitsEnd : ℕ → List ℕ → ℕ
+digitsEnd from s = from + span digit (drop from s)
+
 abbrev pub numberScan : ℕ → ℕ → List ℕ → Scan
 numberScan at from s =
-    numberOf at from (from + span digit s) (value 0 s)
-    (from + span digit s + part 46 (drop (span digit s) s))
-    (from + span digit s + part 46 (drop (span digit s) s) + part 69 (drop (span digit s + part 46 (drop (span digit s) s)) s))
+    numberOf at from (digitsEnd from s) (value 0 (drop from s))
+    (pointAt (digitsEnd from s) s)
+    (exponentAt (pointAt (digitsEnd from s) s .end) s)

@@ -1,226 +1,168 @@
--- Where tokens stand: every scan ends within the bytes, spans are ordered, and a token's text lies within its span.
+-- Where tokens stand: every scan starts at its offset, ends past it and within the bytes, and a token's text lies within its span.
 use Prim.Native.Nat.{ℕ, zero, suc, _+_, _-_, _<_, _≤_}
-use native.Mathlib.Nat.{zero-add}
 use native.Mathlib.Omega.{arith}
 use mathlib.Core.List.{List, [], _∷_, _++_}
-use mathlib.Core.Bool.{Bool, true, false, _&&_, _||_, true≢false}
-use mathlib.Core.Path.{_≡_, subst}
+use mathlib.Core.Bool.{true, false, _&&_, _||_, true≢false}
+use mathlib.Core.Path.{_≡_, subst, refl, ap, sym, _∙_}
 use lib.Dec.{leb, ltb, eqb}
-use lib.ListN.{length, drop, length-drop}
+use lib.ListN.{length, drop, length-drop, getD}
 use Rattle.refal_text.specs.Pick.{split}
 use Rattle.refal_text.specs.Span.{span}
-use Rattle.refal_text.specs.SpanLaws.{span-le}
+use Rattle.refal_text.specs.SpanLaws.{span-le, span-some}
 use Rattle.refal_text.specs.Utf8.{decode}
 use Rattle.refal_text.specs.Utf8Laws.{decode-in}
-use Rattle.refal_text.specs.White.{whiteSpace}
-use Rattle.refal_text.specs.declared.Char.{Char}
-use Rattle.refal_lexer.specs.Classes.{upper, digit, letter, nameByte, notNewline, classOf, cMinus}
+use Rattle.refal_lexer.specs.Classes.{upper, digit, letter, nameByte, classOf, cMinus, cQuote}
 use Rattle.refal_lexer.specs.declared.Scan.{Scan}
-use Rattle.refal_lexer.specs.declared.Scan.the-variants.{Blank, Token, Literal, Bad}
-use Rattle.refal_ast.specs.Tokens.{Token as Tok, token}
-use Rattle.refal_lexer.specs.Blanks.{starScan, closeFrom, slashScan, wideScan}
+use Rattle.refal_lexer.specs.declared.Scan.the-variants.{Token, Bad}
+use Rattle.refal_ast.specs.Tokens.{token}
+use Rattle.refal_lexer.specs.Tokens.{wideScan, signScan, classScan, Found, found, refused, one, literalOf, tokenAt}
 use Rattle.refal_lexer.specs.Words.{nameOf, otherScan, indexOf, variableScan, entryWord, externWord, directiveOf}
-use Rattle.refal_lexer.specs.Numbers.{value, part, numberOf, numberScan}
-use Rattle.refal_lexer.specs.Literals.{litChar, litStep, litFrom, charStep, charTokens}
-use Rattle.refal_lexer.specs.ClassLaws.{ClassIs, class-view, is-wide, is-white, is-quote, is-star, is-slash, is-dollar, is-plus, is-minus}
-use Rattle.refal_lexer.specs.ClassLaws.{is-upper, is-digit, is-variable, is-other, is-single, is-none}
-use Rattle.refal_lexer.specs.Scans.{signScan, scanClass, scanByte}
-use Rattle.refal_lexer.specs.Lex.{Out, after, lex}
+use Rattle.refal_lexer.specs.Numbers.{value, part, numberOf, numberScan, pointAt, exponentAt, digitsEnd}
+use Rattle.refal_lexer.specs.Literals.{litFrom, Lit, closed, newline, unclosed}
+use Rattle.refal_lexer.specs.ClassLaws.{ClassIs, class-view, is-wide, is-white, is-quote, is-star, is-slash, is-dollar, is-plus, is-minus, is-upper, is-digit, is-variable, is-other, is-single, is-none}
+use borrow.Author.Tests.{eqb-false}
+use Rattle.refal_lexer.specs.BlankLaws.{nonzero-in}
+use Rattle.refal_lexer.specs.declared.number.Part.{Part}
+use Rattle.refal_lexer.specs.LiteralLaws.{lit-closed}
 
 -- a token's text: none, or within its span
 pub data TextIn (from to : ℕ) : ℕ → ℕ → Type 0 where
   text-none : TextIn from to 0 0
   text-in : {start len : ℕ} → from ≤ start → start + len ≤ to → TextIn from to start len
 
--- a scan at `at` ends past it and within the n bytes of the source, and its token's text lies within its span
 abbrev pub Placed : ℕ → ℕ → Scan → Type 0
-Placed at n (Blank end line) = (at < end) × (end ≤ n)
-Placed at n (Token kind detail start len end) = (at < end) × (end ≤ n) × TextIn at end start len
-Placed at n (Literal end) = (at < end) × (end ≤ n)
-Placed at n (Bad number end) = (at < end) × (end ≤ n)
+Placed at n (Token kind detail text len start end) = (start ≡ at) × (at < end) × (end ≤ n) × TextIn at end text len
+Placed at n (Bad number start end) = (start ≡ at) × (at < end) × (end ≤ n)
 
-placed-name : (at n m : ℕ) → n ≤ m → Placed at (at + 1 + m) (nameOf at n)
-placed-name at n m h = split (Placed at (at + 1 + m)) (leb (suc n) 15) _ _ (λ _. (omega arith, omega arith, text-in (omega arith) (omega arith))) (λ _. (omega arith, omega arith))
+module _ (at m : ℕ) where
+  placed-name : (n : ℕ) → 0 < n → n ≤ m → Placed at (at + m) (nameOf at n)
+  placed-name n z h = split (Placed at (at + m)) (leb n 15) _ _ (λ _. (refl, omega arith, omega arith, text-in (omega arith) (omega arith))) (λ _. (refl, omega arith, omega arith))
 
-placed-index : (at b n m : ℕ) → suc n ≤ m → Placed at (at + 1 + m) (indexOf at b n)
-placed-index at b n m h =
-    split (Placed at (at + 1 + m)) (eqb n 0) _ _ (λ _. (omega arith, omega arith)) (λ _.
-    split (Placed at (at + 1 + m)) (leb n 15) _ _ (λ _. (omega arith, omega arith, text-in (omega arith) (omega arith))) (λ _. (omega arith, omega arith)))
+  placed-index : (b n : ℕ) → 2 + n ≤ m → Placed at (at + m) (indexOf at b n)
+  placed-index b n h =
+      split (Placed at (at + m)) (eqb n 0) _ _ (λ _. (refl, omega arith, omega arith)) (λ _.
+      split (Placed at (at + m)) (leb n 15) _ _ (λ _. (refl, omega arith, omega arith, text-in (omega arith) (omega arith))) (λ _. (refl, omega arith, omega arith)))
 
-placed-other : (at : ℕ) (s : List ℕ) → Placed at (at + 1 + length s) (otherScan at s)
-placed-other at s = let h = span-le nameByte s in (omega arith, omega arith)
+  placed-directive : (n : ℕ) (s : List ℕ) → 1 + n ≤ m → Placed at (at + m) (directiveOf at n s)
+  placed-directive n s h =
+      split (Placed at (at + m)) (entryWord n s) _ _ (λ _. (refl, omega arith, omega arith, text-none)) (λ _.
+      split (Placed at (at + m)) (externWord n s) _ _ (λ _. (refl, omega arith, omega arith, text-none)) (λ _. (refl, omega arith, omega arith)))
 
-placed-variable : (at b : ℕ) (s : List ℕ) → Placed at (at + 1 + length s) (variableScan at b s)
-placed-variable at b [] = placed-other at []
+  placed-number : (from n v : ℕ) (p e : Part) → 0 < n → n ≤ p .end → p .end ≤ e .end → e .end ≤ m → Placed at (at + m) (numberOf at from n v p e)
+  placed-number from n v p e z h i j =
+      split (Placed at (at + m)) (p .bare) _ _ (λ _. (refl, omega arith, omega arith)) (λ _.
+      split (Placed at (at + m)) (e .bare) _ _ (λ _. (refl, omega arith, omega arith)) (λ _.
+      split (Placed at (at + m)) (eqb (e .end) n) _ _ (λ _.
+      split (Placed at (at + m)) (ltb 0 from) _ _ (λ _. (refl, omega arith, omega arith)) (λ _.
+      split (Placed at (at + m)) (leb v 4294967295) _ _ (λ _. (refl, omega arith, omega arith, text-in (omega arith) (omega arith))) (λ _. (refl, omega arith, omega arith)))) (λ _.
+      (refl, omega arith, omega arith, text-in (omega arith) (omega arith)))))
+
+pub part-in : (mark i : ℕ) (t : List ℕ) → (i ≤ part mark i t .end) × (part mark i t .end ≤ i + length t)
+part-in mark i [] = (omega arith, omega arith)
+part-in mark i (b ∷ t) =
+    let h = span-le digit t in
+    split (λ (p : Part). (i ≤ p .end) × (p .end ≤ i + suc (length t))) (eqb b mark) _ _ (λ _. (omega arith, omega arith)) (λ _. (omega arith, omega arith))
+
+pub part-within : (mark i : ℕ) (s : List ℕ) → i ≤ length s → (i ≤ part mark i (drop i s) .end) × (part mark i (drop i s) .end ≤ length s)
+part-within mark i s h =
+    let p = part-in mark i (drop i s) in
+    let lo = p .0 in
+    let hi = p .1 in
+    let d = length-drop i s in
+    (lo, omega arith)
+
+placed-digits : (at from : ℕ) (s : List ℕ) → from ≤ length s → 0 < span digit (drop from s) → Placed at (at + length s) (numberScan at from s)
+placed-digits at from s l h =
+    let a = span-le digit (drop from s) in
+    let d = length-drop from s in
+    let p = part-within 46 (digitsEnd from s) s (omega arith) in
+    let p0 = p .0 in
+    let p1 = p .1 in
+    let e = part-within 69 (pointAt (digitsEnd from s) s .end) s p1 in
+    placed-number at (length s) from (digitsEnd from s) (value 0 (drop from s)) (pointAt (digitsEnd from s) s) (exponentAt (pointAt (digitsEnd from s) s .end) s) (omega arith) p0 (e .0) (e .1)
+
+placed-other : (at b : ℕ) (s : List ℕ) → Placed at (at + suc (length s)) (otherScan at (b ∷ s))
+placed-other at b s = let h = span-le nameByte s in (refl, omega arith, omega arith)
+
+digit-in : (s : List ℕ) (i : ℕ) → digit (getD s i 0) ≡ true → i < length s
+digit-in s i t = nonzero-in s i (λ y. absurd (true≢false (sym t ∙ ap digit y)))
+
+placed-sign : (k at b : ℕ) (s : List ℕ) → Placed at (at + suc (length s)) (signScan k at (b ∷ s))
+placed-sign k at b s =
+    split (Placed at (at + suc (length s))) (digit (getD s 0 0)) _ _ (λ t. placed-digits at 1 (b ∷ s) (omega arith) (span-some digit (b ∷ s) 1 (let i = digit-in s 0 t in omega arith) t)) (λ _.
+    split (Placed at (at + suc (length s))) (eqb k cMinus) _ _ (λ _. placed-other at b s) (λ _. (refl, omega arith, omega arith)))
+
+placed-variable : (at b : ℕ) (s : List ℕ) → Placed at (at + suc (length s)) (variableScan at (b ∷ s))
+placed-variable at b [] = placed-other at b []
 placed-variable at b (x ∷ s) =
     let h = span-le nameByte s in
-    split (Placed at (at + 1 + suc (length s))) (eqb x 46) _ _ (λ _. placed-index at b (span nameByte s) (suc (length s)) (omega arith)) (λ _.
-    split (Placed at (at + 1 + suc (length s))) (upper x || digit x) _ _ (λ _. (omega arith, omega arith, text-in (omega arith) (omega arith))) (λ _. placed-other at (x ∷ s)))
+    split (Placed at (at + suc (suc (length s)))) (eqb x 46) _ _ (λ _. placed-index at (suc (suc (length s))) b (span nameByte s) (omega arith)) (λ _.
+    split (Placed at (at + suc (suc (length s)))) (upper x || digit x) _ _ (λ _. (refl, omega arith, omega arith, text-in (omega arith) (omega arith))) (λ _. placed-other at b (x ∷ s)))
 
-placed-directive : (at n m : ℕ) (s : List ℕ) → n ≤ m → Placed at (at + 1 + m) (directiveOf at n s)
-placed-directive at n m s h =
-    split (Placed at (at + 1 + m)) (entryWord n s) _ _ (λ _. (omega arith, omega arith, text-none)) (λ _.
-    split (Placed at (at + 1 + m)) (externWord n s) _ _ (λ _. (omega arith, omega arith, text-none)) (λ _. (omega arith, omega arith)))
-
--- ---- numbers
-part-le : (mark : ℕ) (s : List ℕ) → part mark s ≤ length s
-part-le mark [] = omega arith
-part-le mark (b ∷ s) = let h = span-le digit s in split (λ (n : ℕ). n ≤ suc (length s)) (eqb b mark) _ _ (λ _. omega arith) (λ _. omega arith)
-
-placed-number : (at from whole v p q n : ℕ) → at < whole → whole ≤ p → p ≤ q → q ≤ n → Placed at n (numberOf at from whole v p q)
-placed-number at from whole v p q n l h i j =
-    split (Placed at n) (eqb p (whole + 1)) _ _ (λ _. (omega arith, omega arith)) (λ _.
-    split (Placed at n) (eqb q (p + 1)) _ _ (λ _. (omega arith, omega arith)) (λ _.
-    split (Placed at n) (eqb q whole) _ _ (λ _.
-    split (Placed at n) (ltb at from) _ _ (λ _. (omega arith, omega arith)) (λ _.
-    split (Placed at n) (leb v 4294967295) _ _ (λ _. (omega arith, omega arith, text-in (omega arith) (omega arith))) (λ _. (omega arith, omega arith)))) (λ _.
-    (omega arith, omega arith, text-in (omega arith) (omega arith)))))
-
-placed-digits : (at from : ℕ) (s : List ℕ) → at ≤ from → 0 < span digit s → Placed at (from + length s) (numberScan at from s)
-placed-digits at from s l h =
-    let a = span-le digit s in
-    let b = part-le 46 (drop (span digit s) s) in
-    let b′ = length-drop (span digit s) s in
-    let c = part-le 69 (drop (span digit s + part 46 (drop (span digit s) s)) s) in
-    let c′ = length-drop (span digit s + part 46 (drop (span digit s) s)) s in
-    placed-number at from (from + span digit s) (value 0 s)
-    (from + span digit s + part 46 (drop (span digit s) s))
-    (from + span digit s + part 46 (drop (span digit s) s) + part 69 (drop (span digit s + part 46 (drop (span digit s) s)) s))
-    (from + length s) (omega arith) (omega arith) (omega arith) (omega arith)
-
-digit-first : (b : ℕ) (s : List ℕ) → digit b ≡ true → 0 < span digit (b ∷ s)
-digit-first b s h = rw h (omega arith)
-
-placed-sign : (k at : ℕ) (s : List ℕ) → Placed at (at + 1 + length s) (signScan k at s)
-placed-sign k at [] = split (Placed at (at + 1 + 0)) (eqb k cMinus) _ _ (λ _. placed-other at []) (λ _. (omega arith, omega arith))
-placed-sign k at (x ∷ s) =
-    split (Placed at (at + 1 + length (x ∷ s))) (digit x) _ _ (λ h. placed-digits at (at + 1) (x ∷ s) (omega arith) (digit-first x s h)) (λ _.
-    split (Placed at (at + 1 + length (x ∷ s))) (eqb k cMinus) _ _ (λ _. placed-other at (x ∷ s)) (λ _. (omega arith, omega arith)))
-
-placed-first : (at b : ℕ) (s : List ℕ) → digit b ≡ true → Placed at (at + 1 + length s) (numberScan at at (b ∷ s))
-placed-first at b s h = subst (λ (n : ℕ). Placed at n (numberScan at at (b ∷ s))) (let e : at + suc (length s) ≡ at + 1 + length s = omega arith in
-    e) (placed-digits at at (b ∷ s) (omega arith) (digit-first b s h))
-
--- ---- comments and characters past U+007F
-placed-close : (star : Bool) (at i : ℕ) (s : List ℕ) → at < i → Placed at (i + length s) (closeFrom star i s)
-unfolding closeFrom
-placed-close star at i [] h = (h, omega arith)
-placed-close star at i (b ∷ s) h =
-    split (Placed at (i + suc (length s))) (star && eqb b 47) _ _ (λ _. (omega arith, omega arith)) (λ _.
-    subst (λ (n : ℕ). Placed at n (closeFrom (eqb b 42) (i + 1) s)) (let e : i + 1 + length s ≡ i + suc (length s) = omega arith in e) (placed-close (eqb b 42) at (i + 1) s (omega arith)))
-
-placed-slash : (at : ℕ) (s : List ℕ) → Placed at (at + 1 + length s) (slashScan at s)
-placed-slash at [] = (omega arith, omega arith)
-placed-slash at (x ∷ s) =
-    split (Placed at (at + 1 + suc (length s))) (eqb x 42) _ _ (λ _.
-    subst (λ (n : ℕ). Placed at n (closeFrom false (at + 2) s)) (let e : at + 2 + length s ≡ at + 1 + suc (length s) = omega arith in
-    e) (placed-close false at (at + 2) s (omega arith))) (λ _. (omega arith, omega arith))
-
-placed-star : (at : ℕ) (line : Bool) (s : List ℕ) → Placed at (at + 1 + length s) (starScan at line s)
-placed-star at line s = let h = span-le notNewline s in split (Placed at (at + 1 + length s)) line _ _ (λ _. (omega arith, omega arith)) (λ _. (omega arith, omega arith))
-
-some-len : (c : Char) → eqb (c .len) 0 ≡ false → 0 < c .len
-some-len c h = go (c .len) h
-  where
-    go : (n : ℕ) → eqb n 0 ≡ false → 0 < n
-    go zero e = absurd (true≢false e)
-    go (suc n) e = omega arith
-
-placed-wide : (at : ℕ) (line : Bool) (b : ℕ) (s : List ℕ) → Placed at (at + 1 + length s) (wideScan at line b (decode (b ∷ s)))
-placed-wide at line b s =
+placed-wide : (at b : ℕ) (s : List ℕ) → Placed at (at + suc (length s)) (wideScan at (decode (b ∷ s)))
+placed-wide at b s =
     let d = decode-in (b ∷ s) 0 (omega arith) in
-    split (Placed at (at + 1 + length s)) (eqb (decode (b ∷ s) .len) 0) _ _ (λ _. (omega arith, omega arith)) (λ z.
-    let p = some-len (decode (b ∷ s)) z in
-    split (Placed at (at + 1 + length s)) (whiteSpace (decode (b ∷ s) .code)) _ _ (λ _. (omega arith, omega arith)) (λ _. (omega arith, omega arith)))
-
--- ---- literals
-placed-literal : (q skip at i n : ℕ) (s : List ℕ) → at < i → Placed at (i + length s) (litFrom q skip i n s)
-unfolding litFrom
-placed-literal q skip at i n [] h = (h, omega arith)
-placed-literal q (suc k) at i n (b ∷ s) h =
-    subst (λ (m : ℕ). Placed at m (litFrom q k (suc i) n s)) (let e : suc i + length s ≡ i + suc (length s) = omega arith in e) (placed-literal q k at (suc i) n s (omega arith))
-placed-literal q zero at i n (b ∷ s) h = go (litChar q (b ∷ s) .len) (λ k. placed-literal q k at (suc i) (suc n) s (omega arith))
+    split (Placed at (at + suc (length s))) (eqb (decode (b ∷ s) .len) 0) _ _ (λ _. (refl, omega arith, omega arith)) (λ z.
+    let p = eqb-false _ _ z in (refl, some (decode (b ∷ s) .len) p, omega arith))
   where
-    go : (k : ℕ) → ((j : ℕ) → Placed at (suc i + length s) (litFrom q j (suc i) (suc n) s)) → Placed at (i + suc (length s)) (litStep k i n b (λ j. litFrom q j (suc i) (suc n) s))
-    go zero ih = split (Placed at (i + suc (length s))) (ltb 255 n) _ _ (λ _. (omega arith, omega arith))
-        (λ _. split (Placed at (i + suc (length s))) (eqb n 0) _ _ (λ _. (omega arith, omega arith)) (λ _. (omega arith, omega arith)))
-    go (suc k) ih =
-        split (Placed at (i + suc (length s))) (eqb b 10) _ _ (λ _. (omega arith, omega arith)) (λ _.
-        subst (λ (m : ℕ). Placed at m (litFrom q k (suc i) (suc n) s)) (let e : suc i + length s ≡ i + suc (length s) = omega arith in e) (ih k))
+    some : (n : ℕ) → (n ≡ 0 → ⊥) → at < at + n
+    some zero h = absurd (h refl)
+    some (suc n) h = omega arith
 
--- ---- every scan
-placed-class : (at : ℕ) (line : Bool) (b : ℕ) (s : List ℕ) (k : ℕ) → ClassIs b k → Placed at (at + 1 + length s) (scanClass k at line b s)
-placed-class at line b s k (is-wide h) = placed-wide at line b s
-placed-class at line b s k (is-white n h) = (omega arith, omega arith)
-placed-class at line b s k (is-quote h) = placed-literal b 0 at (at + 1) 0 s (omega arith)
-placed-class at line b s k (is-star h) = placed-star at line s
-placed-class at line b s k (is-slash h) = placed-slash at s
-placed-class at line b s k (is-dollar h) = placed-directive at (span letter s) (length s) s (span-le letter s)
-placed-class at line b s k (is-plus h) = placed-sign 17 at s
-placed-class at line b s k (is-minus h) = placed-sign 20 at s
-placed-class at line b s k (is-upper h) = placed-name at (span nameByte s) (length s) (span-le nameByte s)
-placed-class at line b s k (is-digit h) = placed-first at b s h
-placed-class at line b s k (is-variable h) = placed-variable at b s
-placed-class at line b s k (is-other h) = placed-other at s
-placed-class at line b s k (is-single j h e) = rw h (omega arith, omega arith, text-none)
-placed-class at line b s k is-none = (omega arith, omega arith)
+placed-class : (at b : ℕ) (s : List ℕ) (k : ℕ) → ClassIs b k → Placed at (at + suc (length s)) (classScan k at (b ∷ s))
+placed-class at b s k (is-wide h) = placed-wide at b s
+placed-class at b s k (is-white n h) = (refl, omega arith, omega arith)
+placed-class at b s k (is-quote h) = (refl, omega arith, omega arith)
+placed-class at b s k (is-star h) = (refl, omega arith, omega arith)
+placed-class at b s k (is-slash h) = (refl, omega arith, omega arith)
+placed-class at b s k (is-dollar h) = placed-directive at (suc (length s)) (span letter s) s (let l = span-le letter s in omega arith)
+placed-class at b s k (is-plus h) = placed-sign 17 at b s
+placed-class at b s k (is-minus h) = placed-sign 20 at b s
+placed-class at b s k (is-upper h) = placed-name at (suc (length s)) (1 + span nameByte s) (omega arith) (let l = span-le nameByte s in omega arith)
+placed-class at b s k (is-digit h) = placed-digits at 0 (b ∷ s) (omega arith) (rw h (omega arith))
+placed-class at b s k (is-variable h) = placed-variable at b s
+placed-class at b s k (is-other h) = placed-other at b s
+placed-class at b s k (is-single j h e) = rw h (refl, omega arith, omega arith, text-none)
+placed-class at b s k is-none = (refl, omega arith, omega arith)
 
-pub scan-placed : (at : ℕ) (line : Bool) (b : ℕ) (s : List ℕ) → Placed at (at + 1 + length s) (scanByte at line b s)
-scan-placed at line b s = placed-class at line b s (classOf b) (class-view b)
+pub scan-placed : (at b : ℕ) (s : List ℕ) → Placed at (at + suc (length s)) (classScan (classOf b) at (b ∷ s))
+scan-placed at b s = placed-class at b s (classOf b) (class-view b)
 
--- ---- spans in order, within n bytes, after a token from f to t: the next starts at or after t, or has the same span, as the characters of a literal have
-pub data Spans (n : ℕ) : ℕ → ℕ → List Tok → Type 0 where
-  spans-end : {f t : ℕ} → Spans n f t []
-  spans-next : {f t : ℕ} (kind detail start len from to : ℕ) {ts : List Tok} → t ≤ from → from ≤ to → to ≤ n → TextIn from to start len → Spans n from to ts
-      → Spans n f t (token kind detail start len from to ∷ ts)
-  spans-same : {f t : ℕ} (kind detail : ℕ) {ts : List Tok} → Spans n f t ts → Spans n f t (token kind detail 0 0 f t ∷ ts)
+-- ---- what the code found of class k, at the front of s
+abbrev pub Fits : ℕ → Scan → Type 0
+Fits n (Token kind detail text len start end) = (text ≤ n) × (len ≤ n) × (start ≤ n) × (end ≤ n)
+Fits n (Bad number start end) = Unit {0}
 
--- the characters of a literal
-chars-same : (n q from to skip : ℕ) (s : List ℕ) (ts : List Tok) → Spans n from to ts → Spans n from to (charTokens q from to skip s ++ ts)
-unfolding charTokens
-chars-same n q from to skip [] ts h = h
-chars-same n q from to (suc k) (b ∷ s) ts h = chars-same n q from to k s ts h
-chars-same n q from to zero (b ∷ s) ts h = go (litChar q (b ∷ s) .len) (λ k. chars-same n q from to k s ts h)
+fits : (at n : ℕ) (x : Scan) → Placed at n x → Fits n x
+fits at n (Token kind detail text len start end) p = go (p .0) (p .1) (p .2) (p .3)
   where
-    go : (k : ℕ) → ((j : ℕ) → Spans n from to (charTokens q from to j s ++ ts))
-        → Spans n from to (charStep k (token 6 (litChar q (b ∷ s) .code) 0 0 from to) (λ j. charTokens q from to j s) ++ ts)
-    go zero ih = h
-    go (suc k) ih = spans-same 6 (litChar q (b ∷ s) .code) (ih k)
+    go : {t l : ℕ} → start ≡ at → at < end → end ≤ n → TextIn at end t l → (t ≤ n) × (l ≤ n) × (start ≤ n) × (end ≤ n)
+    go a b c text-none = (omega arith, omega arith, omega arith, c)
+    go a b c (text-in x y) = (omega arith, omega arith, omega arith, c)
+fits at n (Bad number start end) p = tt
 
-chars-spans : (n q f t from to skip : ℕ) (s : List ℕ) (ts : List Tok) → t ≤ from → from ≤ to → to ≤ n → Spans n from to ts → Spans n f t ts → Spans n f t (charTokens q from to skip s ++ ts)
-unfolding charTokens
-chars-spans n q f t from to skip [] ts l h u a z = z
-chars-spans n q f t from to (suc k) (b ∷ s) ts l h u a z = chars-spans n q f t from to k s ts l h u a z
-chars-spans n q f t from to zero (b ∷ s) ts l h u a z = go (litChar q (b ∷ s) .len)
-  where
-    go : (k : ℕ) → Spans n f t (charStep k (token 6 (litChar q (b ∷ s) .code) 0 0 from to) (λ j. charTokens q from to j s) ++ ts)
-    go zero = z
-    go (suc k) = spans-next 6 (litChar q (b ∷ s) .code) 0 0 from to l h u text-none (chars-same n q from to k s ts a)
+pub token-fits : (s : List ℕ) (at k : ℕ) (r x : Scan) → 0 < length s → k ≡ classOf (getD s 0 0) → r ≡ classScan k at s → r ≡ x → Fits (at + length s) x
+token-fits [] at k r x h e f g = absurd (omega arith)
+token-fits (b ∷ s) at k r x h e f g = fits at (at + suc (length s)) x (subst (Placed at (at + suc (length s))) (sym (f ∙ ap (λ (c : ℕ). classScan c at (b ∷ s)) e) ∙ g) (scan-placed at b s))
 
--- what is read from `at` on, of a source of n bytes
-pub lex-spans : (n f t skip at : ℕ) (line : Bool) (s : List ℕ) → skip ≤ length s → t ≤ at + skip → at + length s ≡ n → Spans n f t (lex skip at line s .tokens)
-unfolding lex
-lex-spans n f t skip at line [] h l e = spans-next {t = t} 17 0 0 0 at at (omega arith) (omega arith) (omega arith) text-none spans-end
-lex-spans n f t (suc k) at line (b ∷ s) h l e = lex-spans n f t k (suc at) line s (omega arith) (omega arith) (omega arith)
-lex-spans n f t zero at line (b ∷ s) h l e = on (scanByte at line b s) (scan-placed at line b s) (λ f′ t′ k l′. lex-spans n f′ t′ k (suc at) l′ s)
-  where
-    Go : ℕ → Bool → Out
-    Go k l′ = lex k (suc at) l′ s
+-- ---- the tokens found end past their start and within, and are no more than their bytes
+abbrev pub FoundIn : ℕ → ℕ → Found → Type 0
+FoundIn at n (found ts end) = (at < end) × (end ≤ n) × (at + length ts ≤ end)
+FoundIn at n (refused number start end) = Unit {0}
 
-    on : (r : Scan) → Placed at (at + 1 + length s) r → ((f′ t′ k : ℕ) (l′ : Bool) → k ≤ length s → t′ ≤ suc at + k → suc at + length s ≡ n → Spans n f′ t′ (Go k l′ .tokens))
-        → Spans n f t (after at b s r Go .tokens)
-    on (Blank end line′) p ih = ih f t (end - suc at) line′ (let x = p .1 in omega arith) (let x = p .0 in omega arith) (omega arith)
-    on (Token kind detail start len end) p ih =
-        let x = p .0 in
-        let y = p .1 in
-        spans-next {t = t} kind detail start len at end (omega arith) (omega arith) (omega arith) (p .2) (ih at end (end - suc at) false (omega arith) (omega arith) (omega arith))
-    on (Literal end) p ih =
-        let x = p .0 in
-        let y = p .1 in
-        chars-spans n b f t at end 0 s _ (omega arith) (omega arith) (omega arith) (ih at end (end - suc at) false (omega arith) (omega arith) (omega arith))
-        (ih f t (end - suc at) false (omega arith) (omega arith) (omega arith))
-    on (Bad number end) p ih = spans-end
+one-in : (at n : ℕ) (x : Scan) → Placed at n x → FoundIn at n (one x)
+one-in at n (Token kind detail text len start end) p = let lo = p .1 in (lo, p .2, omega arith)
+one-in at n (Bad number start end) p = tt
 
--- the tokens of a source stand in order, within it
-pub read-spans : (s : List ℕ) → Spans (length s) 0 0 (lex 0 0 true s .tokens)
-read-spans s = lex-spans (length s) 0 0 0 0 true s (omega arith) (omega arith) (zero-add (length s))
+literal-in : (at q : ℕ) (s : List ℕ) (l : Lit) → litFrom q 0 1 0 s ≡ l → FoundIn at (at + suc (length s)) (literalOf at q s l)
+literal-in at q s (newline end) e = tt
+literal-in at q s (unclosed end) e = tt
+literal-in at q s (closed n end) e =
+    let c = lit-closed q at (at + end) 0 1 0 n end s e in
+    let f = c .few in
+    let w = c .within in
+    split (FoundIn at (at + suc (length s))) (ltb 255 n) _ _ (λ _. tt) (λ _. split (FoundIn at (at + suc (length s))) (eqb n 0) _ _ (λ _. tt) (λ _. (omega arith, omega arith, omega arith)))
+
+pub found-in : (at : ℕ) (s : List ℕ) → 0 < length s → FoundIn at (at + length s) (tokenAt at s)
+found-in at [] h = absurd (omega arith)
+found-in at (b ∷ s) h = split (FoundIn at (at + suc (length s))) (eqb (classOf b) cQuote) _ _ (λ _. literal-in at b s (litFrom b 0 1 0 s) refl) (λ _. one-in at (at + suc (length s)) (classScan (classOf b) at (b ∷ s)) (scan-placed at b s))

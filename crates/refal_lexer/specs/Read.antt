@@ -1,6 +1,5 @@
 -- Reading: the answer, and the words that it leaves.
 use Prim.Native.Nat.{ℕ, _*_, _/_}
-use mathlib.Core.Bool.{true}
 use mathlib.Core.List.{List, _++_}
 use lib.Dec.{leb, ltb}
 use lib.ListN.{length, drop, replicate}
@@ -11,7 +10,7 @@ use Rattle.refal_ast.specs.Tokens.{Token, flat}
 use Rattle.refal_ast.specs.declared.Answer.{Answer}
 use Rattle.refal_ast.specs.declared.Answer.the-variants.{Done, Refused}
 use Rattle.refal_lexer.specs.Lex.{Out, stopAnswer}
-use Rattle.refal_lexer.specs.Stars.{source}
+use Rattle.refal_lexer.specs.Source.{source}
 
 -- 25: more tokens than rows
 abbrev pub fitted : Answer → ℕ → Answer

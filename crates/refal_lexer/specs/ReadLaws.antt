@@ -3,7 +3,6 @@ use Prim.Native.Nat.{ℕ, _*_, _/_, _<_, _≤_}
 use borrow.Author.Tests.{le-leb, lt-ltb, le-ltb}
 use native.Mathlib.Omega.{arith}
 use mathlib.Core.List.{List, _++_}
-use mathlib.Core.Bool.{true}
 use mathlib.Core.Path.{_≡_, refl, ap, _∙_, sym}
 use lib.ListN.{length, drop, replicate}
 use Rattle.refal_text.specs.Utf8.{wellTo}
@@ -13,7 +12,7 @@ use Rattle.refal_ast.specs.declared.Answer.{Answer}
 use Rattle.refal_ast.specs.declared.Refusal.{Refusal}
 use Rattle.refal_ast.specs.declared.Answer.the-variants.{Done, Refused}
 use Rattle.refal_lexer.specs.Lex.{Stop, fine, bad, Out, stopped, stopAnswer}
-use Rattle.refal_lexer.specs.Stars.{source}
+use Rattle.refal_lexer.specs.Source.{source}
 use Rattle.refal_lexer.specs.Puts.{putTokens, put-flat}
 use Rattle.refal_lexer.specs.Read.{fitted, readAnswer, kept, readRows}
 

@@ -1,29 +1,33 @@
 -- What the tokens of a source are: all pass check 30, Eof stands once and last, and there are at most as many as bytes and one.
-use Prim.Native.Nat.{ℕ, zero, suc, _+_, _-_, _*_, _≤_}
+use Prim.Native.Nat.{ℕ, zero, suc, _+_, _-_, _*_, _≤_, _%_, _<_}
 use borrow.Author.Tests.{le-leb, lt-leb, eq-eqb, ne-eqb, eqb-true}
 use native.Mathlib.Omega.{arith}
 use mathlib.Core.List.{List, [], _∷_, _++_}
-use mathlib.Core.Bool.{Bool, true, false, _||_, true≢false}
-use mathlib.Core.Path.{_≡_, refl, sym, subst}
+use mathlib.Core.Bool.{Bool, true, false, _||_, true≢false, _&&_}
+use mathlib.Core.Path.{_≡_, refl, sym, _∙_}
 use lib.Dec.{ltb, eqb}
 use lib.ListN.{length, getD, length-append}
 use Rattle.refal_rows.specs.Tests.{range-lo, range-hi}
 use Rattle.refal_text.specs.Pick.{split}
 use Rattle.refal_text.specs.Utf8.{decode}
 use Rattle.refal_text.specs.declared.Char.{Char}
-use Rattle.refal_lexer.specs.Classes.{variable}
-use Prim.Native.Nat.{_%_}
+use Rattle.refal_lexer.specs.Classes.{variable, classOf, cQuote}
 use Rattle.refal_text.specs.Encode.{Scalar}
 use Rattle.refal_text.specs.EncodeLaws.{Decoded, d-ill, d-ascii, d-wide, decode-view}
-use Rattle.refal_ast.specs.Tokens.{Token, token, flat, tokens-flat, length-flat}
+use Rattle.refal_ast.specs.Tokens.{token, flat, tokens-flat, length-flat, Token as Tok}
 use Rattle.refal_ast.specs.Check.{scalar, goodToken, okTokens, wellFormed}
 use Rattle.refal_lexer.specs.declared.Scan.{Scan}
+use Rattle.refal_lexer.specs.Literals.{some, litChar, litFrom, charStep, charTokens, Lit, closed, newline, unclosed}
+use Rattle.refal_lexer.specs.Lex.{fine, Out, stopBad}
+use Rattle.refal_lexer.specs.ShapeLaws.{sound-class, RowOk, row-entry, row-extern, row-name, row-variable, row-number, row-char, row-single, Sound}
+use Rattle.refal_lexer.specs.Tokens.{Found, found, classScan, refused, one, literalOf, tokenAt}
+use Rattle.refal_lexer.specs.ClassLaws.{class-view, quote-class}
+use Rattle.refal_lexer.specs.Carried.{lineAfter, lexBy}
+use Rattle.refal_lexer.specs.declared.Scan.the-variants.{Token, Bad}
+use Rattle.refal_lexer.specs.Source.{onFound}
+use Rattle.refal_lexer.specs.PlaceLaws.{FoundIn, found-in}
+use Rattle.refal_lexer.specs.TurnCases.{turn-cases}
 use Rattle.refal_lexer.specs.declared.Scan.the-variants as S
-use Rattle.refal_lexer.specs.Literals.{some, litChar, litStep, litFrom, charStep, charTokens}
-use Rattle.refal_lexer.specs.LiteralLaws.{chars-few}
-use Rattle.refal_lexer.specs.Scans.{scanByte}
-use Rattle.refal_lexer.specs.Lex.{fine, Out, after, lex}
-use Rattle.refal_lexer.specs.ShapeLaws.{RowOk, row-entry, row-extern, row-name, row-variable, row-number, row-char, row-single, Sound, Found, found-sound, found-literal, found, quote-of, lit-of}
 
 -- ---- a lawful row passes check 30
 scalar-test : (x : ℕ) → Scalar x → scalar x ≡ true
@@ -55,16 +59,16 @@ row-good kind detail start len from to (row-single {k} h) =
     simp (le-leb 1 k (omega arith), le-leb k 16 hi, ne-eqb k 4 (λ e. absurd (omega arith)), ne-eqb k 6 (λ e. absurd (omega arith)), or-true)
 
 -- ---- what follows a good token
-pub data OkTokens : List Token → Type 0 where
+pub data OkTokens : List Tok → Type 0 where
   ok-eof : (at : ℕ) → OkTokens (token 17 0 0 0 at at ∷ [])
-  ok-more : (kind detail start len from to : ℕ) {ts : List Token} → RowOk kind detail start len → OkTokens ts → OkTokens (token kind detail start len from to ∷ ts)
+  ok-more : (kind detail start len from to : ℕ) {ts : List Tok} → RowOk kind detail start len → OkTokens ts → OkTokens (token kind detail start len from to ∷ ts)
 
-pub ok-tokens : (ts : List Token) → OkTokens ts → okTokens ts ≡ true
+pub ok-tokens : (ts : List Tok) → OkTokens ts → okTokens ts ≡ true
 unfolding okTokens
 ok-tokens l (ok-eof at) = refl
 ok-tokens l (ok-more kind detail start len from to {ts} r h) = go ts h (row-good kind detail start len from to r) (ok-tokens ts h)
   where
-    go : (us : List Token) → OkTokens us → goodToken (token kind detail start len from to) ≡ true → okTokens us ≡ true → okTokens (token kind detail start len from to ∷ us) ≡ true
+    go : (us : List Tok) → OkTokens us → goodToken (token kind detail start len from to) ≡ true → okTokens us ≡ true → okTokens (token kind detail start len from to ∷ us) ≡ true
     go (u ∷ us) h g e = rw (g, e)
 
 -- ---- a literal's characters are scalar values
@@ -92,100 +96,94 @@ lit-scalar q b s h =
     P : Char → Type 0
     P c = Scalar (c .code)
 
-chars-ok : (q from to skip : ℕ) (s : List ℕ) (ts : List Token) → eqb q 39 || eqb q 34 ≡ true → OkTokens ts → OkTokens (charTokens q from to skip s ++ ts)
+-- ---- the tokens found go before lawful ones
+abbrev pub Rows : Found → Type 0
+Rows (found ts end) = (us : List Tok) → OkTokens us → OkTokens (ts ++ us)
+Rows (refused number start end) = Unit {0}
+
+rows-one : (x : Scan) → Sound x → Rows (one x)
+rows-one (Token kind detail text len start end) h = λ us o. ok-more kind detail text len start end h o
+rows-one (Bad number start end) h = tt
+
+chars-ok : (q from to skip : ℕ) (s : List ℕ) (ts : List Tok) → eqb q 39 || eqb q 34 ≡ true → OkTokens ts → OkTokens (charTokens q from to skip s ++ ts)
 unfolding charTokens
 chars-ok q from to skip [] ts h o = o
 chars-ok q from to (suc k) (b ∷ s) ts h o = chars-ok q from to k s ts h o
 chars-ok q from to zero (b ∷ s) ts h o = go (litChar q (b ∷ s) .len) (λ k. chars-ok q from to k s ts h o)
   where
-    T₀ : Token
+    T₀ : Tok
     T₀ = token 6 (litChar q (b ∷ s) .code) 0 0 from to
 
     go : (k : ℕ) → ((j : ℕ) → OkTokens (charTokens q from to j s ++ ts)) → OkTokens (charStep k T₀ (λ j. charTokens q from to j s) ++ ts)
     go zero ih = o
     go (suc k) ih = ok-more 6 (litChar q (b ∷ s) .code) 0 0 from to (row-char (lit-scalar q b s h)) (ih k)
 
--- a literal's scan gives no token
-abbrev NoToken : Scan → Type 0
-NoToken (S.Blank end line) = Unit {0}
-NoToken (S.Token kind detail start len end) = ⊥
-NoToken (S.Literal end) = Unit {0}
-NoToken (S.Bad number end) = Unit {0}
+rows-literal : (at q : ℕ) (s : List ℕ) (l : Lit) → eqb q 39 || eqb q 34 ≡ true → Rows (literalOf at q s l)
+rows-literal at q s (closed n end) h = split Rows (ltb 255 n) _ _ (λ _. tt) (λ _. split Rows (eqb n 0) _ _ (λ _. tt) (λ _ us o. chars-ok q at (at + end) 0 s us h o))
+rows-literal at q s (newline end) h = tt
+rows-literal at q s (unclosed end) h = tt
 
-no-token : (q skip at n : ℕ) (s : List ℕ) → NoToken (litFrom q skip at n s)
-unfolding litFrom
-no-token q skip at n [] = tt
-no-token q (suc k) at n (b ∷ s) = no-token q k (suc at) n s
-no-token q zero at n (b ∷ s) = go (litChar q (b ∷ s) .len) (λ k. no-token q k (suc at) (suc n) s)
-  where
-    go : (k : ℕ) → ((j : ℕ) → NoToken (litFrom q j (suc at) (suc n) s)) → NoToken (litStep k at n b (λ j. litFrom q j (suc at) (suc n) s))
-    go zero ih = split NoToken (ltb 255 n) _ _ (λ _. tt) (λ _. split NoToken (eqb n 0) _ _ (λ _. tt) (λ _. tt))
-    go (suc k) ih = split NoToken (eqb b 10) _ _ (λ _. tt) (λ _. ih k)
-
-pub row-of : (b at : ℕ) (s : List ℕ) (r : Scan) (kind detail start len end : ℕ) → Found b at s r → r ≡ S.Token kind detail start len end → RowOk kind detail start len
-row-of b at s r kind detail start len end (found-sound h) e = subst Sound e h
-row-of b at s r kind detail start len end (found-literal q) e = absurd (subst NoToken e (no-token b 0 (at + 1) 0 s))
+pub rows-found : (at b : ℕ) (s : List ℕ) → Rows (tokenAt at (b ∷ s))
+rows-found at b s =
+    split Rows (eqb (classOf b) cQuote) _ _ (λ t. rows-literal at b s (litFrom b 0 1 0 s) (quote-class b t)) (λ _.
+    rows-one (classScan (classOf b) at (b ∷ s)) (sound-class at b s (classOf b) (class-view b)))
 
 -- ---- every token of a source that is read whole
-pub lex-ok : (skip at : ℕ) (line : Bool) (s : List ℕ) → lex skip at line s .stop ≡ fine → OkTokens (lex skip at line s .tokens)
-unfolding lex
-lex-ok skip at line [] e = ok-eof at
-lex-ok (suc k) at line (b ∷ s) e = lex-ok k (suc at) line s e
-lex-ok zero at line (b ∷ s) e = on (scanByte at line b s) (found at line b s) (λ k l. lex-ok k (suc at) l s) e
-  where
-    Go : ℕ → Bool → Out
-    Go k l = lex k (suc at) l s
+abbrev Ok : Out → Type 0
+Ok o = o .stop ≡ fine → OkTokens (o .tokens)
 
-    on : (r : Scan) → Found b at s r → ((k : ℕ) (l : Bool) → Go k l .stop ≡ fine → OkTokens (Go k l .tokens)) → after at b s r Go .stop ≡ fine → OkTokens (after at b s r Go .tokens)
-    on (S.Blank end l) f ih g = ih _ _ g
-    on (S.Token kind detail start len end) f ih g = ok-more kind detail start len at end (row-of b at s (S.Token kind detail start len end) kind detail start len end f refl) (ih _ _ g)
-    on (S.Literal end) f ih g = chars-ok b at end 0 s _ (quote-of b at s (S.Literal end) end f refl) (ih _ _ g)
-    on (S.Bad number end) f ih g = let z : _≡_ {A = ℕ} 0 1 = cc in absurd (omega arith)
+pub lex-ok : (skip at : ℕ) (line : Bool) (s : List ℕ) → Ok (lexBy skip at line s)
+unfolding lexBy
+lex-ok skip at line [] = λ e. ok-eof at
+lex-ok (suc k) at line (b ∷ s) = lex-ok k (suc at) line s
+lex-ok zero at line (b ∷ s) =
+    turn-cases Ok line at b s (λ k. lexBy k (suc at) (lineAfter b at line) s) (λ k. lexBy k (suc at) false s) (λ k. lexBy k (suc at) false s) (λ k e. lex-ok k (suc at) (lineAfter b at line) s) (λ n e. lex-ok (n - 1) (suc at) false s) (λ e z. absurd (stops z)) (on (tokenAt at (b ∷ s)) (rows-found at b s) (λ k. lex-ok k (suc at) false s))
+  where
+    stops : stopBad 24 at (at + suc (length s)) .stop ≡ fine → ⊥
+    stops e = let z : _≡_ {A = ℕ} 0 1 = cc in omega arith
+
+    Go : ℕ → Out
+    Go k = lexBy k (suc at) false s
+
+    on : (x : Found) → Rows x → ((k : ℕ) → Ok (Go k)) → Ok (onFound at x Go)
+    on (found ts end) r ih = λ g. r _ (ih _ g)
+    on (refused number start end) r ih = λ g. let z : _≡_ {A = ℕ} 0 1 = cc in absurd (omega arith)
 
 -- check 30 passes the tokens of every source
-pub lex-passes : (skip at : ℕ) (line : Bool) (s : List ℕ) → lex skip at line s .stop ≡ fine → okTokens (lex skip at line s .tokens) ≡ true
-lex-passes skip at line s e = ok-tokens (lex skip at line s .tokens) (lex-ok skip at line s e)
+pub lex-passes : (skip at : ℕ) (line : Bool) (s : List ℕ) → lexBy skip at line s .stop ≡ fine → okTokens (lexBy skip at line s .tokens) ≡ true
+lex-passes skip at line s e = ok-tokens (lexBy skip at line s .tokens) (lex-ok skip at line s e)
 
 -- ---- at most as many tokens as bytes and one
-chars-le : (q from to skip : ℕ) (s : List ℕ) → length (charTokens q from to skip s) ≤ length s
-unfolding charTokens
-chars-le q from to skip [] = omega arith
-chars-le q from to (suc k) (b ∷ s) = let ih = chars-le q from to k s in omega arith
-chars-le q from to zero (b ∷ s) = go (litChar q (b ∷ s) .len) (λ k. chars-le q from to k s)
-  where
-    T₀ : Token
-    T₀ = token 6 (litChar q (b ∷ s) .code) 0 0 from to
-
-    go : (k : ℕ) → ((j : ℕ) → length (charTokens q from to j s) ≤ length s) → length (charStep k T₀ (λ j. charTokens q from to j s)) ≤ suc (length s)
-    go zero ih = omega arith
-    go (suc k) ih = let h = ih k in omega arith
-
-pub lex-few : (skip at : ℕ) (line : Bool) (s : List ℕ) → length (lex skip at line s .tokens) ≤ length s - skip + 1
-unfolding lex
+pub lex-few : (skip at : ℕ) (line : Bool) (s : List ℕ) → length (lexBy skip at line s .tokens) ≤ length s - skip + 1
+unfolding lexBy
 lex-few skip at line [] = omega arith
 lex-few (suc k) at line (b ∷ s) = let ih = lex-few k (suc at) line s in omega arith
-lex-few zero at line (b ∷ s) = on (scanByte at line b s) (found at line b s) (λ k l. lex-few k (suc at) l s)
+lex-few zero at line (b ∷ s) =
+    turn-cases Few line at b s (λ k. lexBy k (suc at) (lineAfter b at line) s) (λ k. lexBy k (suc at) false s) (λ k. lexBy k (suc at) false s) (λ k e. let h = lex-few k (suc at) (lineAfter b at line) s in omega arith) (λ n e. let h = lex-few (n - 1) (suc at) false s in omega arith) (λ e. omega arith)
+    (on (tokenAt at (b ∷ s)) (found-in at (b ∷ s) (omega arith)) (λ k. lex-few k (suc at) false s))
   where
-    Go : ℕ → Bool → Out
-    Go k l = lex k (suc at) l s
+    Few : Out → Type 0
+    Few o = length (o .tokens) ≤ suc (length s) - 0 + 1
 
-    on : (r : Scan) → Found b at s r → ((k : ℕ) (l : Bool) → length (Go k l .tokens) ≤ length s - k + 1) → length (after at b s r Go .tokens) ≤ suc (length s) - 0 + 1
-    on (S.Blank end l) f ih = let h = ih (end - suc at) l in omega arith
-    on (S.Token kind detail start len end) f ih = let h = ih (end - suc at) false in omega arith
-    on (S.Literal end) f ih =
-        let h = ih (end - suc at) false in
-        let c = chars-few b at end 0 (at + 1) 0 end s (lit-of b at s (S.Literal end) end f refl) in
-        let d = chars-le b at end 0 s in
-        let a = length-append (charTokens b at end 0 s) (Go (end - suc at) false .tokens) in
+    Go : ℕ → Out
+    Go k = lexBy k (suc at) false s
+
+    on : (x : Found) → FoundIn at (at + suc (length s)) x → ((k : ℕ) → length (Go k .tokens) ≤ length s - k + 1) → Few (onFound at x Go)
+    on (found ts end) p ih =
+        let h = ih (end - suc at) in
+        let lo = p .0 in
+        let hi = p .1 in
+        let few = p .2 in
+        let a = length-append ts (Go (end - suc at) .tokens) in
         omega arith
-    on (S.Bad number end) f ih = omega arith
+    on (refused number start end) p ih = omega arith
 
 -- ---- the rows that reading leaves are well-formed words for parsing
-pub lex-well-formed : (s : List ℕ) → length s ≤ 16777216 → lex 0 0 true s .stop ≡ fine → wellFormed (flat (lex 0 0 true s .tokens)) ≡ true
+pub lex-well-formed : (s : List ℕ) → length s ≤ 16777216 → lexBy 0 0 true s .stop ≡ fine → wellFormed (flat (lexBy 0 0 true s .tokens)) ≡ true
 unfolding wellFormed
 lex-well-formed s h e =
-    let n = length-flat (lex 0 0 true s .tokens) in
+    let n = length-flat (lexBy 0 0 true s .tokens) in
     let f = lex-few 0 0 true s in
-    let m : length (flat (lex 0 0 true s .tokens)) % 6 ≡ 0 = omega arith in
-    let l : length (flat (lex 0 0 true s .tokens)) ≤ 6 * 16777217 = omega arith in
-    rw (eq-eqb _ _ m, le-leb _ _ l, tokens-flat (lex 0 0 true s .tokens)) (lex-passes 0 0 true s e)
+    let m : length (flat (lexBy 0 0 true s .tokens)) % 6 ≡ 0 = omega arith in
+    let l : length (flat (lexBy 0 0 true s .tokens)) ≤ 6 * 16777217 = omega arith in
+    rw (eq-eqb _ _ m, le-leb _ _ l, tokens-flat (lexBy 0 0 true s .tokens)) (lex-passes 0 0 true s e)

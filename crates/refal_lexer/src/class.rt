@@ -4,6 +4,30 @@ ghost use Rattle.refal_lexer.specs.ClassLaws.{Table};
 ghost use Rattle.refal_lexer.specs.Classes.{classOf, nameByte, blank, letter};
 ghost use Rattle.refal_lexer.specs.Classes.{upper, digit};
 
+// The classes that decide a token, by name; those of `specs/Classes.antt`. The tokens of one byte have the classes from SINGLE to SINGLE_LAST.
+pub const QUOTE: u8 = 3;
+
+pub const DOLLAR: u8 = 6;
+
+pub const PLUS: u8 = 17;
+
+pub const WIDE: u8 = 18;
+
+pub const MINUS: u8 = 20;
+
+pub const UPPER: u8 = 21;
+
+pub const DIGIT: u8 = 22;
+
+pub const VARIABLE: u8 = 23;
+
+pub const OTHER: u8 = 24;
+
+pub const SINGLE: u8 = 7;
+
+pub const SINGLE_LAST: u8 = 16;
+
+// The class of each byte.
 pub const CLASS: [u8; 256] = [
     0,
     0,

@@ -1,47 +1,64 @@
 // The lexer: from the bytes of a source to the rows of its tokens.
 ghost use mathlib.Core.Path.{_≡_};
+ghost use mathlib.Core.Bool.{true};
 ghost use Prim.Native.Nat.{_+_, _≤_, _<_};
 ghost use lib.ListN.{length};
 ghost use Rattle.refal_lexer.specs.ClassLaws.{Table};
-ghost use Rattle.refal_lexer.specs.Lex.{lex, stopAnswer};
-ghost use Rattle.refal_lexer.specs.Stars.{source};
-ghost use Rattle.refal_lexer.specs.Read.{readAnswer, readRows};
+ghost use Rattle.refal_lexer.specs.Lex.{stopAnswer};
 ghost use Rattle.refal_lexer.specs.Puts.{putTokens};
 ghost use Rattle.refal_ast.specs.Answers.{refusal};
 ghost use Rattle.refal_ast.specs.Tokens.{token, words};
 ghost use Rattle.refal_rows.specs.Rows.{putRow};
-ghost use mathlib.Core.Bool.{true};
+ghost use Rattle.refal_lexer.specs.Tokens.{tokenAt};
+ghost use Rattle.refal_lexer.specs.Steps.{stepOf, rowsOf, answerOf, openedOf};
+ghost use Rattle.refal_lexer.specs.Steps.{cursor, stopOf};
+ghost use Rattle.refal_lexer.specs.Carried.{lexBy};
+ghost use Rattle.refal_lexer.specs.Source.{source};
+ghost use Rattle.refal_lexer.specs.Read.{readAnswer, readRows};
 
 mod blank;
 pub mod class;
-mod dispatch;
 mod literal;
 pub mod number;
 mod runs;
+mod token;
 mod word;
 
+use crate::blank::Blank;
 use refal_ast::Answer;
 use refal_ast::Refusal;
+use refal_ast::kinds::token as kind;
 
-// What a scan finds: white space or a comment up to its end; a token; a literal up to its end; or a refusal.
-// `line` says whether only white space has passed since the last newline. All spans begin where the scan does.
+// A token or a numbered refusal, with its span. A token's text starts at `text` and has `len` bytes.
 pub enum Scan {
-    Blank {
-        end: usize,
-        line: bool,
-    },
     Token {
         kind: u32,
         detail: u32,
-        start: usize,
+        text: usize,
         len: usize,
-        end: usize,
-    },
-    Literal {
+        start: usize,
         end: usize,
     },
     Bad {
         number: u32,
+        start: usize,
+        end: usize,
+    },
+}
+
+// Where reading stands: the offset, the next row, and whether a star would start a comment there.
+pub struct Cursor {
+    pub at: usize,
+    pub row: usize,
+    pub line: bool,
+}
+
+// What putting a token's rows gives: where reading goes on, or the refusal.
+pub enum Step {
+    On(Cursor),
+    Stop {
+        number: u32,
+        start: usize,
         end: usize,
     },
 }
@@ -59,122 +76,126 @@ fn refused(number: u32, start: usize, end: usize, need: usize) -> Answer
     })
 }
 
-// The row of a token from `at` to `end`.
-fn put_token(
-    rows: &mut [u32],
-    n: usize,
-    kind: u32,
-    detail: u32,
-    start: usize,
-    len: usize,
-    at: usize,
-    end: usize,
-)
-    requires { ⌜ (n ≤ 16777216) × (start ≤ 16777216) × (len ≤ 16777216) × (at ≤ 16777216) × (end ≤ 16777216) ⌝ }
-    ensures { λ _. ⌜ now (rows .exit) ≡ putRow 6 (now (rows .entry)) n (words (token kind detail start len at end)) ⌝ }
+// The refusal s.
+fn stop(s: Scan, row: usize) -> Step
+    requires { ⌜ row ≤ 16777216 ⌝ }
+    ensures { λ r. ⌜ r ≡ stopOf s row ⌝ }
 {
-    refal_rows::put6(
-        rows,
-        n,
-        kind,
-        detail,
-        start as u32,
-        len as u32,
-        at as u32,
-        end as u32,
-    );
+    match s {
+        Scan::Token {
+            kind,
+            detail,
+            text,
+            len,
+            start,
+            end,
+        } => {
+            let next = row + 1;
+            Step::On(Cursor {
+                at: end,
+                row: next,
+                line: false,
+            })
+        }
+        Scan::Bad { number, start, end } => Step::Stop { number, start, end },
+    }
 }
 
-// Every token's row, as far as they fit. The table of classes is made once for all of them. The classes that most tokens begin
-// with go straight to their scans; what these leave, a refusal, is left to the scan of every class.
+// The token at the front of src, where c stands, puts its row or rows.
+fn put_next(src: &[u8], c: Cursor, rows: &mut [u32], table: &[u8]) -> Step
+    requires { ⌜ (0 < length (now src)) × (c .at + length (now src) ≤ 16777216) × (c .row ≤ c .at) × Table (now table) ⌝ }
+    ensures { λ r. ⌜ r ≡ stepOf (tokenAt (c .at) (now (src .entry))) (c .row) ⌝ }
+    ensures { λ r. ⌜ now (rows .exit) ≡ rowsOf (tokenAt (c .at) (now (src .entry))) (now (rows .entry)) (c .row) ⌝ }
+{
+    let at = c.at;
+    let row = c.row;
+    let b = src[0];
+    let k = class::class_of(b, table);
+    if k == class::QUOTE {
+        return literal::literal(src, c, b, rows);
+    }
+    let s = token::scan(src, at, b, k, table);
+    let Scan::Token {
+        kind,
+        detail,
+        text,
+        len,
+        start,
+        end,
+    } = s
+    else {
+        return stop(s, row);
+    };
+    refal_rows::put6(
+        rows,
+        row,
+        kind,
+        detail,
+        text as u32,
+        len as u32,
+        start as u32,
+        end as u32,
+    );
+    let next = row + 1;
+    Step::On(Cursor {
+        at: end,
+        row: next,
+        line: false,
+    })
+}
+
+fn answer(s: Step) -> Answer
+    ensures { λ r. ⌜ r ≡ answerOf s ⌝ }
+{
+    match s {
+        Step::On(c) => Answer::Done(c.row),
+        Step::Stop { number, start, end } => refused(number, start, end, 0),
+    }
+}
+
+fn opened(b: Blank) -> Answer
+    ensures { λ r. ⌜ r ≡ openedOf b ⌝ }
+{
+    match b {
+        Blank::Past { at, line } => Answer::Done(at),
+        Blank::Open { start, end } => refused(24, start, end, 0),
+    }
+}
+
+// Blanks, then a token, to the end. The table of classes is made once for all of them.
 fn lex_by(src: &[u8], rows: &mut [u32], table: &[u8]) -> Answer
     requires { ⌜ (length (now src) ≤ 16777216) × Table (now table) ⌝ }
-    ensures { λ r. ⌜ r ≡ stopAnswer (lex 0 0 true (now (src .entry))) ⌝ }
-    ensures { λ r. ⌜ now (rows .exit) ≡ putTokens (now (rows .entry)) 0 (lex 0 0 true (now (src .entry)) .tokens) ⌝ }
+    ensures { λ r. ⌜ r ≡ stopAnswer (lexBy 0 0 true (now (src .entry))) ⌝ }
+    ensures { λ r. ⌜ now (rows .exit) ≡ putTokens (now (rows .entry)) 0 (lexBy 0 0 true (now (src .entry)) .tokens) ⌝ }
 {
-    let mut at = 0;
-    let mut n = 0;
-    let mut line = true;
-    while at < src.len() {
-        let b = src[at];
-        let k = class::class_of(b, table);
-        match k {
-            21 => {
-                let name = word::name_at(src, at, table);
-                if let Scan::Token {
-                    kind,
-                    detail,
-                    start,
-                    len,
-                    end,
-                } = name {
-                    put_token(rows, n, kind, detail, start, len, at, end);
-                    n += 1;
-                    at = blank::skip_space(src, end);
-                    line = false;
-                    continue;
-                }
-            }
-            23 => {
-                let variable = word::variable_at(src, at, b, table);
-                if let Scan::Token {
-                    kind,
-                    detail,
-                    start,
-                    len,
-                    end,
-                } = variable {
-                    put_token(rows, n, kind, detail, start, len, at, end);
-                    n += 1;
-                    at = blank::skip_space(src, end);
-                    line = false;
-                    continue;
-                }
-            }
-            3 => {
-                let literal = literal::literal_at(src, at, b);
-                if let Scan::Literal { end } = literal {
-                    n = literal::put_chars(src, at, end, b, rows, n);
-                    at = blank::skip_space(src, end);
-                    line = false;
-                    continue;
-                }
-            }
-            _ => {}
+    let mut c = Cursor {
+        at: 0,
+        row: 0,
+        line: true,
+    };
+    loop {
+        let at = c.at;
+        let row = c.row;
+        let b = blank::blanks(&src[at..], at, c.line);
+        let Blank::Past { at: from, line } = b else {
+            return opened(b);
+        };
+        if from >= src.len() {
+            refal_rows::put6(rows, row, kind::EOF, 0, 0, 0, from as u32, from as u32);
+            let count = row + 1;
+            return Answer::Done(count);
         }
-        let s = dispatch::scan_at(src, at, line, table);
-        match s {
-            Scan::Blank { end, line: l } => {
-                let p = blank::skip_blank(src, end, l);
-                at = p.at;
-                line = p.line;
-            }
-            Scan::Token {
-                kind,
-                detail,
-                start,
-                len,
-                end,
-            } => {
-                put_token(rows, n, kind, detail, start, len, at, end);
-                n += 1;
-                at = blank::skip_space(src, end);
-                line = false;
-            }
-            Scan::Literal { end } => {
-                let q = src[at];
-                n = literal::put_chars(src, at, end, q, rows, n);
-                at = end;
-                line = false;
-            }
-            Scan::Bad { number, end } => {
-                return refused(number, at, end, 0);
-            }
-        }
+        let here = Cursor {
+            at: from,
+            row,
+            line,
+        };
+        let s = put_next(&src[from..], here, rows, table);
+        let Step::On(next) = s else {
+            return answer(s);
+        };
+        c = next;
     }
-    refal_rows::put6(rows, n, 17, 0, 0, 0, at as u32, at as u32);
-    let count = n + 1;
-    Answer::Done(count)
 }
 
 fn lex_all(src: &[u8], rows: &mut [u32]) -> Answer

@@ -1,13 +1,16 @@
-// Literals: first their end, then a row for each character.
+// Literals: first the end, then a row for each character.
 ghost use mathlib.Core.Path.{_≡_};
-ghost use Prim.Native.Nat.{_+_, _-_, _≤_, _<_};
-ghost use lib.ListN.{length, drop};
+ghost use Prim.Native.Nat.{_+_, _≤_, _<_};
+ghost use lib.ListN.{length, drop, getD};
 ghost use Rattle.refal_text.specs.declared.Char.{Char};
-ghost use Rattle.refal_lexer.specs.Literals.{some as orByte, litChar, litFrom, closeScan, charTokens};
-ghost use Rattle.refal_lexer.specs.LiteralLaws.{plain, PlainRun, Fills};
+ghost use Rattle.refal_lexer.specs.Literals.{some as orByte, litChar, charTokens};
 ghost use Rattle.refal_lexer.specs.Puts.{putTokens};
-ghost use Rattle.refal_lexer.specs.Within.{Within};
-use crate::Scan;
+ghost use Rattle.refal_lexer.specs.Literals.{litFrom};
+ghost use Rattle.refal_lexer.specs.Tokens.{literalAt};
+ghost use Rattle.refal_lexer.specs.Steps.{stepOf, rowsOf, closeOf, endOf};
+use crate::Cursor;
+use crate::Step;
+use refal_ast::kinds::token as kind;
 use refal_text::Char;
 
 // A byte that is no character counts as one.
@@ -51,123 +54,99 @@ fn lit_char(src: &[u8], i: usize, q: u8) -> Char
     some(refal_text::char_at(src, i))
 }
 
-// The literal's close, after n characters.
-fn close_at(n: usize, end: usize) -> Scan
-    ensures { λ r. ⌜ r ≡ closeScan n end ⌝ }
+// The close of the literal at c, of n characters and `len` bytes.
+fn close(c: Cursor, n: usize, len: usize) -> Step
+    requires { ⌜ (c .at + len ≤ 16777216) × (c .row + n ≤ 16777216) ⌝ }
+    ensures { λ r. ⌜ r ≡ closeOf (c .at) (c .row) n len ⌝ }
 {
+    let start = c.at;
+    let end = start + len;
     if n > 255 {
-        return Scan::Bad { number: 20, end };
+        return Step::Stop {
+            number: 20,
+            start,
+            end,
+        };
     }
     if n == 0 {
-        return Scan::Bad { number: 21, end };
+        return Step::Stop {
+            number: 21,
+            start,
+            end,
+        };
     }
-    Scan::Literal { end }
+    let row = c.row;
+    let next = row + n;
+    Step::On(Cursor {
+        at: end,
+        row: next,
+        line: false,
+    })
 }
 
-// Whether a byte of a literal in quotes q is a character by itself: no quote, no newline, below 128.
-fn is_plain(b: u8, q: u8) -> bool
-    ensures { λ r. ⌜ r ≡ plain q b ⌝ }
+// Behind the literal in quotes q at the front of src, where c stands, or its refusal.
+fn behind(src: &[u8], c: Cursor, q: u8) -> Step
+    requires { ⌜ (0 < length (now src)) × (c .at + length (now src) ≤ 16777216) × (c .row ≤ c .at) × (0 < q) ⌝ }
+    ensures { λ r. ⌜ r ≡ endOf (c .at) (c .row) (litFrom q 0 1 0 (drop 1 (now (src .entry)))) ⌝ }
 {
-    (b != q) & ((b != 10) & (b < 128))
-}
-
-// Past the plain characters from `at` on: the rest of the literal is the same from there, with so many more behind.
-fn plain_end(src: &[u8], at: usize, q: u8) -> usize
-    requires { ⌜ at ≤ length (now src) ⌝ }
-    ensures { λ r. ⌜ PlainRun q (now (src .entry)) at r ⌝ }
-{
-    let mut i = at;
+    let start = c.at;
+    let mut i = 1;
+    let mut n = 0;
     while i < src.len() {
-        if !is_plain(src[i], q) {
-            return i;
-        }
-        i += 1;
-    }
-    i
-}
-
-// The literal whose first quote, q, stands at `at`.
-pub fn literal_at(src: &[u8], at: usize, q: u8) -> Scan
-    requires { ⌜ (at < length (now src)) × (0 < q) ⌝ }
-    ensures { λ r. ⌜ (r ≡ litFrom q 0 (at + 1) 0 (drop (at + 1) (now (src .entry)))) × Within at (length (now (src .entry))) r ⌝ }
-{
-    let first = at + 1;
-    let mut i = plain_end(src, first, q);
-    let mut n = i - first;
-    while i < src.len() {
-        let c = lit_char(src, i, q);
-        let k = c.len;
-        let end = i + 1;
+        let x = lit_char(src, i, q);
+        let k = x.len;
+        let len = i + 1;
         if k == 0 {
-            return close_at(n, end);
+            return close(c, n, len);
         }
         if src[i] == 10 {
-            return Scan::Bad { number: 22, end };
+            let past = start + len;
+            return Step::Stop {
+                number: 22,
+                start,
+                end: past,
+            };
         }
-        let next = i + k;
-        let j = plain_end(src, next, q);
-        n = n + 1 + (j - next);
-        i = j;
+        i += k;
+        n += 1;
     }
-    Scan::Bad { number: 23, end: i }
+    let last = start + i;
+    Step::Stop {
+        number: 23,
+        start,
+        end: last,
+    }
 }
 
-// A row for each plain character from `at` on, from row n on. Where they end.
-fn put_plain(
-    src: &[u8],
-    at: usize,
-    q: u8,
-    from: usize,
-    to: usize,
-    rows: &mut [u32],
-    n: usize,
-) -> usize
-    requires { ⌜ (at ≤ length (now src)) × (length (now src) ≤ 16777216) × (n ≤ at) × (from ≤ 16777216) × (to ≤ 16777216) ⌝ }
-    ensures { λ r. ⌜ (at ≤ r) × (r ≤ length (now (src .entry))) × Fills (charTokens q from to 0 (drop r (now (src .entry)))) (charTokens q from to 0 (drop at (now (src .entry)))) (now (rows .exit)) (now (rows .entry)) (n + (r - at)) n ⌝ }
+// A row for each character of the literal in quotes q at the front of src, from row n on; its span is from `start` to `end`.
+fn put_chars(src: &[u8], start: usize, end: usize, q: u8, rows: &mut [u32], n: usize)
+    requires { ⌜ (0 < length (now src)) × (n + length (now src) ≤ 16777216) × (start ≤ 16777216) × (end ≤ 16777216) × (0 < q) ⌝ }
+    ensures { λ _. ⌜ now (rows .exit) ≡ putTokens (now (rows .entry)) n (charTokens q start end 0 (drop 1 (now (src .entry)))) ⌝ }
 {
-    let mut i = at;
+    let mut i = 1;
     let mut k = n;
-    while i < src.len() {
-        let b = src[i];
-        if !is_plain(b, q) {
-            return i;
-        }
-        refal_rows::put6(
-            rows,
-            k,
-            6,
-            refal_text::wide(b),
-            0,
-            0,
-            from as u32,
-            to as u32,
-        );
-        i += 1;
-        k += 1;
-    }
-    i
-}
-
-// A row for each character of the literal in quotes q from `at` to `end`, from row n on.
-pub fn put_chars(src: &[u8], at: usize, end: usize, q: u8, rows: &mut [u32], n: usize) -> usize
-    requires { ⌜ (at < end) × (end ≤ length (now src)) × (length (now src) ≤ 16777216) × (n ≤ at) × (0 < q) ⌝ }
-    ensures { λ r. ⌜ r ≡ n + length (charTokens q at end 0 (drop (at + 1) (now (src .entry)))) ⌝ }
-    ensures { λ r. ⌜ now (rows .exit) ≡ putTokens (now (rows .entry)) n (charTokens q at end 0 (drop (at + 1) (now (src .entry)))) ⌝ }
-{
-    let first = at + 1;
-    let mut i = put_plain(src, first, q, at, end, rows, n);
-    let mut k = n + (i - first);
     while i < src.len() {
         let c = lit_char(src, i, q);
         let j = c.len;
         if j == 0 {
-            return k;
+            return;
         }
-        refal_rows::put6(rows, k, 6, c.code, 0, 0, at as u32, end as u32);
-        let next = i + j;
-        let row = k + 1;
-        i = put_plain(src, next, q, at, end, rows, row);
-        k = row + (i - next);
+        refal_rows::put6(rows, k, kind::CHAR, c.code, 0, 0, start as u32, end as u32);
+        i += j;
+        k += 1;
     }
-    k
+}
+
+// The literal in quotes q at the front of src, where c stands, puts its rows.
+pub fn literal(src: &[u8], c: Cursor, q: u8, rows: &mut [u32]) -> Step
+    requires { ⌜ (0 < length (now src)) × (c .at + length (now src) ≤ 16777216) × (c .row ≤ c .at) × (0 < q) × (q ≡ getD (now src) 0 0) ⌝ }
+    ensures { λ r. ⌜ r ≡ stepOf (literalAt (c .at) (now (src .entry))) (c .row) ⌝ }
+    ensures { λ r. ⌜ now (rows .exit) ≡ rowsOf (literalAt (c .at) (now (src .entry))) (now (rows .entry)) (c .row) ⌝ }
+{
+    let s = behind(src, c, q);
+    let Step::On(next) = s else {
+        return s;
+    };
+    put_chars(src, c.at, next.at, q, rows, c.row);
+    Step::On(next)
 }

@@ -1,19 +1,25 @@
-// Numbers.
+// Numbers, at the front of src, whose offset is `at`.
 ghost use mathlib.Core.Path.{_≡_};
 ghost use mathlib.Core.Bool.{true};
 ghost use Prim.Native.Nat.{_+_, _≤_, _<_};
 ghost use lib.ListN.{length, drop, getD};
 ghost use Rattle.refal_text.specs.Span.{span};
 ghost use Rattle.refal_lexer.specs.Classes.{digit};
-ghost use Rattle.refal_lexer.specs.Numbers.{wholeScan, numberScan, part};
 ghost use Rattle.refal_lexer.specs.NumberLaws.{worth, digitStep};
-ghost use Rattle.refal_lexer.specs.Within.{Within};
+ghost use Rattle.refal_lexer.specs.Numbers.{part as partOf, pointAt, exponentAt, wholeScan, numberScan};
 use crate::Scan;
+use refal_ast::kinds::token as kind;
 
 // Where a run of digits ends, and what it is worth, or some number above 4294967295 where it is worth more.
 pub struct Whole {
     pub end: usize,
     pub worth: u64,
+}
+
+// Where a part ends, and whether no digit stands in it.
+pub struct Part {
+    pub end: usize,
+    pub bare: bool,
 }
 
 fn wide(b: u8) -> u64
@@ -50,66 +56,104 @@ pub fn whole_end(src: &[u8], at: usize) -> Whole
     Whole { end: i, worth: v }
 }
 
-// Where the part that `mark` begins ends: at itself if there is none.
-pub fn part_end(src: &[u8], at: usize, mark: u8) -> usize
+// The part at `at` that `mark` begins.
+fn marked(src: &[u8], at: usize, mark: u8) -> Part
     requires { ⌜ (at ≤ length (now src)) × (0 < mark) ⌝ }
-    ensures { λ r. ⌜ (r ≡ at + part mark (drop at (now (src .entry)))) × (r ≤ length (now (src .entry))) ⌝ }
+    ensures { λ r. ⌜ (r ≡ partOf mark at (drop at (now (src .entry)))) × (at ≤ r .end) × (r .end ≤ length (now (src .entry))) ⌝ }
 {
     let b = refal_text::byte(src, at);
     if b == mark {
         let next = at + 1;
-        return crate::runs::digits_end(src, next);
+        let end = crate::runs::digits_end(src, next);
+        let bare = end == next;
+        return Part { end, bare };
     }
-    at
+    Part {
+        end: at,
+        bare: false,
+    }
 }
 
-// A number with neither point nor E, from `at` to `end`, whose digits start at `from`.
-fn whole_at(at: usize, from: usize, end: usize, worth: u64) -> Scan
-    requires { ⌜ (at ≤ from) × (from ≤ end) ⌝ }
-    ensures { λ r. ⌜ r ≡ wholeScan at from end worth ⌝ }
+pub fn point(src: &[u8], at: usize) -> Part
+    requires { ⌜ at ≤ length (now src) ⌝ }
+    ensures { λ r. ⌜ (r ≡ pointAt at (now (src .entry))) × (at ≤ r .end) × (r .end ≤ length (now (src .entry))) ⌝ }
 {
-    if at < from {
-        return Scan::Bad { number: 18, end };
+    marked(src, at, b'.')
+}
+
+pub fn exponent(src: &[u8], at: usize) -> Part
+    requires { ⌜ at ≤ length (now src) ⌝ }
+    ensures { λ r. ⌜ (r ≡ exponentAt at (now (src .entry))) × (at ≤ r .end) × (r .end ≤ length (now (src .entry))) ⌝ }
+{
+    marked(src, at, b'E')
+}
+
+// A number with neither point nor E, of n bytes, whose digits start at `from`.
+fn macrodigit(at: usize, from: usize, n: usize, worth: u64) -> Scan
+    requires { ⌜ at + n ≤ 16777216 ⌝ }
+    ensures { λ r. ⌜ r ≡ wholeScan at from n worth ⌝ }
+{
+    let end = at + n;
+    if 0 < from {
+        return Scan::Bad {
+            number: 18,
+            start: at,
+            end,
+        };
     }
     if worth > 4294967295 {
-        return Scan::Bad { number: 19, end };
+        return Scan::Bad {
+            number: 19,
+            start: at,
+            end,
+        };
     }
-    let len = end - at;
     Scan::Token {
-        kind: 5,
+        kind: kind::NUMBER,
         detail: 0,
+        text: at,
+        len: n,
         start: at,
-        len,
         end,
     }
 }
 
-// The number that starts at `at`, whose digits start at `from`.
-pub fn number_at(src: &[u8], at: usize, from: usize) -> Scan
-    requires { ⌜ (at ≤ from) × (from < length (now src)) × (digit (getD (now src) from 0) ≡ true) ⌝ }
-    ensures { λ r. ⌜ (r ≡ numberScan at from (drop from (now (src .entry)))) × Within at (length (now (src .entry))) r ⌝ }
+// The number whose digits start at `from`: 1 behind a sign, else 0.
+pub fn number(src: &[u8], at: usize, from: usize) -> Scan
+    requires { ⌜ (from ≤ length (now src)) × (at + length (now src) ≤ 16777216) ⌝ }
+    ensures { λ r. ⌜ r ≡ numberScan at from (now (src .entry)) ⌝ }
 {
     let d = whole_end(src, from);
-    let a = d.end;
-    let p = part_end(src, a, 46);
-    let bare_point = a + 1;
-    if p == bare_point {
-        return Scan::Bad { number: 16, end: p };
+    let n = d.end;
+    let p = point(src, n);
+    let to = p.end;
+    if p.bare {
+        let stop = at + to;
+        return Scan::Bad {
+            number: 16,
+            start: at,
+            end: stop,
+        };
     }
-    let q = part_end(src, p, 69);
-    let bare_e = p + 1;
-    if q == bare_e {
-        return Scan::Bad { number: 17, end: q };
+    let e = exponent(src, to);
+    let len = e.end;
+    let end = at + len;
+    if e.bare {
+        return Scan::Bad {
+            number: 17,
+            start: at,
+            end,
+        };
     }
-    if q == a {
-        return whole_at(at, from, a, d.worth);
+    if len == n {
+        return macrodigit(at, from, n, d.worth);
     }
-    let len = q - at;
     Scan::Token {
-        kind: 5,
+        kind: kind::NUMBER,
         detail: 0,
-        start: at,
+        text: at,
         len,
-        end: q,
+        start: at,
+        end,
     }
 }

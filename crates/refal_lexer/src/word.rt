@@ -1,89 +1,115 @@
-// Names, variables and directives.
+// Names, variables and directives, each at the front of src, whose offset is `at`.
 ghost use mathlib.Core.Path.{_≡_};
 ghost use mathlib.Core.Bool.{true};
 ghost use Prim.Native.Nat.{_+_, _≤_, _<_};
-ghost use lib.ListN.{length, drop};
-ghost use Rattle.refal_lexer.specs.Classes.{letter};
-ghost use Rattle.refal_lexer.specs.Words.{nameScan, otherScan, indexScan, variableScan, directiveScan, prefix, wordIs, externWord};
+ghost use lib.ListN.{length, drop, getD};
+ghost use Rattle.refal_lexer.specs.Words.{prefix, wordIs, externWord};
+ghost use Rattle.refal_text.specs.Span.{span};
+ghost use Rattle.refal_lexer.specs.Classes.{nameByte};
 ghost use Rattle.refal_lexer.specs.ClassLaws.{Table};
-ghost use Rattle.refal_lexer.specs.Within.{Within};
+ghost use Rattle.refal_lexer.specs.Words.{nameScan, otherScan, indexOf, variableScan, directiveScan};
 use crate::Scan;
+use refal_ast::kinds::token as kind;
 
-// The name that starts at `at`.
-pub fn name_at(src: &[u8], at: usize, table: &[u8]) -> Scan
-    requires { ⌜ (at < length (now src)) × Table (now table) ⌝ }
-    ensures { λ r. ⌜ (r ≡ nameScan at (drop (at + 1) (now (src .entry)))) × Within at (length (now (src .entry))) r ⌝ }
+// How many bytes a name and an index have at most.
+const NAME_MOST: usize = 15;
+
+const INDEX_MOST: usize = 15;
+
+// A name that starts with A to Z.
+pub fn name(src: &[u8], at: usize, table: &[u8]) -> Scan
+    requires { ⌜ (0 < length (now src)) × (at + length (now src) ≤ 16777216) × Table (now table) ⌝ }
+    ensures { λ r. ⌜ r ≡ nameScan at (now (src .entry)) ⌝ }
 {
-    let next = at + 1;
-    let end = crate::runs::name_end(src, next, table);
-    let len = end - at;
-    if len <= 15 {
+    let len = crate::runs::name_end(src, 1, table);
+    let end = at + len;
+    if len <= NAME_MOST {
         return Scan::Token {
-            kind: 3,
+            kind: kind::IDENTIFIER,
             detail: 0,
+            text: at,
+            len,
             start: at,
-            len,
             end,
         };
     }
-    Scan::Bad { number: 15, end }
+    Scan::Bad {
+        number: 15,
+        start: at,
+        end,
+    }
 }
 
-// A name that starts otherwise than with A to Z.
-pub fn other_at(src: &[u8], at: usize, table: &[u8]) -> Scan
-    requires { ⌜ (at < length (now src)) × Table (now table) ⌝ }
-    ensures { λ r. ⌜ (r ≡ otherScan at (drop (at + 1) (now (src .entry)))) × Within at (length (now (src .entry))) r ⌝ }
+// A name that starts otherwise.
+pub fn other(src: &[u8], at: usize, table: &[u8]) -> Scan
+    requires { ⌜ (0 < length (now src)) × (at + length (now src) ≤ 16777216) × Table (now table) ⌝ }
+    ensures { λ r. ⌜ r ≡ otherScan at (now (src .entry)) ⌝ }
 {
-    let next = at + 1;
-    let end = crate::runs::name_end(src, next, table);
-    Scan::Bad { number: 14, end }
+    let all = crate::runs::name_end(src, 1, table);
+    let end = at + all;
+    Scan::Bad {
+        number: 14,
+        start: at,
+        end,
+    }
 }
 
-// The variable of letter b at `at`, whose point is at + 1.
-fn index_at(src: &[u8], at: usize, b: u8, table: &[u8]) -> Scan
-    requires { ⌜ (at + 2 ≤ length (now src)) × Table (now table) ⌝ }
-    ensures { λ r. ⌜ (r ≡ indexScan at b (drop (at + 2) (now (src .entry)))) × Within at (length (now (src .entry))) r ⌝ }
+// The variable of letter b, with a point behind it.
+fn index(src: &[u8], at: usize, b: u8, table: &[u8]) -> Scan
+    requires { ⌜ (2 ≤ length (now src)) × (at + length (now src) ≤ 16777216) × Table (now table) ⌝ }
+    ensures { λ r. ⌜ r ≡ indexOf at b (span nameByte (drop 2 (now (src .entry)))) ⌝ }
 {
-    let start = at + 2;
-    let end = crate::runs::name_end(src, start, table);
-    let len = end - start;
+    let n = crate::runs::name_end(src, 2, table);
+    let len = n - 2;
+    let text = at + 2;
+    let end = at + n;
     if len == 0 {
-        return Scan::Bad { number: 12, end };
+        return Scan::Bad {
+            number: 12,
+            start: at,
+            end: text,
+        };
     }
-    if len <= 15 {
+    if len <= INDEX_MOST {
         return Scan::Token {
-            kind: 4,
+            kind: kind::VARIABLE,
             detail: refal_text::wide(b),
-            start,
+            text,
             len,
+            start: at,
             end,
         };
     }
-    Scan::Bad { number: 13, end }
+    Scan::Bad {
+        number: 13,
+        start: at,
+        end,
+    }
 }
 
-// What s, t or e at `at` starts.
-pub fn variable_at(src: &[u8], at: usize, b: u8, table: &[u8]) -> Scan
-    requires { ⌜ (at < length (now src)) × Table (now table) ⌝ }
-    ensures { λ r. ⌜ (r ≡ variableScan at b (drop (at + 1) (now (src .entry)))) × Within at (length (now (src .entry))) r ⌝ }
+// What the letter b, which is s, t or e, starts.
+pub fn variable(src: &[u8], at: usize, b: u8, table: &[u8]) -> Scan
+    requires { ⌜ (0 < length (now src)) × (at + length (now src) ≤ 16777216) × (b ≡ getD (now src) 0 0) × Table (now table) ⌝ }
+    ensures { λ r. ⌜ r ≡ variableScan at (now (src .entry)) ⌝ }
 {
-    let next = at + 1;
-    let x = refal_text::byte(src, next);
-    if x == 46 {
-        return index_at(src, at, b, table);
+    let x = refal_text::byte(src, 1);
+    if x == b'.' {
+        return index(src, at, b, table);
     }
     let one = crate::class::is_upper(x) | crate::class::is_digit(x);
     if one {
+        let text = at + 1;
         let end = at + 2;
         return Scan::Token {
-            kind: 4,
+            kind: kind::VARIABLE,
             detail: refal_text::wide(b),
-            start: next,
+            text,
             len: 1,
+            start: at,
             end,
         };
     }
-    other_at(src, at, table)
+    other(src, at, table)
 }
 
 // Whether src has the bytes of w at `at`.
@@ -128,33 +154,39 @@ fn is_extern(src: &[u8], at: usize, n: usize) -> bool
     (a | b) | c
 }
 
-// The directive whose `$` stands at `at`.
-pub fn directive_at(src: &[u8], at: usize) -> Scan
-    requires { ⌜ at < length (now src) ⌝ }
-    ensures { λ r. ⌜ (r ≡ directiveScan at (drop (at + 1) (now (src .entry)))) × Within at (length (now (src .entry))) r ⌝ }
+// A directive, whose `$` stands first.
+pub fn directive(src: &[u8], at: usize) -> Scan
+    requires { ⌜ (0 < length (now src)) × (at + length (now src) ≤ 16777216) ⌝ }
+    ensures { λ r. ⌜ r ≡ directiveScan at (now (src .entry)) ⌝ }
 {
-    let next = at + 1;
-    let end = crate::runs::letters_end(src, next);
-    let n = end - next;
-    let entry = is_word(src, next, n, b"ENTRY");
+    let to = crate::runs::letters_end(src, 1);
+    let n = to - 1;
+    let end = at + to;
+    let entry = is_word(src, 1, n, b"ENTRY");
     if entry {
         return Scan::Token {
-            kind: 1,
+            kind: kind::ENTRY,
             detail: 0,
-            start: 0,
+            text: 0,
             len: 0,
+            start: at,
             end,
         };
     }
-    let external = is_extern(src, next, n);
+    let external = is_extern(src, 1, n);
     if external {
         return Scan::Token {
-            kind: 2,
+            kind: kind::EXTERN,
             detail: 0,
-            start: 0,
+            text: 0,
             len: 0,
+            start: at,
             end,
         };
     }
-    Scan::Bad { number: 11, end }
+    Scan::Bad {
+        number: 11,
+        start: at,
+        end,
+    }
 }

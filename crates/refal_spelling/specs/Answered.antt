@@ -14,8 +14,9 @@ use Rattle.refal_ast.specs.Tokens.{flat}
 use Rattle.refal_ast.specs.declared.Answer.{Answer}
 use Rattle.refal_ast.specs.declared.Refusal.{Refusal}
 use Rattle.refal_ast.specs.declared.Answer.the-variants.{Done, Refused}
-use Rattle.refal_lexer.specs.Lex.{Stop, fine, bad, Out, lex, stopped, stopAnswer}
-use Rattle.refal_lexer.specs.Stars.{source}
+use Rattle.refal_lexer.specs.Lex.{Stop, fine, bad, Out, stopped, stopAnswer}
+use Rattle.refal_lexer.specs.Carried.{lexBy}
+use Rattle.refal_lexer.specs.Source.{source}
 use Rattle.refal_lexer.specs.StarLaws.{source-is}
 use Rattle.refal_lexer.specs.Read.{fitted, answerBy, readAnswer, kept, readRows}
 
@@ -23,8 +24,8 @@ use Rattle.refal_lexer.specs.Read.{fitted, answerBy, readAnswer, kept, readRows
 pub record Answered (s : List ℕ) (w n : ℕ) : Type 0 where
   pub short : length s ≤ 16777216
   pub well : length s ≤ wellTo 0 s
-  pub stops : lex 0 0 true s .stop ≡ fine
-  pub count : length (lex 0 0 true s .tokens) ≡ n
+  pub stops : lexBy 0 0 true s .stop ≡ fine
+  pub count : length (lexBy 0 0 true s .tokens) ≡ n
   pub room : n ≤ w / 6
 
 not-done : {A : Type 0} (r : Refusal) (n : ℕ) → Refused r ≡ Done n → A
@@ -33,17 +34,17 @@ not-done r n e = let z : _≡_ {A = ℕ} 0 1 = cc in absurd (omega arith)
 same-done : (k n : ℕ) → Done k ≡ Done n → k ≡ n
 same-done k n e = cc
 
-by-lex : (s : List ℕ) (w : ℕ) → readAnswer s w ≡ answerBy (lex 0 0 true s) s w
+by-lex : (s : List ℕ) (w : ℕ) → readAnswer s w ≡ answerBy (lexBy 0 0 true s) s w
 by-lex s w = ap (λ (o : Out). answerBy o s w) (source-is s)
 
-lexed : (s : List ℕ) (w n : ℕ) → answerBy (lex 0 0 true s) s w ≡ Done n → Answered s w n
+lexed : (s : List ℕ) (w n : ℕ) → answerBy (lexBy 0 0 true s) s w ≡ Done n → Answered s w n
 lexed s w n = long (ltb 16777216 (length s)) refl
   where
     fits : (k : ℕ) (b : Bool) → leb k (w / 6) ≡ b → pick b (Done k) (Refused (refusal 25 0 0 0 0 k)) ≡ Done n → (k ≡ n) × (k ≤ w / 6)
     fits k true e f = (same-done k n f, leb-true _ _ e)
     fits k false e f = not-done _ n f
 
-    stop : (k : ℕ) (x : Stop) → lex 0 0 true s .stop ≡ x → length (lex 0 0 true s .tokens) ≡ k
+    stop : (k : ℕ) (x : Stop) → lexBy 0 0 true s .stop ≡ x → length (lexBy 0 0 true s .tokens) ≡ k
         → fitted (stopped x k) (w / 6) ≡ Done n → length s ≤ 16777216 → length s ≤ wellTo 0 s → Answered s w n
     stop k fine e c f l i =
         let g = fits k (leb k (w / 6)) refl f in
@@ -51,13 +52,13 @@ lexed s w n = long (ltb 16777216 (length s)) refl
     stop k (bad x y z) e c f l i = not-done _ n f
 
     ill : (b : Bool) → ltb (wellTo 0 s) (length s) ≡ b → length s ≤ 16777216
-        → pick b (Refused (refusal 2 0 0 (wellTo 0 s) (wellTo 0 s) 0)) (fitted (stopAnswer (lex 0 0 true s)) (w / 6)) ≡ Done n → Answered s w n
+        → pick b (Refused (refusal 2 0 0 (wellTo 0 s) (wellTo 0 s) 0)) (fitted (stopAnswer (lexBy 0 0 true s)) (w / 6)) ≡ Done n → Answered s w n
     ill true e l f = not-done _ n f
-    ill false e l f = stop (length (lex 0 0 true s .tokens)) (lex 0 0 true s .stop) refl refl f l (ltb-false _ _ e)
+    ill false e l f = stop (length (lexBy 0 0 true s .tokens)) (lexBy 0 0 true s .stop) refl refl f l (ltb-false _ _ e)
 
     long : (b : Bool) → ltb 16777216 (length s) ≡ b
         → pick b (Refused (refusal 1 0 0 0 0 0))
-        (pick (ltb (wellTo 0 s) (length s)) (Refused (refusal 2 0 0 (wellTo 0 s) (wellTo 0 s) 0)) (fitted (stopAnswer (lex 0 0 true s)) (w / 6))) ≡ Done n → Answered s w n
+        (pick (ltb (wellTo 0 s) (length s)) (Refused (refusal 2 0 0 (wellTo 0 s) (wellTo 0 s) 0)) (fitted (stopAnswer (lexBy 0 0 true s)) (w / 6))) ≡ Done n → Answered s w n
     long true e f = not-done _ n f
     long false e f = ill (ltb (wellTo 0 s) (length s)) refl (ltb-false _ _ e) f
 
@@ -70,5 +71,5 @@ answers s w n a =
     by-lex s w ∙ rw (le-ltb _ _ (a .short), le-ltb _ _ (a .well), a .stops, a .count, le-leb _ _ (a .room)) refl
 
 -- the words left: the tokens' rows, and behind them what was there
-pub rows-left : (s m : List ℕ) (n : ℕ) → readAnswer s (length m) ≡ Done n → readRows s m ≡ flat (lex 0 0 true s .tokens) ++ drop (6 * n) m
+pub rows-left : (s m : List ℕ) (n : ℕ) → readAnswer s (length m) ≡ Done n → readRows s m ≡ flat (lexBy 0 0 true s .tokens) ++ drop (6 * n) m
 rows-left s m n e = ap (λ (x : Answer). kept x (source s .tokens) m) e ∙ ap (λ (o : Out). flat (o .tokens) ++ drop (6 * n) m) (source-is s)

@@ -15,10 +15,9 @@ use Rattle.refal_text.specs.Utf8.{decode, char}
 use Rattle.refal_text.specs.declared.Char.{Char}
 use Rattle.refal_ast.specs.Kinds.{tokChar}
 use Rattle.refal_ast.specs.Tokens.{Token, token}
-use Rattle.refal_lexer.specs.Literals.{litChar, litStep, litFrom, charStep, charTokens}
+use Rattle.refal_lexer.specs.Literals.{litChar, Lit, closed, litStep, litFrom, charStep, charTokens}
 use Rattle.refal_lexer.specs.LiteralLaws.{lit-skip, chars-skip}
-use Rattle.refal_lexer.specs.Scans.{scanByte}
-use Rattle.refal_lexer.specs.declared.Scan.the-variants as S
+use Rattle.refal_lexer.specs.Tokens.{Found, found, literalOf, tokenAt}
 use Rattle.refal_spelling.specs.Spell.{body}
 
 -- b ∷ bs is how the character x is written within apostrophes: whatever follows the closing one, it is read as x
@@ -54,11 +53,11 @@ module _ (x b : ℕ) (bs r : List ℕ) (v : BodyIs x b bs) where
   fits : length bs ≤ length (bs ++ (39 ∷ 32 ∷ r))
   fits = rw length-append (omega arith)
 
-  lit-close : (i : ℕ) → litFrom 39 0 i 1 (39 ∷ 32 ∷ r) ≡ S.Literal (i + 1)
+  lit-close : (i : ℕ) → litFrom 39 0 i 1 (39 ∷ 32 ∷ r) ≡ closed 1 (i + 1)
   unfolding litFrom litChar
   lit-close i = refl
 
-  lit-body : (i : ℕ) → litFrom 39 0 i 0 (b ∷ bs ++ (39 ∷ 32 ∷ r)) ≡ S.Literal (suc i + length bs + 1)
+  lit-body : (i : ℕ) → litFrom 39 0 i 0 (b ∷ bs ++ (39 ∷ 32 ∷ r)) ≡ closed 1 (suc i + length bs + 1)
   unfolding litFrom
   lit-body i =
       ap (λ (c : Char). litStep (c .len) i 0 b (λ k. litFrom 39 k (suc i) 1 (bs ++ (39 ∷ 32 ∷ r)))) (v .reads r)
@@ -75,20 +74,18 @@ module _ (x b : ℕ) (bs r : List ℕ) (v : BodyIs x b bs) where
       ∙ ap (λ (ts : List Token). token tokChar x 0 0 from to ∷ ts)
       (chars-skip 39 from to (length bs) (bs ++ (39 ∷ 32 ∷ r)) fits ∙ ap (charTokens 39 from to 0) (drop-append-seam bs (39 ∷ 32 ∷ r)) ∙ chars-close from to)
 
--- what stands behind the opening apostrophe
+-- with the opening apostrophe, at `at`: one token
 abbrev pub Closed : ℕ → List ℕ → Type 0
-Closed x l = (at : ℕ) (line : Bool) (r : List ℕ)
-    → (scanByte at line 39 ((l ++ (39 ∷ [])) ++ (32 ∷ r)) ≡ S.Literal (at + suc (length (l ++ (39 ∷ [])))))
-    × (charTokens 39 at (at + suc (length (l ++ (39 ∷ [])))) 0 ((l ++ (39 ∷ [])) ++ (32 ∷ r)) ≡ token tokChar x 0 0 at (at + suc (length (l ++ (39 ∷ [])))) ∷ [])
+Closed x l = (at : ℕ) (r : List ℕ) → tokenAt at (39 ∷ (l ++ (39 ∷ [])) ++ (32 ∷ r)) ≡ found (token tokChar x 0 0 at (at + suc (length (l ++ (39 ∷ [])))) ∷ []) (at + suc (length (l ++ (39 ∷ []))))
 
 closed-body : (x : ℕ) (l : List ℕ) → BodyOf x l → Closed x l
-closed-body x l (body-of b bs v) at line r =
+closed-body x l (body-of b bs v) at r =
     let e : ((b ∷ bs) ++ (39 ∷ [])) ++ (32 ∷ r) ≡ (b ∷ bs) ++ (39 ∷ 32 ∷ r) = append-assoc (b ∷ bs) (39 ∷ []) (32 ∷ r) in
     let n = length-append (b ∷ bs) (39 ∷ []) in
-    let m : suc (at + 1) + length bs + 1 ≡ at + suc (length ((b ∷ bs) ++ (39 ∷ []))) = omega arith in (
-      ap (litFrom 39 0 (at + 1) 0) e ∙ lit-body x b bs r v (at + 1) ∙ ap S.Literal m,
-      ap (charTokens 39 at (at + suc (length ((b ∷ bs) ++ (39 ∷ [])))) 0) e ∙ chars-body x b bs r v at (at + suc (length ((b ∷ bs) ++ (39 ∷ [])))),
-    )
+    let m : suc 1 + length bs + 1 ≡ suc (length ((b ∷ bs) ++ (39 ∷ []))) = omega arith in
+    ap (λ (s : List ℕ). literalOf at 39 s (litFrom 39 0 1 0 s)) e
+    ∙ ap (literalOf at 39 ((b ∷ bs) ++ (39 ∷ 32 ∷ r))) (lit-body x b bs r v 1 ∙ ap (closed 1) m)
+    ∙ ap (λ (ts : List Token). found ts (at + suc (length ((b ∷ bs) ++ (39 ∷ []))))) (chars-body x b bs r v at (at + suc (length ((b ∷ bs) ++ (39 ∷ [])))))
 
 pub scan-char : (x : ℕ) → Scalar x → (x ≡ 10 → ⊥) → Closed x (body x)
 scan-char x sc n = closed-body x (body x) (body-view x sc n)

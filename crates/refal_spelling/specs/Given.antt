@@ -15,11 +15,12 @@ use Rattle.refal_ast.specs.Limits.{mostBytes}
 use Rattle.refal_ast.specs.Flatten.{flatOf}
 use Rattle.refal_ast.specs.Tokens.{Token, token, words, flat}
 use Rattle.refal_ast.specs.declared.Answer.the-variants.{Done}
-use Rattle.refal_lexer.specs.Lex.{Out, more, eofAt, after, lex}
-use Rattle.refal_lexer.specs.LexLaws.{lex-skip}
+use Rattle.refal_lexer.specs.Lex.{Out, more, eofAt}
+use Rattle.refal_lexer.specs.Carried.{lineAfter, lexBy}
 use Rattle.refal_lexer.specs.Read.{readAnswer, readRows}
-use Rattle.refal_lexer.specs.Scans.{scan}
-use Rattle.refal_lexer.specs.declared.Scan.{Scan}
+use Rattle.refal_lexer.specs.Tokens.{tokenScan}
+use Rattle.refal_lexer.specs.TurnCases.{turn-one}
+use Rattle.refal_lexer.specs.TurnLaws.{lex-skip}
 use Rattle.refal_lexer.specs.declared.Scan.the-variants as S
 use Rattle.refal_spelling.specs.Spell.{spelled, dotted, textAt, spelling}
 use Rattle.refal_spelling.specs.Spells.{spells, spellsIndex}
@@ -102,7 +103,7 @@ member src (x ∷ ts) t us r n = member src ts t us (tail src x (ts ++ (t ∷ us
 given-good : (kind : ℕ) (w : List ℕ) → (kind ≡ tokEof → ⊥) → Gives kind w → ((d : ℕ) × Good (spelled kind d w)) × (length w ≤ mostBytes)
 given-good kind w n g =
     let s : List ℕ = g .source in
-    let ts : List Token = lex 0 0 true s .tokens in
+    let ts : List Token = lexBy 0 0 true s .tokens in
     let a = answered s (length (g .lent)) (g .count) (g .answer) in
     let A = among ts (g .i) (drop (6 * g .count) (g .lent)) (let b = g .below in let c = a .count in omega arith) in
     let e : A .x ≡ g .t = same-token (A .x) (g .t) (sym (A .row) ∙ sym (ap (λ (l : List ℕ). take 6 (drop (6 * g .i) l)) (rows-left s (g .lent) (g .count) (g .answer))) ∙ g .row) in
@@ -120,27 +121,27 @@ given-good kind w n g =
     )
 
 -- ---- a good word is given, by itself or, an index, behind a letter and a point
-lex-alone : (kind d start len : ℕ) (l : List ℕ) → scan 0 true l ≡ S.Token kind d start len (0 + length l) → 1 ≤ length l
-    → lex 0 0 true l ≡ more (token kind d start len 0 (0 + length l)) (eofAt (length l))
-unfolding lex
+lex-alone : (kind d start len : ℕ) (l : List ℕ) → tokenScan 0 l ≡ S.Token kind d start len 0 (0 + length l) → 1 ≤ length l
+    → lexBy 0 0 true l ≡ more (token kind d start len 0 (0 + length l)) (eofAt (length l))
+unfolding lexBy
 lex-alone kind d start len [] e h = absurd (omega arith)
 lex-alone kind d start len (b ∷ s) e h =
     let k : 0 + suc (length s) - suc 0 ≡ length s = omega arith in
     let z : suc 0 + length s ≡ suc (length s) = omega arith in
-    ap (λ (x : Scan). after 0 b s x (λ k l. lex k (suc 0) l s)) e
-    ∙ ap (λ (n : ℕ). more (token kind d start len 0 (0 + suc (length s))) (lex n (suc 0) false s)) k
+    turn-one true 0 b s (λ k. lexBy k (suc 0) (lineAfter b 0 true) s) (λ k. lexBy k (suc 0) false s) (λ k. lexBy k (suc 0) false s) kind d start len 0 (0 + suc (length s)) e
+    ∙ ap (λ (n : ℕ). more (token kind d start len 0 (0 + suc (length s))) (lexBy n (suc 0) false s)) k
     ∙ ap (more (token kind d start len 0 (0 + suc (length s))))
-    (lex-skip (length s) (suc 0) false s (omega arith) ∙ ap (lex 0 (suc 0 + length s) false) (drop-length s) ∙ ap eofAt z)
+    (lex-skip (length s) (suc 0) false s (omega arith) ∙ ap (lexBy 0 (suc 0 + length s) false) (drop-length s) ∙ ap eofAt z)
 
 -- rows for two tokens
 rows12 : List ℕ
 rows12 = 0 ∷ 0 ∷ 0 ∷ 0 ∷ 0 ∷ 0 ∷ 0 ∷ 0 ∷ 0 ∷ 0 ∷ 0 ∷ 0 ∷ []
 
-given-alone : (kind d start len : ℕ) (l w : List ℕ) → scan 0 true (l ++ []) ≡ S.Token kind d start len (0 + length l) → 1 ≤ length l
+given-alone : (kind d start len : ℕ) (l w : List ℕ) → tokenScan 0 (l ++ []) ≡ S.Token kind d start len 0 (0 + length l) → 1 ≤ length l
     → length l ≤ mostBytes → wellTo 0 l ≡ length l → textAt l start len ≡ w → Gives kind w
 unfolding rows12
 given-alone kind d start len l w e some short well text =
-    let o : lex 0 0 true l ≡ more (token kind d start len 0 (0 + length l)) (eofAt (length l)) = lex-alone kind d start len l (ap (scan 0 true) (sym (append-nil l)) ∙ e) some in
+    let o : lexBy 0 0 true l ≡ more (token kind d start len 0 (0 + length l)) (eofAt (length l)) = lex-alone kind d start len l (ap (tokenScan 0) (sym (append-nil l)) ∙ e) some in
     let A : Answered l 12 2 = record { short = short; well = omega arith; stops = ap (λ (x : Out). x .stop) o; count = ap (λ (x : Out). length (x .tokens)) o; room = omega arith } in
     let r : readAnswer l (length rows12) ≡ Done 2 = answers l 12 2 A in
     record {
@@ -159,20 +160,20 @@ given-alone kind d start len l w e some short well text =
 identifier-given : (w : List ℕ) → Good (spelled tokIdentifier 0 w) → Gives tokIdentifier w
 unfolding spelling
 identifier-given w (identifier b s u a h) =
-    given-alone tokIdentifier 0 0 (suc (length s)) (b ∷ s) (b ∷ s) (scan-identifier 0 true b s [] u a h at-end) (omega arith) (omega arith)
+    given-alone tokIdentifier 0 0 (suc (length s)) (b ∷ s) (b ∷ s) (scan-identifier 0 b s [] u a h at-end) (omega arith) (omega arith)
     (token-well (spelled tokIdentifier 0 (b ∷ s)) (identifier b s u a h)) (take-length (b ∷ s))
 identifier-given w (mark k lo hi) = absurd (omega arith)
 
 number-given : (w : List ℕ) → Good (spelled tokNumber 0 w) → length w ≤ mostBytes → Gives tokNumber w
 unfolding spelling
 number-given w (number v n) short =
-    given-alone tokNumber 0 0 (length v) v v (scan-number v n 0 true [] at-end) (number-some v n) short (token-well (spelled tokNumber 0 v) (number v n)) (take-length v)
+    given-alone tokNumber 0 0 (length v) v v (scan-number v n 0 [] at-end) (number-some v n) short (token-well (spelled tokNumber 0 v) (number v n)) (take-length v)
 number-given w (mark k lo hi) short = absurd (omega arith)
 
 index-given : (v : ℕ) (w : List ℕ) → Good (spelled tokVariable v w) → Gives tokVariable w
 unfolding spelling
 index-given v w (variableOf x y u a lo hi) =
-    given-alone tokVariable x 2 (length y) (dotted x y) y (scan-index 0 true x y [] u a lo hi at-end) (omega arith) (omega arith)
+    given-alone tokVariable x 2 (length y) (dotted x y) y (scan-index 0 x y [] u a lo hi at-end) (omega arith) (omega arith)
     (token-well (spelled tokVariable x y) (variableOf x y u a lo hi)) (take-length y)
 index-given v w (mark k lo hi) = absurd (omega arith)
 

@@ -11,7 +11,8 @@ use Rattle.refal_ast.specs.Kinds.{tokEof}
 use Rattle.refal_ast.specs.Check.{scalar, usesText, goodToken, okTokens, wellFormed}
 use Rattle.refal_ast.specs.Tokens.{Token, token, flat, tokensOf, tokens-flat, length-flat}
 use Rattle.refal_ast.specs.Flatten.{flatsOf}
-use Rattle.refal_lexer.specs.Lex.{fine, lex}
+use Rattle.refal_lexer.specs.Lex.{fine}
+use Rattle.refal_lexer.specs.Carried.{lexBy}
 use Rattle.refal_spelling.specs.Spell.{Spelled}
 use Rattle.refal_spelling.specs.Good.{Good, entry, extern, identifier, variableOf, number, character, mark}
 use Rattle.refal_spelling.specs.Sound.{AllSound, sound-more}
@@ -45,11 +46,11 @@ all-pass src [] at a = refl
 all-pass src (t ∷ []) at (sound-more h a) = rw (passes _ (h .good) (t .start) (t .len) (t .from) (t .to) (h .unused)) refl
 all-pass src (t ∷ u ∷ ts) at (sound-more h a) = rw (passes _ (h .good) (t .start) (t .len) (t .from) (t .to) (h .unused)) (all-pass src (u ∷ ts) at a)
 
-pub reads-pass : (src : List ℕ) → lex 0 0 true src .stop ≡ fine → length src ≤ 16777216 → wellFormed (flat (lex 0 0 true src .tokens)) ≡ true
+pub reads-pass : (src : List ℕ) → lexBy 0 0 true src .stop ≡ fine → length src ≤ 16777216 → wellFormed (flat (lexBy 0 0 true src .tokens)) ≡ true
 unfolding wellFormed
 reads-pass src h l =
     let r = reads-sound src h in
-    let ts = lex 0 0 true src .tokens in
+    let ts = lexBy 0 0 true src .tokens in
     let n : length (flat ts) ≡ 6 * length ts = length-flat ts in
     let f : length ts ≤ length src + 1 = few-tokens src in
     let o : okTokens (tokensOf (flat ts)) ≡ true = ap okTokens (tokens-flat ts ∙ r .is) ∙ all-pass src (r .ts) (r .at) (r .sound) in

@@ -13,7 +13,8 @@ use Rattle.refal_ast.specs.Check.{wellFormed}
 use Rattle.refal_ast.specs.Flatten.{flatsOf}
 use Rattle.refal_ast.specs.Tokens.{Token, token, flat, length-flat}
 use Rattle.refal_ast.specs.declared.Answer.the-variants.{Done}
-use Rattle.refal_lexer.specs.Lex.{Out, moreAll, eofAt, lex}
+use Rattle.refal_lexer.specs.Lex.{Out, moreAll, eofAt}
+use Rattle.refal_lexer.specs.Carried.{lexBy}
 use Rattle.refal_lexer.specs.Read.{readAnswer, readRows}
 use Rattle.refal_spelling.specs.Spell.{Spelled, views, text}
 use Rattle.refal_spelling.specs.Good.{AllGood}
@@ -68,7 +69,7 @@ pub reading-gives-good : ReadingGivesGood
 reading-gives-good s m n e =
     let a = answered s (length m) n e in
     let r = reads-sound s (a .stops) in
-    let all = lex 0 0 true s .tokens in
+    let all = lexBy 0 0 true s .tokens in
     let c : length all ≡ length (r .ts) + 1 = ap length (r .is) ∙ length-append (r .ts) _ in
     record {
       ts = r .ts;
@@ -80,10 +81,10 @@ reading-gives-good s m n e =
     }
 
 -- the definition of reading, on the text of good tokens
-pub text-reads : (ts : List Spelled) → AllGood ts → lex 0 0 true (text ts) ≡ moreAll (tokensAt 0 ts) (eofAt (length (text ts)))
-unfolding lex
+pub text-reads : (ts : List Spelled) → AllGood ts → lexBy 0 0 true (text ts) ≡ moreAll (tokensAt 0 ts) (eofAt (length (text ts)))
+unfolding lexBy
 text-reads ts a =
-    ap (lex 0 0 true) (sym (append-nil (text ts)))
+    ap (lexBy 0 0 true) (sym (append-nil (text ts)))
     ∙ reads-text ts a 0 true []
     ∙ ap (λ (k : ℕ). moreAll (tokensAt 0 ts) (eofAt k)) (zero-add (length (text ts)))
 
@@ -98,7 +99,7 @@ length-at (t ∷ ts) at = ap suc (length-at ts _)
 pub text-reads-back : TextReadsBack
 text-reads-back ts a m f =
     let l = text-reads ts a in
-    let c : length (lex 0 0 true (text ts) .tokens) ≡ length ts + 1 = ap (λ (o : Out). length (o .tokens)) l ∙ length-append (tokensAt 0 ts) _ ∙ ap (λ (k : ℕ). k + 1) (length-at ts 0) in
+    let c : length (lexBy 0 0 true (text ts) .tokens) ≡ length ts + 1 = ap (λ (o : Out). length (o .tokens)) l ∙ length-append (tokensAt 0 ts) _ ∙ ap (λ (k : ℕ). k + 1) (length-at ts 0) in
     let w = text-well ts a in
     let i = f .room in
     let g : Answered (text ts) (length m) (length ts + 1) = record {

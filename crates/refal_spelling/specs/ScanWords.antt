@@ -10,13 +10,15 @@ use lib.Dec.{T, eqb, eqb→eq}
 use lib.ListN.{length, length-append}
 use Rattle.refal_rows.specs.Tests.{below, each-below, range-hi}
 use Rattle.refal_ast.specs.Kinds.{tokIdentifier, tokVariable, tokNumber}
-use Rattle.refal_lexer.specs.Classes.{upper, digit, nameByte, variable, classOf}
+use Rattle.refal_lexer.specs.Classes.{upper, digit, nameByte, variable, classOf, cMinus}
+use Rattle.refal_text.specs.Pick.{pick}
+use Rattle.refal_lexer.specs.Words.{otherScan}
 use Rattle.refal_lexer.specs.Numbers.{numberScan}
-use Rattle.refal_lexer.specs.Scans.{scanClass, scanByte, scan}
-use Rattle.refal_lexer.specs.declared.Scan.the-variants.{Token}
+use Rattle.refal_lexer.specs.Tokens.{classScan, tokenScan}
+use Rattle.refal_lexer.specs.declared.Scan.the-variants.{Token, Bad}
 use Rattle.refal_spelling.specs.Good.{Every, also, Sign, unsigned, plus, minus, Number, macrodigit, real}
 use Rattle.refal_spelling.specs.Runs.{Ends, span-ends, span-every}
-use Rattle.refal_spelling.specs.NumberWords.{scan-macrodigit, scan-real}
+use Rattle.refal_spelling.specs.NumberWords.{numberEnds, unsigned-ends, signed-ends, scan-macrodigit, scan-real}
 
 -- ---- the classes of first bytes, computed at each byte
 implies : Bool → Bool → Bool
@@ -57,21 +59,21 @@ class-of-variable : (b : ℕ) → variable b ≡ true → classOf b ≡ 23
 unfolding implies
 class-of-variable b h = class-if variable 23 tt b (variable-low b h) h
 
-by-class : (k at : ℕ) (line : Bool) (b : ℕ) (s : List ℕ) → classOf b ≡ k → scanByte at line b s ≡ scanClass k at line b s
-by-class k at line b s e = ap (λ (c : ℕ). scanClass c at line b s) e
+by-class : (k at b : ℕ) (s : List ℕ) → classOf b ≡ k → tokenScan at (b ∷ s) ≡ classScan k at (b ∷ s)
+by-class k at b s e = ap (λ (c : ℕ). classScan c at (b ∷ s)) e
 
 -- ---- names and indices
-pub scan-identifier : (at : ℕ) (line : Bool) (b : ℕ) (s r : List ℕ) → upper b ≡ true → Every nameByte s → suc (length s) ≤ 15 → Ends r
-    → scanByte at line b (s ++ r) ≡ Token tokIdentifier 0 at (suc (length s)) (at + suc (length s))
-scan-identifier at line b s r u a h e =
-    let k : at + 1 + length s ≡ at + suc (length s) = omega arith in
-    by-class 21 at line b (s ++ r) (class-of-upper b u) ∙ rw (span-every nameByte s r a (span-ends nameByte r refl e), le-leb _ _ h, k) refl
+pub scan-identifier : (at b : ℕ) (s r : List ℕ) → upper b ≡ true → Every nameByte s → suc (length s) ≤ 15 → Ends r
+    → tokenScan at (b ∷ s ++ r) ≡ Token tokIdentifier 0 at (suc (length s)) at (at + suc (length s))
+scan-identifier at b s r u a h e =
+    let k : 1 + length s ≡ suc (length s) = omega arith in
+    by-class 21 at b (s ++ r) (class-of-upper b u) ∙ rw (span-every nameByte s r a (span-ends nameByte r refl e), k, le-leb _ _ h) refl
 
-pub scan-index : (at : ℕ) (line : Bool) (v : ℕ) (w r : List ℕ) → variable v ≡ true → Every nameByte w → 1 ≤ length w → length w ≤ 15 → Ends r
-    → scanByte at line v (46 ∷ w ++ r) ≡ Token tokVariable v (at + 2) (length w) (at + suc (suc (length w)))
-scan-index at line v w r u a lo hi e =
-    let k : at + 2 + length w ≡ at + suc (suc (length w)) = omega arith in
-    by-class 23 at line v (46 ∷ w ++ r) (class-of-variable v u)
+pub scan-index : (at v : ℕ) (w r : List ℕ) → variable v ≡ true → Every nameByte w → 1 ≤ length w → length w ≤ 15 → Ends r
+    → tokenScan at (v ∷ 46 ∷ w ++ r) ≡ Token tokVariable v (at + 2) (length w) at (at + suc (suc (length w)))
+scan-index at v w r u a lo hi e =
+    let k : 2 + length w ≡ suc (suc (length w)) = omega arith in
+    by-class 23 at v (46 ∷ w ++ r) (class-of-variable v u)
     ∙ rw (span-every nameByte w r a (span-ends nameByte r refl e), ne-eqb (length w) 0 (λ z. absurd (omega arith)), le-leb _ _ hi, k) refl
 
 -- ---- numbers
@@ -79,15 +81,15 @@ pub number-some : (w : List ℕ) → Number w → 1 ≤ length w
 number-some w (macrodigit b s d a h) = omega arith
 number-some w (real sign b s ps qs g d a hp hq h) = let l = length-append sign (b ∷ s ++ (ps ++ qs)) in omega arith
 
-sign-scan : (at : ℕ) (line : Bool) (sign : List ℕ) (b : ℕ) (s : List ℕ) → Sign sign → digit b ≡ true → scan at line (sign ++ (b ∷ s)) ≡ numberScan at (at + length sign) (b ∷ s)
-sign-scan at line sign b s unsigned d = by-class 22 at line b s (class-of-digit b d) ∙ ap (λ (k : ℕ). numberScan at k (b ∷ s)) (sym (add-zero at))
-sign-scan at line sign b s plus d = rw d refl
-sign-scan at line sign b s minus d = rw d refl
+sign-scan : (at : ℕ) (sign : List ℕ) (b : ℕ) (s : List ℕ) → Sign sign → digit b ≡ true → tokenScan at (sign ++ (b ∷ s)) ≡ numberEnds at (at + length sign) (b ∷ s)
+sign-scan at sign b s unsigned d = by-class 22 at b s (class-of-digit b d) ∙ unsigned-ends at (b ∷ s) ∙ ap (λ (k : ℕ). numberEnds at k (b ∷ s)) (sym (add-zero at))
+sign-scan at sign b s plus d = ap (λ (t : Bool). pick t (numberScan at 1 (43 ∷ b ∷ s)) (pick (eqb 17 cMinus) (otherScan at (43 ∷ b ∷ s)) (Bad 10 at (at + 1)))) d ∙ signed-ends at 43 (b ∷ s)
+sign-scan at sign b s minus d = ap (λ (t : Bool). pick t (numberScan at 1 (45 ∷ b ∷ s)) (pick (eqb 20 cMinus) (otherScan at (45 ∷ b ∷ s)) (Bad 10 at (at + 1)))) d ∙ signed-ends at 45 (b ∷ s)
 
-pub scan-number : (w : List ℕ) → Number w → (at : ℕ) (line : Bool) (r : List ℕ) → Ends r → scan at line (w ++ r) ≡ Token tokNumber 0 at (length w) (at + length w)
-scan-number w (macrodigit b s d a h) at line r e = by-class 22 at line b (s ++ r) (class-of-digit b d) ∙ scan-macrodigit at (b ∷ s) r (also b s d a) h e
-scan-number w (real sign b s ps qs g d a hp hq h) at line r e =
+pub scan-number : (w : List ℕ) → Number w → (at : ℕ) (r : List ℕ) → Ends r → tokenScan at (w ++ r) ≡ Token tokNumber 0 at (length w) at (at + length w)
+scan-number w (macrodigit b s d a h) at r e = by-class 22 at b (s ++ r) (class-of-digit b d) ∙ unsigned-ends at (b ∷ s ++ r) ∙ scan-macrodigit at (b ∷ s) r (also b s d a) h e
+scan-number w (real sign b s ps qs g d a hp hq h) at r e =
     let l = length-append sign (b ∷ s ++ (ps ++ qs)) in
-    ap (scan at line) (append-assoc sign (b ∷ s ++ (ps ++ qs)) r)
-    ∙ sign-scan at line sign b ((s ++ (ps ++ qs)) ++ r) g d
+    ap (tokenScan at) (append-assoc sign (b ∷ s ++ (ps ++ qs)) r)
+    ∙ sign-scan at sign b ((s ++ (ps ++ qs)) ++ r) g d
     ∙ scan-real at (at + length sign) (length (sign ++ (b ∷ s ++ (ps ++ qs)))) (b ∷ s) ps qs r (also b s d a) hp hq h e (omega arith)

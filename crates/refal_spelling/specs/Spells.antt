@@ -7,20 +7,18 @@ use lib.ListN.{length}
 use Rattle.refal_text.specs.Span.{span}
 use Rattle.refal_ast.specs.Kinds.{tokVariable}
 use Rattle.refal_lexer.specs.Classes.{nameByte}
-use Rattle.refal_lexer.specs.Scans.{scan}
+use Rattle.refal_lexer.specs.Tokens.{tokenScan}
 use Rattle.refal_lexer.specs.declared.Scan.{Scan}
-use Rattle.refal_lexer.specs.declared.Scan.the-variants.{Blank, Token, Literal, Bad}
+use Rattle.refal_lexer.specs.declared.Scan.the-variants.{Token, Bad}
 
 -- what a scan finds is a token of that kind, which ends at `end`
 abbrev pub tokenTo : ℕ → ℕ → Scan → Bool
-tokenTo kind end (Blank e l) = false
-tokenTo kind end (Token k d s n e) = eqb k kind && eqb e end
-tokenTo kind end (Literal e) = false
-tokenTo kind end (Bad n e) = false
+tokenTo kind end (Token k d t n s e) = eqb k kind && eqb e end
+tokenTo kind end (Bad n s e) = false
 
 -- reading gives the word, standing alone, as one token of that kind
 unfoldable pub spells : ℕ → List ℕ → Bool
-spells kind word = tokenTo kind (length word) (scan 0 true word)
+spells kind word = tokenTo kind (length word) (tokenScan 0 word)
 
 -- reading gives the word as the index of a variable, after `s.`
 abbrev pub spellsIndex : List ℕ → Bool

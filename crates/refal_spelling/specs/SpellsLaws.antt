@@ -16,7 +16,7 @@ use Rattle.refal_text.specs.Span.{span}
 use Rattle.refal_ast.specs.Kinds.{tokIdentifier, tokVariable, tokNumber}
 use Rattle.refal_lexer.specs.Classes.{nameByte, variable}
 use Rattle.refal_lexer.specs.Words.{indexOf}
-use Rattle.refal_lexer.specs.Scans.{scan}
+use Rattle.refal_lexer.specs.Tokens.{tokenScan}
 use Rattle.refal_lexer.specs.declared.Scan.{Scan}
 use Rattle.refal_lexer.specs.declared.Scan.the-variants.{Token}
 use Rattle.refal_spelling.specs.Spell.{spelled}
@@ -24,7 +24,7 @@ use Rattle.refal_spelling.specs.Spells.{tokenTo, spells, spellsIndex, is
 use Rattle.refal_spelling.specs.Good.{Every, Good, identifier, variableOf, number, mark}
 use Rattle.refal_spelling.specs.Runs.{at-end, every-span, span-every}
 use Rattle.refal_spelling.specs.ScanWords.{number-some, scan-identifier, scan-number}
-use Rattle.refal_spelling.specs.Sees.{Sees, a-blank, a-bad, a-literal, a-plain, a-word, sees}
+use Rattle.refal_spelling.specs.Sees.{Sees, a-bad, a-plain, a-word, sees}
 
 -- ---- from the test to the good word
 take-all : (w : List ℕ) → take (length w) w ≡ w
@@ -52,9 +52,7 @@ whole b s pre w rest f p n =
     sym (g ∙ ap (λ (l : List ℕ). w ++ l) z ∙ append-nil w)
 
 good-of : (kind b : ℕ) (s : List ℕ) → Worded kind → (r : Scan) → Sees 0 b s r → tokenTo kind (suc (length s)) r ≡ true → Good (spelled kind 0 (b ∷ s))
-good-of kind b s k r a-blank h = no-token h
 good-of kind b s k r a-bad h = no-token h
-good-of kind b s k r (a-literal q e) h = no-token h
 good-of kind b s k r (a-plain {kind = j} {e = e} g) h =
     let i : j ≡ kind = eqb-true _ _ (and-left (eqb j kind) (eqb e (suc (length s))) h) in
     absurd (k .plain (subst (λ (x : ℕ). Good (spelled x 0 [])) i g))
@@ -68,7 +66,7 @@ good-of kind b s k r (a-word {kind = j} {detail = d} {start = st} {len = n} {e =
 spells-worded : (kind : ℕ) → Worded kind → (w : List ℕ) → spells kind w ≡ true → Good (spelled kind 0 w)
 unfolding spells
 spells-worded kind k [] h = no-token h
-spells-worded kind k (b ∷ s) h = good-of kind b s k (scan 0 true (b ∷ s)) (sees 0 true b s) h
+spells-worded kind k (b ∷ s) h = good-of kind b s k (tokenScan 0 (b ∷ s)) (sees 0 b s) h
 
 worded-identifier : Worded tokIdentifier
 worded-identifier = record { plain = no-plain; other = λ e. omega arith; detail = same }
@@ -98,22 +96,22 @@ pub spells-number : (w : List ℕ) → spells tokNumber w ≡ true → Good (spe
 spells-number w h = spells-worded tokNumber worded-number w h
 
 -- ---- and back
-told : (kind d st n m : ℕ) → m ≡ n → tokenTo kind n (Token kind d st n m) ≡ true
+told : (kind d st n m : ℕ) → m ≡ n → tokenTo kind n (Token kind d st n st m) ≡ true
 told kind d st n m e = rw (eq-eqb kind kind refl, eq-eqb m n e) refl
 
 pub identifier-spells : (d : ℕ) (w : List ℕ) → Good (spelled tokIdentifier d w) → spells tokIdentifier w ≡ true
 unfolding spells
 identifier-spells d w (identifier b s u a h) =
-    ap (λ (l : List ℕ). tokenTo tokIdentifier (suc (length s)) (scan 0 true (b ∷ l))) (sym (append-nil s))
-    ∙ ap (tokenTo tokIdentifier (suc (length s))) (scan-identifier 0 true b s [] u a h at-end)
+    ap (λ (l : List ℕ). tokenTo tokIdentifier (suc (length s)) (tokenScan 0 (b ∷ l))) (sym (append-nil s))
+    ∙ ap (tokenTo tokIdentifier (suc (length s))) (scan-identifier 0 b s [] u a h at-end)
     ∙ told tokIdentifier 0 0 (suc (length s)) (0 + suc (length s)) (zero-add _)
 identifier-spells d w (mark k l h) = absurd (omega arith)
 
 pub number-spells : (d : ℕ) (w : List ℕ) → Good (spelled tokNumber d w) → spells tokNumber w ≡ true
 unfolding spells
 number-spells d w (number v h) =
-    ap (λ (l : List ℕ). tokenTo tokNumber (length v) (scan 0 true l)) (sym (append-nil v))
-    ∙ ap (tokenTo tokNumber (length v)) (scan-number v h 0 true [] at-end)
+    ap (λ (l : List ℕ). tokenTo tokNumber (length v) (tokenScan 0 l)) (sym (append-nil v))
+    ∙ ap (tokenTo tokNumber (length v)) (scan-number v h 0 [] at-end)
     ∙ told tokNumber 0 0 (length v) (0 + length v) (zero-add _)
 number-spells d w (mark k l h) = absurd (omega arith)
 
@@ -141,9 +139,9 @@ module _ (n m : ℕ) where
       P : Scan → Type 0
       P r = tokenTo tokVariable (suc (suc m)) r ≡ (leb 1 m && leb m 15) && eqb n m
 
-      here : (t : Bool) → eqb n m ≡ t → (n ≡ 0 → ⊥) → n ≤ 15 → eqb (0 + 2 + n) (suc (suc m)) ≡ (leb 1 m && leb m 15) && eqb n m
-      here true e y i = let f : n ≡ m = eqb-true _ _ e in eq-eqb (0 + 2 + n) (suc (suc m)) (omega arith) ∙ sym (index-yes (omega arith) (omega arith) f)
-      here false e y i = let f : n ≡ m → ⊥ = eqb-false n m e in ne-eqb (0 + 2 + n) (suc (suc m)) (λ z. f (omega arith)) ∙ sym (index-no (λ lo hi g. f g))
+      here : (t : Bool) → eqb n m ≡ t → (n ≡ 0 → ⊥) → n ≤ 15 → eqb (0 + (2 + n)) (suc (suc m)) ≡ (leb 1 m && leb m 15) && eqb n m
+      here true e y i = let f : n ≡ m = eqb-true _ _ e in eq-eqb (0 + (2 + n)) (suc (suc m)) (omega arith) ∙ sym (index-yes (omega arith) (omega arith) f)
+      here false e y i = let f : n ≡ m → ⊥ = eqb-false n m e in ne-eqb (0 + (2 + n)) (suc (suc m)) (λ z. f (omega arith)) ∙ sym (index-no (λ lo hi g. f g))
 
 -- the test after `s.` is the direct one
 pub spells-index : (w : List ℕ) → spellsIndex w ≡ isIndex w

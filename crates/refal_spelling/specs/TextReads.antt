@@ -14,11 +14,14 @@ use Rattle.refal_rows.specs.Tests.{each-below}
 use Rattle.refal_ast.specs.Kinds.{tokEntry, tokExtern, tokIdentifier, tokVariable, tokNumber, tokChar}
 use Rattle.refal_ast.specs.Tokens.{Token, token}
 use Rattle.refal_lexer.specs.Classes.{classOf}
-use Rattle.refal_lexer.specs.Literals.{charTokens}
-use Rattle.refal_lexer.specs.Scans.{scanClass, scanByte, scan}
-use Rattle.refal_lexer.specs.Lex.{Out, more, moreAll, after, lex}
-use Rattle.refal_lexer.specs.LexLaws.{lex-skip}
-use Rattle.refal_lexer.specs.declared.Scan.{Scan}
+use Rattle.refal_text.specs.Utf8.{decode}
+use Rattle.refal_lexer.specs.Tokens.{Found, found, classScan, tokenScan}
+use Rattle.refal_lexer.specs.Tokens.{tokenAt as foundAt}
+use Rattle.refal_lexer.specs.Lex.{Out, more, moreAll}
+use Rattle.refal_lexer.specs.Source.{onFound}
+use Rattle.refal_lexer.specs.Carried.{lineAfter, lexBy}
+use Rattle.refal_lexer.specs.TurnCases.{turn-token, turn-one}
+use Rattle.refal_lexer.specs.TurnLaws.{lex-skip}
 use Rattle.refal_lexer.specs.declared.Scan.the-variants as S
 use Rattle.refal_spelling.specs.Spell.{Spelled, spelled, entrySpelling, externSpelling, body, dotted, markByte, spelling, text}
 use Rattle.refal_spelling.specs.Places.{tokenAt, tokensAt, lineBehind}
@@ -28,39 +31,39 @@ use Rattle.refal_spelling.specs.ScanWords.{number-some, scan-identifier,
 use Rattle.refal_spelling.specs.CharWords.{scan-char}
 
 -- ---- a token with a space behind it
-lex-space : (at : ℕ) (r : List ℕ) → lex 0 at false (32 ∷ r) ≡ lex 0 (at + 1) false r
-unfolding lex
-lex-space at r =
-    let k : at + 1 - suc at ≡ 0 = omega arith in
-    rw (k, add-one) refl
+lex-space : (at : ℕ) (r : List ℕ) → lexBy 0 at false (32 ∷ r) ≡ lexBy 0 (at + 1) false r
+unfolding lexBy decode
+lex-space at r = rw (add-one) refl
 
 -- past a token's other bytes s and the space
-lex-past : (at : ℕ) (s r : List ℕ) → lex (at + suc (length s) - suc at) (suc at) false (s ++ (32 ∷ r)) ≡ lex 0 (at + suc (length s) + 1) false r
+lex-past : (at : ℕ) (s r : List ℕ) → lexBy (at + suc (length s) - suc at) (suc at) false (s ++ (32 ∷ r)) ≡ lexBy 0 (at + suc (length s) + 1) false r
 lex-past at s r =
     let k : at + suc (length s) - suc at ≡ length s = omega arith in
     let j : suc at + length s ≡ at + suc (length s) = omega arith in
     let h : length s ≤ length (s ++ (32 ∷ r)) = rw length-append (omega arith) in
-    ap (λ (n : ℕ). lex n (suc at) false (s ++ (32 ∷ r))) k
+    ap (λ (n : ℕ). lexBy n (suc at) false (s ++ (32 ∷ r))) k
     ∙ lex-skip (length s) (suc at) false (s ++ (32 ∷ r)) h
-    ∙ ap (lex 0 (suc at + length s) false) (drop-append-seam s (32 ∷ r))
-    ∙ ap (λ (n : ℕ). lex 0 n false (32 ∷ r)) j
+    ∙ ap (lexBy 0 (suc at + length s) false) (drop-append-seam s (32 ∷ r))
+    ∙ ap (λ (n : ℕ). lexBy 0 n false (32 ∷ r)) j
     ∙ lex-space (at + suc (length s)) r
 
-lex-token : (at : ℕ) (line : Bool) (kind detail start len : ℕ) (l r : List ℕ) → scan at line (l ++ (32 ∷ r)) ≡ S.Token kind detail start len (at + length l) → 1 ≤ length l
-    → lex 0 at line (l ++ (32 ∷ r)) ≡ more (token kind detail start len at (at + length l)) (lex 0 (at + length l + 1) false r)
-unfolding lex
+lex-token : (at : ℕ) (line : Bool) (kind detail start len : ℕ) (l r : List ℕ) → tokenScan at (l ++ (32 ∷ r)) ≡ S.Token kind detail start len at (at + length l) → 1 ≤ length l
+    → lexBy 0 at line (l ++ (32 ∷ r)) ≡ more (token kind detail start len at (at + length l)) (lexBy 0 (at + length l + 1) false r)
+unfolding lexBy
 lex-token at line kind detail start len [] r e h = absurd (omega arith)
 lex-token at line kind detail start len (b ∷ s) r e h =
-    ap (λ (x : Scan). after at b (s ++ (32 ∷ r)) x (λ k l. lex k (suc at) l (s ++ (32 ∷ r)))) e
+    turn-one line at b (s ++ (32 ∷ r)) (λ k. lexBy k (suc at) (lineAfter b at line) (s ++ (32 ∷ r))) (λ k. lexBy k (suc at) false (s ++ (32 ∷ r))) (λ k. lexBy k (suc at) false (s ++ (32 ∷ r)))
+    kind detail start len at (at + suc (length s)) e
     ∙ ap (more (token kind detail start len at (at + suc (length s)))) (lex-past at s r)
 
-lex-literal : (at : ℕ) (line : Bool) (t : Token) (s r : List ℕ) → scanByte at line 39 (s ++ (32 ∷ r)) ≡ S.Literal (at + suc (length s))
-    → charTokens 39 at (at + suc (length s)) 0 (s ++ (32 ∷ r)) ≡ t ∷ []
-    → lex 0 at line (39 ∷ s ++ (32 ∷ r)) ≡ more t (lex 0 (at + suc (length s) + 1) false r)
-unfolding lex
-lex-literal at line t s r e f =
-    ap (λ (x : Scan). after at 39 (s ++ (32 ∷ r)) x (λ k l. lex k (suc at) l (s ++ (32 ∷ r)))) e
-    ∙ ap₂ moreAll f (lex-past at s r)
+lex-literal : (at : ℕ) (line : Bool) (t : Token) (s r : List ℕ) → foundAt at (39 ∷ s ++ (32 ∷ r)) ≡ found (t ∷ []) (at + suc (length s))
+    → lexBy 0 at line (39 ∷ s ++ (32 ∷ r)) ≡ more t (lexBy 0 (at + suc (length s) + 1) false r)
+unfolding lexBy
+lex-literal at line t s r e =
+    turn-token line at 39 (s ++ (32 ∷ r)) (λ k. lexBy k (suc at) (lineAfter 39 at line) (s ++ (32 ∷ r))) (λ k. lexBy k (suc at) false (s ++ (32 ∷ r))) (λ k. lexBy k (suc at) false (s ++ (32 ∷ r)))
+    3 refl (omega arith) (λ z. omega arith) (λ z. omega arith) (λ z. omega arith)
+    ∙ ap (λ (x : Found). onFound at x (λ k. lexBy k (suc at) false (s ++ (32 ∷ r)))) e
+    ∙ ap (more t) (lex-past at s r)
 
 -- ---- the marks
 pub mark-not : (k j : ℕ) → 7 ≤ k → j < 7 → eqb k j ≡ false
@@ -87,22 +90,22 @@ unfolding tokenAt
 mark-token at k lo =
     rw (mark-spelling k lo, mark-not k 3 lo (omega arith), mark-not k 4 lo (omega arith), mark-not k 5 lo (omega arith)) refl
 
-mark-scan : (at : ℕ) (line : Bool) (k : ℕ) (r : List ℕ) → 7 ≤ k → k ≤ 16 → scan at line (markByte k ∷ r) ≡ S.Token k 0 0 0 (at + 1)
-mark-scan at line k r lo hi = ap (λ (c : ℕ). scanClass c at line (markByte k) r) (mark-class k lo hi) ∙ rw (le-leb _ _ lo, le-leb _ _ hi) refl
+mark-scan : (at k : ℕ) (r : List ℕ) → 7 ≤ k → k ≤ 16 → tokenScan at (markByte k ∷ r) ≡ S.Token k 0 0 0 at (at + 1)
+mark-scan at k r lo hi = ap (λ (c : ℕ). classScan c at (markByte k ∷ r)) (mark-class k lo hi) ∙ rw (le-leb _ _ lo, le-leb _ _ hi) refl
 
 -- ---- a good token: whatever `line` is
 pub reads-one : (t : Spelled) → Good t → (at : ℕ) (line : Bool) (r : List ℕ)
-    → lex 0 at line (spelling t ++ (32 ∷ r)) ≡ more (tokenAt at t) (lex 0 (at + length (spelling t) + 1) false r)
+    → lexBy 0 at line (spelling t ++ (32 ∷ r)) ≡ more (tokenAt at t) (lexBy 0 (at + length (spelling t) + 1) false r)
 unfolding spelling tokenAt
-reads-one t entry at line r = lex-token at line tokEntry 0 0 0 entrySpelling r (ap (S.Token tokEntry 0 0 0) (omega arith)) (omega arith)
-reads-one t extern at line r = lex-token at line tokExtern 0 0 0 externSpelling r (ap (S.Token tokExtern 0 0 0) (omega arith)) (omega arith)
-reads-one t (identifier b s u a h) at line r = lex-token at line tokIdentifier 0 at (suc (length s)) (b ∷ s) r (scan-identifier at line b s (32 ∷ r) u a h (at-space r)) (omega arith)
-reads-one t (variableOf v w u a lo hi) at line r = lex-token at line tokVariable v (at + 2) (length w) (dotted v w) r (scan-index at line v w (32 ∷ r) u a lo hi (at-space r)) (omega arith)
-reads-one t (number w h) at line r = lex-token at line tokNumber 0 at (length w) w r (scan-number w h at line (32 ∷ r) (at-space r)) (number-some w h)
-reads-one t (character x sc n) at line r = let c = scan-char x sc n at line r in lex-literal at line (token tokChar x 0 0 at (at + suc (length (body x ++ (39 ∷ []))))) (body x ++ (39 ∷ [])) r (c .0) (c .1)
+reads-one t entry at line r = lex-token at line tokEntry 0 0 0 entrySpelling r (ap (S.Token tokEntry 0 0 0 at) (omega arith)) (omega arith)
+reads-one t extern at line r = lex-token at line tokExtern 0 0 0 externSpelling r (ap (S.Token tokExtern 0 0 0 at) (omega arith)) (omega arith)
+reads-one t (identifier b s u a h) at line r = lex-token at line tokIdentifier 0 at (suc (length s)) (b ∷ s) r (scan-identifier at b s (32 ∷ r) u a h (at-space r)) (omega arith)
+reads-one t (variableOf v w u a lo hi) at line r = lex-token at line tokVariable v (at + 2) (length w) (dotted v w) r (scan-index at v w (32 ∷ r) u a lo hi (at-space r)) (omega arith)
+reads-one t (number w h) at line r = lex-token at line tokNumber 0 at (length w) w r (scan-number w h at (32 ∷ r) (at-space r)) (number-some w h)
+reads-one t (character x sc n) at line r = lex-literal at line (token tokChar x 0 0 at (at + suc (length (body x ++ (39 ∷ []))))) (body x ++ (39 ∷ [])) r (scan-char x sc n at r)
 reads-one t (mark k lo hi) at line r =
-    subst (λ (l : List ℕ). lex 0 at line (l ++ (32 ∷ r)) ≡ more (tokenAt at (spelled k 0 [])) (lex 0 (at + length l + 1) false r)) (sym (mark-spelling k lo))
-    (lex-token at line k 0 0 0 (markByte k ∷ []) r (mark-scan at line k (32 ∷ r) lo hi) (omega arith) ∙ ap (λ (x : Token). more x (lex 0 (at + 1 + 1) false r)) (sym (mark-token at k lo)))
+    subst (λ (l : List ℕ). lexBy 0 at line (l ++ (32 ∷ r)) ≡ more (tokenAt at (spelled k 0 [])) (lexBy 0 (at + length l + 1) false r)) (sym (mark-spelling k lo))
+    (lex-token at line k 0 0 0 (markByte k ∷ []) r (mark-scan at k (32 ∷ r) lo hi) (omega arith) ∙ ap (λ (x : Token). more x (lexBy 0 (at + 1 + 1) false r)) (sym (mark-token at k lo)))
 
 -- ---- a list of good tokens
 more-all : (t : Token) (ts : List Token) (o : Out) → more t (moreAll ts o) ≡ moreAll (t ∷ ts) o
@@ -121,12 +124,12 @@ line-behind [] = refl
 line-behind (t ∷ ts) = refl
 
 pub reads-text : (ts : List Spelled) → AllGood ts → (at : ℕ) (line : Bool) (r : List ℕ)
-    → lex 0 at line (text ts ++ r) ≡ moreAll (tokensAt at ts) (lex 0 (at + length (text ts)) (lineBehind ts line) r)
+    → lexBy 0 at line (text ts ++ r) ≡ moreAll (tokensAt at ts) (lexBy 0 (at + length (text ts)) (lineBehind ts line) r)
 unfolding text tokensAt
-reads-text ts no-more at line r = ap (λ (n : ℕ). lex 0 n line r) (sym (add-zero at))
+reads-text ts no-more at line r = ap (λ (n : ℕ). lexBy 0 n line r) (sym (add-zero at))
 reads-text ts (and-more {t = t} {ts = us} g a) at line r =
     let e : at + length (spelling t) + 1 + length (text us) ≡ at + length (text (t ∷ us)) = omega (arith, text-length t us) in
-    ap (lex 0 at line) (spaced t us r)
+    ap (lexBy 0 at line) (spaced t us r)
     ∙ reads-one t g at line (text us ++ r)
     ∙ ap (more (tokenAt at t)) (reads-text us a (at + length (spelling t) + 1) false r)
-    ∙ ap₂ (λ (n : ℕ) (l : Bool). moreAll (tokensAt at (t ∷ us)) (lex 0 n l r)) e (line-behind us)
+    ∙ ap₂ (λ (n : ℕ) (l : Bool). moreAll (tokensAt at (t ∷ us)) (lexBy 0 n l r)) e (line-behind us)

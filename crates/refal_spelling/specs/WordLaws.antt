@@ -16,7 +16,9 @@ use Rattle.refal_ast.specs.Kinds.{tokIdentifier, tokNumber}
 use Rattle.refal_lexer.specs.Classes.{nameByte, digit, upper, classOf}
 use Rattle.refal_lexer.specs.BlankLaws.{nonzero-in}
 use Rattle.refal_lexer.specs.Numbers.{wholeScan, numberScan}
-use Rattle.refal_lexer.specs.Scans.{scan}
+use Rattle.refal_lexer.specs.Tokens.{tokenScan}
+use Rattle.refal_lexer.specs.declared.Scan.{Scan}
+use Rattle.refal_lexer.specs.declared.Scan.the-variants.{Token}
 use Rattle.refal_spelling.specs.Spell.{spelled}
 use Rattle.refal_spelling.specs.Spells.{tokenTo, spells, spellsIndex}
 use Rattle.refal_spelling.specs.SpellsLaws.{spells-identifier, identifier-spells, spells-number, spells-index}
@@ -76,9 +78,13 @@ index-same w end e = ap (λ (k : ℕ). (leb 1 (length w) && leb (length w) 15) &
 
 -- ---- numbers
 whole-pick : (n from a v : ℕ) (b : Bool) → leb v 4294967295 ≡ b → tokenTo tokNumber n (wholeScan 0 from a v) ≡ (eqb from 0 && b) && eqb a n
-whole-pick n zero a v true e = rw e refl
+whole-pick n zero a v true e = rw (e, zero-add a) refl
 whole-pick n zero a v false e = rw e refl
 whole-pick n (suc from) a v b e = rw (lt-ltb 0 (suc from) (omega arith), ne-eqb (suc from) 0 (omega arith)) refl
+
+-- a number with a point or an E
+pub real-same : (n len : ℕ) (s : List ℕ) (from : ℕ) → Token 5 0 0 len 0 (0 + len) ≡ numberScan 0 from s → eqb len n ≡ tokenTo tokNumber n (numberScan 0 from s)
+real-same n len s from e = ap (λ (k : ℕ). eqb k n) (sym (zero-add len)) ∙ ap (tokenTo tokNumber n) e
 
 -- a number with neither point nor E
 pub whole-same : (n from a v : ℕ) (s : List ℕ) → wholeScan 0 from a v ≡ numberScan 0 from s → (eqb from 0 && leb v 4294967295) && eqb a n ≡ tokenTo tokNumber n (numberScan 0 from s)
@@ -96,12 +102,12 @@ unfolding spells
 digit-first [] h = absurd (differ h refl)
 digit-first (b ∷ s) h = sym (rw (class-of-digit b h) refl)
 
-pub sign-first : (w : List ℕ) → eqb (getD w 0 0) 43 || eqb (getD w 0 0) 45 ≡ true → digit (getD w 1 0) ≡ true → tokenTo tokNumber (length w) (numberScan 0 1 (drop 1 w)) ≡ spells tokNumber w
+pub sign-first : (w : List ℕ) → eqb (getD w 0 0) 43 || eqb (getD w 0 0) 45 ≡ true → digit (getD w 1 0) ≡ true → tokenTo tokNumber (length w) (numberScan 0 1 w) ≡ spells tokNumber w
 unfolding spells
 sign-first [] h d = absurd (differ h refl)
 sign-first (b ∷ s) h d = go (eqb b 43) refl
   where
-    go : (t : Bool) → eqb b 43 ≡ t → tokenTo tokNumber (suc (length s)) (numberScan 0 1 s) ≡ tokenTo tokNumber (suc (length s)) (scan 0 true (b ∷ s))
+    go : (t : Bool) → eqb b 43 ≡ t → tokenTo tokNumber (suc (length s)) (numberScan 0 1 (b ∷ s)) ≡ tokenTo tokNumber (suc (length s)) (tokenScan 0 (b ∷ s))
     go true e = let z : b ≡ 43 = eqb-true _ _ e in rw z (sym (rw d refl))
     go false e = let z : b ≡ 45 = eqb-true _ _ (sym (ap (λ (x : Bool). x || eqb b 45) e) ∙ h) in rw z (sym (rw d refl))
 

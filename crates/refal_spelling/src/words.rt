@@ -6,8 +6,7 @@ ghost use lib.ListN.{length, drop, getD};
 ghost use Rattle.refal_text.specs.Span.{span};
 ghost use Rattle.refal_ast.specs.Kinds.{tokIdentifier, tokNumber};
 ghost use Rattle.refal_lexer.specs.Classes.{nameByte, digit, upper};
-ghost use Rattle.refal_lexer.specs.Numbers.{part, numberScan};
-ghost use Rattle.refal_lexer.specs.NumberLaws.{worth, digitStep};
+ghost use Rattle.refal_lexer.specs.Numbers.{numberScan};
 ghost use Rattle.refal_spelling.specs.Spells.{tokenTo, spells, spellsIndex};
 
 fn is_name_byte(b: u8) -> bool
@@ -71,81 +70,27 @@ pub fn is_index(word: &[u8]) -> bool
     ((1 <= n) & (n <= 15)) & (end == n)
 }
 
-// Where a run of digits ends, and what it is worth, or some number above 4294967295 where it is worth more.
-struct Whole {
-    end: usize,
-    worth: u64,
-}
-
-fn wide(b: u8) -> u64
-    ensures { λ r. ⌜ r ≡ b ⌝ }
-{
-    b as u64
-}
-
-fn add_digit(v: u64, b: u8) -> u64
-    requires { ⌜ 48 ≤ b ⌝ }
-    ensures { λ r. ⌜ r ≡ digitStep v b ⌝ }
-{
-    if v <= 4294967295 {
-        v * 10 + (wide(b) - 48)
-    } else {
-        v
-    }
-}
-
-fn whole_end(word: &[u8], at: usize) -> Whole
-    requires { ⌜ at ≤ length (now word) ⌝ }
-    ensures { λ r. ⌜ (r .end ≡ at + span digit (drop at (now (word .entry)))) × (r .end ≤ length (now (word .entry))) × (r .worth ≡ worth 0 (drop at (now (word .entry)))) ⌝ }
-{
-    let mut i = at;
-    let mut v = 0u64;
-    while i < word.len() {
-        let b = word[i];
-        if !is_digit(b) {
-            return Whole { end: i, worth: v };
-        }
-        v = add_digit(v, b);
-        i += 1;
-    }
-    Whole { end: i, worth: v }
-}
-
-// Where the part that `mark` begins ends: at itself if there is none.
-fn part_end(word: &[u8], at: usize, mark: u8) -> usize
-    requires { ⌜ (at ≤ length (now word)) × (0 < mark) ⌝ }
-    ensures { λ r. ⌜ (r ≡ at + part mark (drop at (now (word .entry)))) × (r ≤ length (now (word .entry))) ⌝ }
-{
-    let b = refal_text::byte(word, at);
-    if b == mark {
-        let next = at + 1;
-        let w = whole_end(word, next);
-        return w.end;
-    }
-    at
-}
-
-// A number whose digits start at `from`: behind a sign where that is 1.
+// A number whose digits start at `from`: behind a sign where that is 1. Its parts are those that reading scans.
 fn is_number_from(word: &[u8], from: usize) -> bool
     requires { ⌜ from < length (now word) ⌝ }
-    ensures { λ r. ⌜ r ≡ tokenTo tokNumber (length (now (word .entry))) (numberScan 0 from (drop from (now (word .entry)))) ⌝ }
+    ensures { λ r. ⌜ r ≡ tokenTo tokNumber (length (now (word .entry))) (numberScan 0 from (now (word .entry))) ⌝ }
 {
-    let d = whole_end(word, from);
-    let a = d.end;
-    let p = part_end(word, a, 46);
-    let point = a + 1;
-    if p == point {
+    let d = refal_lexer::number::whole_end(word, from);
+    let n = d.end;
+    let p = refal_lexer::number::point(word, n);
+    if p.bare {
         return false;
     }
-    let q = part_end(word, p, 69);
-    let mark = p + 1;
-    if q == mark {
+    let to = p.end;
+    let e = refal_lexer::number::exponent(word, to);
+    if e.bare {
         return false;
     }
-    if q == a {
-        return ((from == 0) & (d.worth <= 4294967295)) & (a == word.len());
+    let len = e.end;
+    if len == n {
+        return ((from == 0) & (d.worth <= 4294967295)) & (n == word.len());
     }
-    q == word.len()
+    len == word.len()
 }
 
 // A Number: digits, or a sign before a digit, then a point's part and an E's part.

@@ -1,0 +1,28 @@
+use native.Mathlib.Omega.{arith}
+use mathlib.Core.Path.{sym, _∙_}
+use Rattle.refal_lexer.specs.BlankLaws.{nonzero-in}
+use Rattle.refal_lexer.specs.NumberLaws.{part-here, part-none}
+use borrow.Author.Needs.{needs}
+use Rattle.refal_lexer.proofs.number.marked.Statement.{statement}
+use Rattle.refal_lexer.proofs.number.marked.Tie as tie
+use Rattle.refal_lexer.proofs.number.marked.Reads as reads
+use Rattle.refal_lexer.proofs.number.marked.Lts as lts
+
+byte-requires : tie.Need-byte-requires
+byte-requires c κs = search needs
+
+add-next : tie.Need-add-next
+add-next c = search needs
+
+digits-end-requires : tie.Need-digits-end-requires
+digits-end-requires c κs = let a = c .before .before .before .args in let l = nonzero-in (a .src .now) (a .at) (λ y. omega arith) in omega arith
+
+returns : tie.Need-returns
+returns c = let a = c .before .before .before .before .args in let l = nonzero-in (a .src .now) (a .at) (λ y. omega arith) in
+    (part-here (a .mark) (a .src .now) (a .at) _ _ l (sym (c .before .before .byte .ensures) ∙ c .before .if1 .taken) (c .digits-end .ensures .0) (search needs), omega arith, c .digits-end .ensures .1)
+
+returns-2 : tie.Need-returns-2
+returns-2 c = let a = c .before .before .before .args in (part-none (a .mark) (a .src .now) (a .at) (λ y. c .if1 .left (c .before .byte .ensures ∙ y)), omega arith, omega arith)
+
+pub marked-spec : {M : Type 1} → statement M
+marked-spec = tie.close (tie.spec byte-requires add-next digits-end-requires returns returns-2)
