@@ -14,7 +14,6 @@ use Rattle.refal_parser.proofs.Rows.{size-block-condition, size-terms-c
 use Rattle.refal_parser.proofs.Steps.{is-at, is-no, other, leveled, moved, open-none, open-some, cond-start, cond-equals, match-block, match-terms}
 use Rattle.refal_parser.proofs.Steps.{end-terms, end-start, end-block, end-unopened, end-closed, end-unclosed, block-close, block-eof, block-more}
 use borrow.Author.Needs.{needs}
-use Prim.Native.Nat.{ℕ, _<_}
 use borrow.Fn.Kinds.{In}
 use borrow.Fn.PlainCycle.{Measures, is, falls, and}
 use Rattle.refal_parser.proofs.block.block.Reads as block
@@ -30,9 +29,9 @@ use Rattle.refal_parser.proofs.block.sentence.Reads as sentence
 use Rattle.refal_parser.proofs.block.sentence.Kinds as sentence-kinds
 use Rattle.refal_parser.proofs.block.+block+condition+ending+sentence.Lts-sentence as sentence-lts
 use Rattle.refal_parser.proofs.answers.present.Reads as present-reads
-use Rattle.refal_parser.proofs.block.joins.Reads as joins-reads
 use Rattle.refal_parser.proofs.nodes.put_span.Reads as put-span-reads
 use Rattle.refal_parser.proofs.terms.clause.Reads as clause-reads
+use Rattle.refal_parser.proofs.terms.follows.Reads as follows-reads
 use Rattle.refal_parser.proofs.terms.pattern.Reads as pattern-reads
 use Rattle.refal_parser.proofs.tokens.end_before.Reads as end-before-reads
 use Rattle.refal_parser.proofs.tokens.kind.Reads as kind-reads
@@ -82,7 +81,7 @@ abbrev block-claims : ℕ → block-lts.Claims
 block-claims t = (present-reads.Asked, present-reads.Learnt, kind-reads.Asked, kind-reads.Learnt, sentence-below t, sentence.Post)
 
 abbrev condition-claims : ℕ → condition-lts.Claims
-condition-claims t = (span-from-reads.Asked, span-from-reads.Learnt, clause-reads.Asked, clause-reads.Learnt, kind-reads.Asked, kind-reads.Learnt, block-below t, block.Post, end-before-reads.Asked, end-before-reads.Learnt, put-span-reads.Asked, put-span-reads.Learnt, joins-reads.Asked, joins-reads.Learnt, pattern-reads.Asked, pattern-reads.Learnt)
+condition-claims t = (span-from-reads.Asked, span-from-reads.Learnt, clause-reads.Asked, clause-reads.Learnt, kind-reads.Asked, kind-reads.Learnt, block-below t, block.Post, end-before-reads.Asked, end-before-reads.Learnt, put-span-reads.Asked, put-span-reads.Learnt, follows-reads.Asked, follows-reads.Learnt, pattern-reads.Asked, pattern-reads.Learnt)
 
 abbrev ending-claims : ℕ → ending-lts.Claims
 ending-claims t = (kind-reads.Asked, kind-reads.Learnt, clause-reads.Asked, clause-reads.Learnt, span-from-reads.Asked, span-from-reads.Learnt, present-reads.Asked, present-reads.Learnt, block-below t, block.Post, end-before-reads.Asked, end-before-reads.Learnt, put-span-reads.Asked, put-span-reads.Learnt)
@@ -205,6 +204,10 @@ condition-add-start : (t : ℕ) → condition-lts.Need-add-start (condition-clai
 condition-add-start t c = let pre₀ = c .before .before .pre .1 in
     let R = pre₀ .0 in let h = pre₀ .1 in omega arith
 
+condition-span-from-requires : (t : ℕ) → condition-lts.Need-span-from-requires (condition-claims t) (condition-at t) condition.Post
+condition-span-from-requires t c κs = let pre₀ = c .before .before .pre .1 in
+    (ready-next _ _ (pre₀ .0) (other _ _ _ (pre₀ .2) refl))
+
 condition-add-first : (t : ℕ) → condition-lts.Need-add-first (condition-claims t) (condition-at t) condition.Post
 condition-add-first t c = let pre₀ = c .before .before .before .pre .1 in
     let R = pre₀ .0 in let h = pre₀ .1 in omega arith
@@ -269,10 +272,6 @@ condition-returns-2 t c = let w = c .before .before .before .before .before .bef
     ∙ match-block _ _ (K .closed .ready) _ b r (getD w (at₀ + 6 + 4) 0) (asked (K .g) (K .closed .a) (K .closed .e)) k₇ p
     ∙ c .before .before .before .before .block .ensures .no _ _ _ _ _ (c .enum-told2 .given .1) (inCondition b r (getD w (at₀ + 6 + 4) 0) (asked (K .g) (K .closed .a) (K .closed .e))) p)
 
-condition-span-from-requires : (t : ℕ) → condition-lts.Need-span-from-requires (condition-claims t) (condition-at t) condition.Post
-condition-span-from-requires t c κs = let pre₀ = c .before .before .pre .1 in
-    (ready-next _ _ (pre₀ .0) (other _ _ _ (pre₀ .2) refl))
-
 condition-end-before-requires : (t : ℕ) → condition-lts.Need-end-before-requires (condition-claims t) (condition-at t) condition.Post
 condition-end-before-requires t c κs = let B = c .before .before .before .before .before .block .ensures .at _ _ (c .before .r2 .given .1) in
     let Z = B .ready in let q = B .on in let v = B .few in (B .ready, omega arith)
@@ -283,17 +282,13 @@ condition-put-span-requires t c κs = let K = c .before .before .before .before 
     let R = K .closed .ready in
     let o = K .closed .on in let v₁ = K .few in let Z = B .ready in let q = B .on in let v = B .few in (omega arith, omega arith)
 
-condition-end-before-requires-2 : (t : ℕ) → condition-lts.Need-end-before-requires-2 (condition-claims t) (condition-at t) condition.Post
-condition-end-before-requires-2 t c κs = let K = c .before .before .before .before .before .before .before .before .before .before .before .before .before .before .clause .ensures .at _ _ (c .before .before .before .before .before .before .before .before .before .before .r .given .1) in
-    let Q = c .before .before .before .before .before .pattern .ensures .at _ _ (c .before .r3 .given .1) in let o = K .closed .on in let q = Q .on in (Q .ready, omega arith)
-
 condition-put-span-requires-2 : (t : ℕ) → condition-lts.Need-put-span-requires-2 (condition-claims t) (condition-at t) condition.Post
 condition-put-span-requires-2 t c κs = let pre₀ = c .before .before .before .before .before .before .before .before .before .before .before .before .before .before .before .before .before .before .before .before .before .before .before .before .before .pre .1 in
     let B = c .before .before .before .before .before .before .before .before .before .before .before .block .ensures .at _ _ (c .before .before .before .before .before .before .before .r2 .given .1) in
     let Z = B .ready in let q = B .on in let v = B .few in let h = pre₀ .1 in let g = pre₀ .0 in (omega arith, omega arith)
 
-condition-joins-requires : (t : ℕ) → condition-lts.Need-joins-requires (condition-claims t) (condition-at t) condition.Post
-condition-joins-requires t c κs = let B = c .before .before .before .before .before .before .before .before .before .before .before .before .before .before .block .ensures .at _ _ (c .before .before .before .before .before .before .before .before .before .before .r2 .given .1) in B .ready
+condition-follows-requires : (t : ℕ) → condition-lts.Need-follows-requires (condition-claims t) (condition-at t) condition.Post
+condition-follows-requires t c κs = let B = c .before .before .before .before .before .before .before .before .before .before .before .before .before .before .block .ensures .at _ _ (c .before .before .before .before .before .before .before .before .before .before .r2 .given .1) in B .ready
 
 condition-same-length-3 : (t : ℕ) → condition-lts.Need-same-length-3 (condition-claims t) (condition-at t) condition.Post
 condition-same-length-3 t c = c .before .before .before .put-span2 .kept .0
@@ -315,7 +310,7 @@ condition-returns-3 t c = let w = c .before .before .before .before .before .bef
     let k₇ : getD w j₁ 0 ≡ 7 = sym (c .before .before .before .before .before .before .before .before .before .before .before .before .before .before .before .before .before .before .kind .ensures) ∙ c .before .before .before .before .before .before .before .before .before .before .before .before .before .before .before .before .before .if1 .taken in
     record {
       at = λ j m e.
-          let N = c .joins .ensures .at j m e in
+          let N = c .follows .ensures .at j m e in
           record {
             x = toBlock (getD w (at₀ + 6 + 4) 0) (asked (K .g) (K .closed .a) (K .closed .e)) (B .v) (B .e);
             ready = N .ready;
@@ -337,7 +332,7 @@ condition-returns-3 t c = let w = c .before .before .before .before .before .bef
           ∙ match-block _ _ (K .closed .ready) _ b r (getD w (at₀ + 6 + 4) 0) (asked (K .g) (K .closed .a) (K .closed .e)) k₇ p
           ∙ B .means (inCondition b r (getD w (at₀ + 6 + 4) 0) (asked (K .g) (K .closed .a) (K .closed .e))) p
           ∙ leveled w j₂ left₀ (λ (d : ℕ). conditioned d b (withCondition r (toBlock (getD w (at₀ + 6 + 4) 0) (asked (K .g) (K .closed .a) (K .closed .e)) (B .v) (B .e)))) (B .some) p
-          ∙ c .joins .ensures .no a z k d e q left₀ b (withCondition r (toBlock (getD w (at₀ + 6 + 4) 0) (asked (K .g) (K .closed .a) (K .closed .e)) (B .v) (B .e))) p;
+          ∙ c .follows .ensures .no a z k d e q .ofBlock refl left₀ b (withCondition r (toBlock (getD w (at₀ + 6 + 4) 0) (asked (K .g) (K .closed .a) (K .closed .e)) (B .v) (B .e))) p;
     }
 
 condition-pattern-requires : (t : ℕ) → condition-lts.Need-pattern-requires (condition-claims t) (condition-at t) condition.Post
@@ -364,6 +359,10 @@ condition-returns-4 t c = let w = c .before .before .before .before .before .bef
     ∙ match-terms _ _ (K .closed .ready) _ b r (getD w (at₀ + 6 + 4) 0) (asked (K .g) (K .closed .a) (K .closed .e)) (λ e. c .before .before .before .before .before .before .if1 .left (c .before .before .before .before .before .before .before .kind .ensures
     ∙ e)) p
     ∙ c .before .before .before .before .pattern .ensures .no _ _ _ _ _ (c .enum-told3 .given .1) (matching b r (getD w (at₀ + 6 + 4) 0) (asked (K .g) (K .closed .a) (K .closed .e))) b (λ (h : Terms). withCondition r (toTerms (getD w (at₀ + 6 + 4) 0) (asked (K .g) (K .closed .a) (K .closed .e)) h)) (λ h t y z. refl) p)
+
+condition-end-before-requires-2 : (t : ℕ) → condition-lts.Need-end-before-requires-2 (condition-claims t) (condition-at t) condition.Post
+condition-end-before-requires-2 t c κs = let K = c .before .before .before .before .before .before .before .before .before .before .before .before .before .before .clause .ensures .at _ _ (c .before .before .before .before .before .before .before .before .before .before .r .given .1) in
+    let Q = c .before .before .before .before .before .pattern .ensures .at _ _ (c .before .r3 .given .1) in let o = K .closed .on in let q = Q .on in (Q .ready, omega arith)
 
 condition-put-span-requires-3 : (t : ℕ) → condition-lts.Need-put-span-requires-3 (condition-claims t) (condition-at t) condition.Post
 condition-put-span-requires-3 t c κs = let pre₀ = c .before .before .before .before .before .before .before .before .before .before .before .before .before .before .before .before .before .before .before .before .before .pre .1 in
@@ -435,6 +434,12 @@ ending-returns t c = let left₀ = c .before .before .before .before .before .be
 ending-add-start : (t : ℕ) → ending-lts.Need-add-start (ending-claims t) (ending-at t) ending.Post
 ending-add-start t c = let pre₀ = c .before .before .before .before .pre .1 in
     let R = pre₀ .0 in let h = pre₀ .1 in omega arith
+
+ending-span-from-requires : (t : ℕ) → ending-lts.Need-span-from-requires (ending-claims t) (ending-at t) ending.Post
+ending-span-from-requires t c κs = let w = c .before .before .before .before .args .tokens .now in
+    let at₀ = c .before .before .before .before .args .at in
+    let pre₀ = c .before .before .before .before .pre .1 in
+    let k₁₃ : getD w at₀ 0 ≡ 13 = sym (c .before .kind .ensures) ∙ c .if1 .left in (ready-next _ _ (pre₀ .0) (other _ _ _ k₁₃ refl))
 
 ending-add-first : (t : ℕ) → ending-lts.Need-add-first (ending-claims t) (ending-at t) ending.Post
 ending-add-first t c = let pre₀ = c .before .before .before .before .before .pre .1 in
@@ -546,12 +551,6 @@ ending-returns-5 t c = let w = c .before .before .before .before .before .before
     ∙ leveled w j₂ left₀ (λ (d : ℕ). ended d b r (asked (K .g) (K .closed .a) (K .closed .e)) (B .v) (B .e)) (B .some) p
     ∙ end-unclosed _ _ (B .ready) _ b r (asked (K .g) (K .closed .a) (K .closed .e)) (B .v) (B .e) (λ e. c .before .if3 .taken (c .before .before .kind3 .ensures
     ∙ e)) p)
-
-ending-span-from-requires : (t : ℕ) → ending-lts.Need-span-from-requires (ending-claims t) (ending-at t) ending.Post
-ending-span-from-requires t c κs = let w = c .before .before .before .before .args .tokens .now in
-    let at₀ = c .before .before .before .before .args .at in
-    let pre₀ = c .before .before .before .before .pre .1 in
-    let k₁₃ : getD w at₀ 0 ≡ 13 = sym (c .before .kind .ensures) ∙ c .if1 .left in (ready-next _ _ (pre₀ .0) (other _ _ _ k₁₃ refl))
 
 ending-end-before-requires : (t : ℕ) → ending-lts.Need-end-before-requires (ending-claims t) (ending-at t) ending.Post
 ending-end-before-requires t c κs = let B = c .before .before .before .before .before .before .before .block .ensures .at _ _ (c .before .before .before .r2 .given .1) in
@@ -809,7 +808,7 @@ pub +block+condition+ending+sentence-spec : {M : Type 1} → statement M
     (condition-end-before-requires t)
     (condition-put-span-requires t)
     (condition-put-span-requires-2 t)
-    (condition-joins-requires t)
+    (condition-follows-requires t)
     (condition-same-length-3 t)
     (condition-returns-3 t)
     (condition-pattern-requires t)
