@@ -94,9 +94,6 @@ terms-claims t = (term-at-reads.Asked, term-at-reads.Learnt, span-from-reads.Ask
 abbrev until-claims : ℕ → until-lts.Claims
 until-claims t = (terms-below t, terms.Post, closes-reads.Asked, closes-reads.Learnt)
 
-bracket-present-requires : (t : ℕ) → bracket-lts.Need-present-requires (bracket-claims t) (bracket-at t) bracket.Post
-bracket-present-requires t c κs = search needs
-
 bracket-returns : (t : ℕ) → bracket-lts.Need-returns (bracket-claims t) (bracket-at t) bracket.Post
 bracket-returns t c = let pre₀ = c .before .before .before .before .pre .1 in
     is-no (c .present .ensures) (λ x f. bracket-deep _ _ (pre₀ .0) _ x f (pre₀ .2) (c .before .if1 .taken))
@@ -109,21 +106,9 @@ bracket-add-first : (t : ℕ) → bracket-lts.Need-add-first (bracket-claims t) 
 bracket-add-first t c = let pre₀ = c .before .before .before .pre .1 in
     let R = (ready-term _ _ _ (pre₀ .0) (pre₀ .2) refl) in let h = pre₀ .1 in omega arith
 
-bracket-sub-until : (t : ℕ) → bracket-lts.Need-sub-until (bracket-claims t) (bracket-at t) bracket.Post
-bracket-sub-until t c = search needs
-
 bracket-until-requires : (t : ℕ) → bracket-lts.Need-until-requires (bracket-claims t) (bracket-at t) bracket.Post
 bracket-until-requires t c κs = let pre₀ = c .before .before .before .before .pre .1 in
     let R = (ready-term _ _ _ (pre₀ .0) (pre₀ .2) refl) in let h = pre₀ .1 in (omega arith, (R, omega arith, omega arith))
-
-bracket-enum-known-r : (t : ℕ) → bracket-lts.Need-enum-known-r (bracket-claims t) (bracket-at t) bracket.Post
-bracket-enum-known-r t c = search needs
-
-bracket-enum-told : (t : ℕ) → bracket-lts.Need-enum-told (bracket-claims t) (bracket-at t) bracket.Post
-bracket-enum-told t c = search needs
-
-bracket-same-length : (t : ℕ) → bracket-lts.Need-same-length (bracket-claims t) (bracket-at t) bracket.Post
-bracket-same-length t c = search needs
 
 bracket-returns-2 : (t : ℕ) → bracket-lts.Need-returns-2 (bracket-claims t) (bracket-at t) bracket.Post
 bracket-returns-2 t c = let w = c .before .before .before .before .before .before .before .before .before .args .tokens .now in
@@ -145,9 +130,6 @@ bracket-put-span-requires t c κs = let pre₀ = c .before .before .before .befo
     let U = c .before .before .before .before .before .before .before .before .until .ensures .at _ _ (c .before .before .before .before .r .given .1) in
     let R = U .closed .ready in let f = U .few in let h = pre₀ .1 in let g = pre₀ .0 in (omega arith, omega arith)
 
-bracket-same-length-2 : (t : ℕ) → bracket-lts.Need-same-length-2 (bracket-claims t) (bracket-at t) bracket.Post
-bracket-same-length-2 t c = search needs
-
 bracket-returns-3 : (t : ℕ) → bracket-lts.Need-returns-3 (bracket-claims t) (bracket-at t) bracket.Post
 bracket-returns-3 t c = let w = c .before .before .before .before .before .before .before .before .before .before .before .before .before .before .before .before .args .tokens .now in
     let j₁ = c .before .before .before .before .before .before .before .r .given .0 .0 in
@@ -168,9 +150,6 @@ bracket-returns-3 t c = let w = c .before .before .before .before .before .befor
           ∙ U .closed .means (inBracket x f (getD w (at₀ + 4) 0)) (λ (g : Terms) (a e : ℕ). within (suc (left₀ - 1)) x (tMore f (theBracket (getD w (at₀ + 4) 0) g e))) (λ h t y z. refl) p
           ∙ leveled w j₁ left₀ (λ (d : ℕ). within d x (tMore f (theBracket (getD w (at₀ + 4) 0) (U .g) (U .closed .e)))) (c .before .before .before .before .before .before .before .before .before .before .before .before .before .if1 .left) p;
     })
-
-call-present-requires : (t : ℕ) → call-lts.Need-present-requires (call-claims t) (call-at t) call.Post
-call-present-requires t c κs = search needs
 
 call-returns : (t : ℕ) → call-lts.Need-returns (call-claims t) (call-at t) call.Post
 call-returns t c = let pre₀ = c .before .before .before .before .pre .1 in
@@ -201,9 +180,6 @@ call-add-first : (t : ℕ) → call-lts.Need-add-first (call-claims t) (call-at 
 call-add-first t c = let pre₀ = c .before .before .before .before .before .pre .1 in
     let R = (ready-term _ _ _ (pre₀ .0) (pre₀ .2) refl) in let h = pre₀ .1 in omega arith
 
-call-sub-until : (t : ℕ) → call-lts.Need-sub-until (call-claims t) (call-at t) call.Post
-call-sub-until t c = search needs
-
 call-until-requires : (t : ℕ) → call-lts.Need-until-requires (call-claims t) (call-at t) call.Post
 call-until-requires t c κs = let w = c .before .before .before .before .before .before .args .tokens .now in
     let at₀ = c .before .before .before .before .before .before .args .at in
@@ -211,15 +187,6 @@ call-until-requires t c κs = let w = c .before .before .before .before .before 
     let k₃ : getD w (at₀ + 6) 0 ≡ 3 = sym (c .before .before .kind .ensures) ∙ c .before .if2 .left in
     let R = (ready-term _ _ _ (pre₀ .0) (pre₀ .2) refl) in
     let h = pre₀ .1 in (omega arith, (ready-next _ _ R (other _ _ _ k₃ refl), omega arith, omega arith))
-
-call-enum-known-r : (t : ℕ) → call-lts.Need-enum-known-r (call-claims t) (call-at t) call.Post
-call-enum-known-r t c = search needs
-
-call-enum-told : (t : ℕ) → call-lts.Need-enum-told (call-claims t) (call-at t) call.Post
-call-enum-told t c = search needs
-
-call-same-length : (t : ℕ) → call-lts.Need-same-length (call-claims t) (call-at t) call.Post
-call-same-length t c = search needs
 
 call-returns-3 : (t : ℕ) → call-lts.Need-returns-3 (call-claims t) (call-at t) call.Post
 call-returns-3 t c = let w = c .before .before .before .before .before .before .before .before .before .before .before .args .tokens .now in
@@ -250,9 +217,6 @@ call-put-node-requires : (t : ℕ) → call-lts.Need-put-node-requires (call-cla
 call-put-node-requires t c κs = let pre₀ = c .before .before .before .before .before .before .before .before .before .before .before .before .before .before .before .before .before .pre .1 in
     let U = c .before .before .before .before .before .before .before .before .before .before .until .ensures .at _ _ (c .before .before .before .before .before .before .r .given .1) in
     let R = U .closed .ready in let f = U .few in let h = pre₀ .1 in let g = pre₀ .0 in (omega arith, omega arith)
-
-call-same-length-2 : (t : ℕ) → call-lts.Need-same-length-2 (call-claims t) (call-at t) call.Post
-call-same-length-2 t c = search needs
 
 call-returns-4 : (t : ℕ) → call-lts.Need-returns-4 (call-claims t) (call-at t) call.Post
 call-returns-4 t c = let w = c .before .before .before .before .before .before .before .before .before .before .before .before .before .before .before .before .before .before .before .before .args .tokens .now in
@@ -291,9 +255,6 @@ terms-loop-holds t c = let pre₀ = c .before .before .pre .1 in
 terms-term-at-requires : (t : ℕ) → terms-lts.Need-term-at-requires (terms-claims t) (terms-at t) terms.Post terms-Inv-loop terms-μ-loop
 terms-term-at-requires t c κs = c .loop .inv .ready
 
-terms-enum-known-t : (t : ℕ) → terms-lts.Need-enum-known-t (terms-claims t) (terms-at t) terms.Post terms-Inv-loop terms-μ-loop
-terms-enum-known-t t c = search needs
-
 terms-span-from-requires : (t : ℕ) → terms-lts.Need-span-from-requires (terms-claims t) (terms-at t) terms.Post terms-Inv-loop terms-μ-loop
 terms-span-from-requires t c κs = c .before .before .before .before .loop .inv .ready
 
@@ -315,9 +276,6 @@ terms-loop-less t c = let L = c .before .before .before .before .before .before 
 terms-loop-again : (t : ℕ) → terms-lts.Need-loop-again (terms-claims t) (terms-at t) terms.Post terms-Inv-loop terms-μ-loop
 terms-loop-again t c = one-leaf (symbol (c .before .before .before .before .before .before .before .t .given .0 .0)) (sym (c .before .before .before .before .before .before .before .before .before .term-at .ensures) ∙ c .before .before .before .before .before .before .before .t .given .1) (c .before .before .before .before .before .span-from .ensures) (c .before .before .before .before .span-to .ensures) (c .before .before .put-symbol .kept .0)
     (c .before .before .put-symbol .ensures) (c .before .before .before .before .before .before .before .before .before .before .loop .inv)
-
-terms-enum-known-t-2 : (t : ℕ) → terms-lts.Need-enum-known-t-2 (terms-claims t) (terms-at t) terms.Post terms-Inv-loop terms-μ-loop
-terms-enum-known-t-2 t c = search needs
 
 terms-span-from-requires-2 : (t : ℕ) → terms-lts.Need-span-from-requires-2 (terms-claims t) (terms-at t) terms.Post terms-Inv-loop terms-μ-loop
 terms-span-from-requires-2 t c κs = c .before .before .before .before .loop .inv .ready
@@ -341,20 +299,8 @@ terms-loop-again-2 : (t : ℕ) → terms-lts.Need-loop-again-2 (terms-claims t) 
 terms-loop-again-2 t c = one-leaf (variable (c .before .before .before .before .before .before .before .t2 .given .0 .0) (c .before .before .before .before .before .before .before .t2 .given .0 .1 .0) (c .before .before .before .before .before .before .before .t2 .given .0 .1 .1 .0)) (sym (c .before .before .before .before .before .before .before .before .before .term-at .ensures) ∙ c .before .before .before .before .before .before .before .t2 .given .1) (c .before .before .before .before .before .span-from2 .ensures)
     (c .before .before .before .before .span-to2 .ensures) (c .before .before .put-variable .kept .0) (c .before .before .put-variable .ensures) (c .before .before .before .before .before .before .before .before .before .before .loop .inv)
 
-terms-enum-told : (t : ℕ) → terms-lts.Need-enum-told (terms-claims t) (terms-at t) terms.Post terms-Inv-loop terms-μ-loop
-terms-enum-told t c = search needs
-
 terms-bracket-requires : (t : ℕ) → terms-lts.Need-bracket-requires (terms-claims t) (terms-at t) terms.Post terms-Inv-loop terms-μ-loop
 terms-bracket-requires t c κs = let I = c .before .before .before .before .loop .inv in (omega arith, (I .ready, I .few, (sym (c .before .before .before .term-at .ensures) ∙ c .before .enum-told .given .1)))
-
-terms-enum-known-r : (t : ℕ) → terms-lts.Need-enum-known-r (terms-claims t) (terms-at t) terms.Post terms-Inv-loop terms-μ-loop
-terms-enum-known-r t c = search needs
-
-terms-enum-told-2 : (t : ℕ) → terms-lts.Need-enum-told-2 (terms-claims t) (terms-at t) terms.Post terms-Inv-loop terms-μ-loop
-terms-enum-told-2 t c = search needs
-
-terms-same-length : (t : ℕ) → terms-lts.Need-same-length (terms-claims t) (terms-at t) terms.Post terms-Inv-loop terms-μ-loop
-terms-same-length t c = search needs
 
 terms-returns : (t : ℕ) → terms-lts.Need-returns (terms-claims t) (terms-at t) terms.Post terms-Inv-loop terms-μ-loop
 terms-returns t c = let I = c .before .before .before .before .before .before .before .before .before .loop .inv in
@@ -366,20 +312,8 @@ terms-loop-less-3 t c = let L = c .before .before .before .before .before .befor
 terms-loop-again-3 : (t : ℕ) → terms-lts.Need-loop-again-3 (terms-claims t) (terms-at t) terms.Post terms-Inv-loop terms-μ-loop
 terms-loop-again-3 t c = one-term (c .before .before .before .before .before .bracket .kept .1 .0) (c .before .before .before .before .before .bracket .ensures .at _ _ (c .before .r .given .1)) (c .before .before .before .before .before .before .before .before .before .before .loop .inv)
 
-terms-enum-told-3 : (t : ℕ) → terms-lts.Need-enum-told-3 (terms-claims t) (terms-at t) terms.Post terms-Inv-loop terms-μ-loop
-terms-enum-told-3 t c = search needs
-
 terms-call-requires : (t : ℕ) → terms-lts.Need-call-requires (terms-claims t) (terms-at t) terms.Post terms-Inv-loop terms-μ-loop
 terms-call-requires t c κs = let I = c .before .before .before .before .loop .inv in (omega arith, (I .ready, I .few, (sym (c .before .before .before .term-at .ensures) ∙ c .before .enum-told3 .given .1)))
-
-terms-enum-known-r2 : (t : ℕ) → terms-lts.Need-enum-known-r2 (terms-claims t) (terms-at t) terms.Post terms-Inv-loop terms-μ-loop
-terms-enum-known-r2 t c = search needs
-
-terms-enum-told-4 : (t : ℕ) → terms-lts.Need-enum-told-4 (terms-claims t) (terms-at t) terms.Post terms-Inv-loop terms-μ-loop
-terms-enum-told-4 t c = search needs
-
-terms-same-length-2 : (t : ℕ) → terms-lts.Need-same-length-2 (terms-claims t) (terms-at t) terms.Post terms-Inv-loop terms-μ-loop
-terms-same-length-2 t c = search needs
 
 terms-returns-2 : (t : ℕ) → terms-lts.Need-returns-2 (terms-claims t) (terms-at t) terms.Post terms-Inv-loop terms-μ-loop
 terms-returns-2 t c = let I = c .before .before .before .before .before .before .before .before .before .loop .inv in
@@ -391,24 +325,12 @@ terms-loop-less-4 t c = let L = c .before .before .before .before .before .befor
 terms-loop-again-4 : (t : ℕ) → terms-lts.Need-loop-again-4 (terms-claims t) (terms-at t) terms.Post terms-Inv-loop terms-μ-loop
 terms-loop-again-4 t c = one-term (c .before .before .before .before .before .call .kept .1 .0) (c .before .before .before .before .before .call .ensures .at _ _ (c .before .r2 .given .1)) (c .before .before .before .before .before .before .before .before .before .before .loop .inv)
 
-terms-enum-told-5 : (t : ℕ) → terms-lts.Need-enum-told-5 (terms-claims t) (terms-at t) terms.Post terms-Inv-loop terms-μ-loop
-terms-enum-told-5 t c = search needs
-
 terms-taken-requires : (t : ℕ) → terms-lts.Need-taken-requires (terms-claims t) (terms-at t) terms.Post terms-Inv-loop terms-μ-loop
 terms-taken-requires t c κs = c .before .before .before .loop .inv .ready
-
-terms-same-length-3 : (t : ℕ) → terms-lts.Need-same-length-3 (terms-claims t) (terms-at t) terms.Post terms-Inv-loop terms-μ-loop
-terms-same-length-3 t c = search needs
 
 terms-returns-3 : (t : ℕ) → terms-lts.Need-returns-3 (terms-claims t) (terms-at t) terms.Post terms-Inv-loop terms-μ-loop
 terms-returns-3 t c = let I = c .before .before .before .before .loop .inv in
     is-no (c .taken .ensures) (λ x p. I .means x p ∙ term-step _ _ (I .ready) _ x (I .g) _ (sym (c .before .before .before .term-at .ensures) ∙ c .before .enum-told5 .given .1) p)
-
-terms-enum-told-6 : (t : ℕ) → terms-lts.Need-enum-told-6 (terms-claims t) (terms-at t) terms.Post terms-Inv-loop terms-μ-loop
-terms-enum-told-6 t c = search needs
-
-terms-same-length-4 : (t : ℕ) → terms-lts.Need-same-length-4 (terms-claims t) (terms-at t) terms.Post terms-Inv-loop terms-μ-loop
-terms-same-length-4 t c = search needs
 
 terms-returns-4 : (t : ℕ) → terms-lts.Need-returns-4 (terms-claims t) (terms-at t) terms.Post terms-Inv-loop terms-μ-loop
 terms-returns-4 t c = let I = c .before .before .before .loop .inv in
@@ -429,24 +351,12 @@ until-terms-requires : (t : ℕ) → until-lts.Need-terms-requires (until-claims
 until-terms-requires t c κs = let pre₀ = c .before .before .before .pre .1 in
     (omega arith, (pre₀ .0, pre₀ .1))
 
-until-enum-known-r : (t : ℕ) → until-lts.Need-enum-known-r (until-claims t) (until-at t) until.Post
-until-enum-known-r t c = search needs
-
-until-enum-told : (t : ℕ) → until-lts.Need-enum-told (until-claims t) (until-at t) until.Post
-until-enum-told t c = search needs
-
-until-same-length : (t : ℕ) → until-lts.Need-same-length (until-claims t) (until-at t) until.Post
-until-same-length t c = search needs
-
 until-returns : (t : ℕ) → until-lts.Need-returns (until-claims t) (until-at t) until.Post
 until-returns t c = is-no (c .enum-told .given .1) (λ x st h. c .before .before .before .before .terms .ensures .no _ _ _ _ _ (c .enum-told .given .1) x)
 
 until-closes-requires : (t : ℕ) → until-lts.Need-closes-requires (until-claims t) (until-at t) until.Post
 until-closes-requires t c κs = let pre₀ = c .before .before .before .before .before .before .before .before .before .pre .1 in
     let T = c .before .before .before .before .before .terms .ensures .at _ _ (c .before .r .given .1) in (T .ready, pre₀ .2)
-
-until-same-length-2 : (t : ℕ) → until-lts.Need-same-length-2 (until-claims t) (until-at t) until.Post
-until-same-length-2 t c = search needs
 
 until-returns-2 : (t : ℕ) → until-lts.Need-returns-2 (until-claims t) (until-at t) until.Post
 until-returns-2 t c = let w = c .before .before .before .before .before .before .before .before .before .before .args .tokens .now in
@@ -480,101 +390,26 @@ until-returns-2 t c = let w = c .before .before .before .before .before .before 
 pub +bracket+call+terms+until-spec : {M : Type 1} → statement M
 +bracket+call+terms+until-spec = close μ-bracket μ-call μ-terms μ-until (λ t. bracket-lts.spec (bracket-claims t)
     (bracket-at t)
-    bracket.Post
-    (bracket-present-requires t)
-    (bracket-returns t)
-    (bracket-add-body t)
-    (bracket-add-first t)
-    (bracket-sub-until t)
-    (bracket-until-requires t)
-    (bracket-enum-known-r t)
-    (bracket-enum-told t)
-    (bracket-same-length t)
-    (bracket-returns-2 t)
-    (bracket-span-from-requires t)
-    (bracket-end-before-requires t)
-    (bracket-put-span-requires t)
-    (bracket-same-length-2 t)
-    (bracket-returns-3 t))
-    (λ t. call-lts.spec (call-claims t)
-    (call-at t)
-    call.Post
-    (call-present-requires t)
-    (call-returns t)
-    (call-add-name t)
-    (call-kind-requires t)
-    (call-taken-requires t)
-    (call-returns-2 t)
-    (call-add-body t)
-    (call-add-first t)
-    (call-sub-until t)
-    (call-until-requires t)
-    (call-enum-known-r t)
-    (call-enum-told t)
-    (call-same-length t)
-    (call-returns-3 t)
-    (call-text-start-requires t)
-    (call-text-len-requires t)
-    (call-span-from-requires t)
-    (call-end-before-requires t)
-    (call-put-node-requires t)
-    (call-same-length-2 t)
-    (call-returns-4 t))
-    (λ t. terms-lts.spec (terms-claims t)
-    (terms-at t)
+    bracket.Post (λ c κs. search needs) (bracket-returns t) (bracket-add-body t) (bracket-add-first t) (λ c. search needs)
+    (bracket-until-requires t) (λ c. search needs) (λ c. search needs) (λ c. search needs) (bracket-returns-2 t)
+    (bracket-span-from-requires t) (bracket-end-before-requires t) (bracket-put-span-requires t) (λ c. search needs) (bracket-returns-3 t))
+    (λ t. call-lts.spec (call-claims t) (call-at t)
+    call.Post (λ c κs. search needs) (call-returns t) (call-add-name t) (call-kind-requires t) (call-taken-requires t) (call-returns-2 t)
+    (call-add-body t) (call-add-first t) (λ c. search needs) (call-until-requires t) (λ c. search needs) (λ c. search needs)
+    (λ c. search needs) (call-returns-3 t) (call-text-start-requires t) (call-text-len-requires t) (call-span-from-requires t)
+    (call-end-before-requires t) (call-put-node-requires t) (λ c. search needs) (call-returns-4 t))
+    (λ t. terms-lts.spec (terms-claims t) (terms-at t)
     terms.Post
     terms-Inv-loop
-    terms-μ-loop
-    (terms-loop-holds t)
-    (terms-term-at-requires t)
-    (terms-enum-known-t t)
-    (terms-span-from-requires t)
-    (terms-span-to-requires t)
-    (terms-put-symbol-requires t)
-    (terms-add-i t)
-    (terms-add-m t)
-    (terms-loop-less t)
-    (terms-loop-again t)
-    (terms-enum-known-t-2 t)
-    (terms-span-from-requires-2 t)
-    (terms-span-to-requires-2 t)
-    (terms-put-variable-requires t)
-    (terms-add-i-2 t)
-    (terms-add-m-2 t)
-    (terms-loop-less-2 t)
-    (terms-loop-again-2 t)
-    (terms-enum-told t)
-    (terms-bracket-requires t)
-    (terms-enum-known-r t)
-    (terms-enum-told-2 t)
-    (terms-same-length t)
-    (terms-returns t)
-    (terms-loop-less-3 t)
-    (terms-loop-again-3 t)
-    (terms-enum-told-3 t)
-    (terms-call-requires t)
-    (terms-enum-known-r2 t)
-    (terms-enum-told-4 t)
-    (terms-same-length-2 t)
-    (terms-returns-2 t)
-    (terms-loop-less-4 t)
-    (terms-loop-again-4 t)
-    (terms-enum-told-5 t)
-    (terms-taken-requires t)
-    (terms-same-length-3 t)
-    (terms-returns-3 t)
-    (terms-enum-told-6 t)
-    (terms-same-length-4 t)
+    terms-μ-loop (terms-loop-holds t) (terms-term-at-requires t) (λ c. search needs) (terms-span-from-requires t) (terms-span-to-requires t)
+    (terms-put-symbol-requires t) (terms-add-i t) (terms-add-m t) (terms-loop-less t) (terms-loop-again t) (λ c. search needs)
+    (terms-span-from-requires-2 t) (terms-span-to-requires-2 t) (terms-put-variable-requires t) (terms-add-i-2 t) (terms-add-m-2 t)
+    (terms-loop-less-2 t) (terms-loop-again-2 t) (λ c. search needs) (terms-bracket-requires t) (λ c. search needs) (λ c. search needs)
+    (λ c. search needs) (terms-returns t) (terms-loop-less-3 t) (terms-loop-again-3 t) (λ c. search needs) (terms-call-requires t)
+    (λ c. search needs) (λ c. search needs) (λ c. search needs) (terms-returns-2 t) (terms-loop-less-4 t) (terms-loop-again-4 t)
+    (λ c. search needs) (terms-taken-requires t) (λ c. search needs) (terms-returns-3 t) (λ c. search needs) (λ c. search needs)
     (terms-returns-4 t))
     λ t. until-lts.spec
-    (terms-below t, terms.Post, closes-reads.Asked, closes-reads.Learnt)
-    (until-at t)
-    until.Post
-    (until-terms-requires t)
-    (until-enum-known-r t)
-    (until-enum-told t)
-    (until-same-length t)
-    (until-returns t)
-    (until-closes-requires t)
-    (until-same-length-2 t)
-    (until-returns-2 t)
+    (terms-below t, terms.Post, closes-reads.Asked, closes-reads.Learnt) (until-at t)
+    until.Post (until-terms-requires t) (λ c. search needs) (λ c. search needs) (λ c. search needs) (until-returns t)
+    (until-closes-requires t) (λ c. search needs) (until-returns-2 t)
