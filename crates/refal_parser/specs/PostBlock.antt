@@ -11,18 +11,8 @@ use Rattle.refal_parser.specs.Writers.{wCondition, wC, wEnd, wSentence, 
 use Rattle.refal_parser.specs.Post.{Cases, runs, Same, Refuses, leads, after, Joint}
 use Rattle.refal_parser.specs.declared.answers.Got.{Got}
 
--- ---- after a condition's block
-pub record JoinsAt (w : List ℕ) (at m j m' : ℕ) : Type 0 where
-  pub ready : Ready w j
-  pub stays : j ≡ at
-  pub rows : m' ≡ m
-  pub joint : Joint w j
-
 abbrev pub CondNo : List ℕ → ℕ → ℕ → ℕ → ℕ → ℕ → ℕ → ℕ → Type 0
 CondNo w at left a b c d e = (q : Block) (r : Begun) → Refuses w at (conditioned left q r) a b c d e
-
-abbrev pub JoinsPost : List ℕ → ℕ → ℕ → Got → Type 0
-JoinsPost w at m r = Cases r (JoinsAt w at m) (λ a b c d e. (left : ℕ) → CondNo w at left a b c d e)
 
 -- ---- a condition, whose comma is at `at`
 pub record CondAt (w B B' : List ℕ) (at n left j m : ℕ) : Type 0 where

@@ -1,6 +1,7 @@
 -- Contracts of the functions that parse terms. `at` is the word of the first token, n the first row; an answer gives the word j and the row m after.
 use mathlib.Core.Path.{_≡_}
 use Prim.Native.Nat.{ℕ, _+_, _≤_, _<_}
+use mathlib.Core.Bool.{Bool, true, false}
 use mathlib.Core.List.{List}
 use lib.ListN.{length, getD}
 use Rattle.refal_ast.specs.Tokens.{Token}
@@ -113,7 +114,7 @@ abbrev pub TermPost : List ℕ → List ℕ → List ℕ → ℕ → ℕ → ℕ
 TermPost w B B' at n left r =
     Cases r (TermGot w B B' at n left) (λ a b c d e. (x : Place) (f : Terms) → Refuses w at (within left x f) a b c d e)
 
--- ---- after a pattern's terms
+-- ---- after a pattern's terms or a condition's block
 pub record FollowsAt (w : List ℕ) (at m j m' : ℕ) : Type 0 where
   pub ready : Ready w j
   pub stays : j ≡ at
@@ -121,10 +122,13 @@ pub record FollowsAt (w : List ℕ) (at m j m' : ℕ) : Type 0 where
   pub joint : Joint w j
   pub means : (d : ℕ) (b : Block) (r : Begun) (p : Program) → after w at p (afterTerms d b r (tok w at) (afterFrom w at) (afterTo w at)) ≡ runs w j p (conditioned d b r)
 
-abbrev pub FollowsPost : List ℕ → ℕ → ℕ → Got → Type 0
-FollowsPost w at m r =
-    Cases r (FollowsAt w at m)
-    (λ a b c x y. (d : ℕ) (q : Block) (r : Begun) (p : Program) → after w at p (afterTerms d q r (tok w at) (afterFrom w at) (afterTo w at)) ≡ refuse a b c x y)
+-- a refusal after terms, and after a block
+pub record FollowsNo (w : List ℕ) (at : ℕ) (terms : Bool) (a b c x y : ℕ) : Type 0 where
+  pub ofTerms : terms ≡ true → (d : ℕ) (q : Block) (r : Begun) (p : Program) → after w at p (afterTerms d q r (tok w at) (afterFrom w at) (afterTo w at)) ≡ refuse a b c x y
+  pub ofBlock : terms ≡ false → (d : ℕ) (q : Block) (r : Begun) → Refuses w at (conditioned d q r) a b c x y
+
+abbrev pub FollowsPost : List ℕ → ℕ → ℕ → Bool → Got → Type 0
+FollowsPost w at m terms r = Cases r (FollowsAt w at m) (FollowsNo w at terms)
 
 -- ---- a pattern with its Terms row, row n: a place c whose terms f make the sentence r f
 abbrev pub Turns : ℕ → Place → Block → (Terms → Begun) → Type 0

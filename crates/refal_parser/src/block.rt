@@ -4,32 +4,18 @@ ghost use Prim.Native.Nat.{_+_, _≤_};
 ghost use lib.ListN.{getD};
 ghost use Rattle.refal_ast.specs.Kinds.{tokComma, tokLBrace};
 ghost use Rattle.refal_parser.specs.Ready.{Ready};
-ghost use Rattle.refal_parser.specs.PostBlock.{BlockPost, CondPost, EndingPost, JoinsPost, SentencePost};
+ghost use Rattle.refal_parser.specs.PostBlock.{BlockPost, CondPost, EndingPost, SentencePost};
 use crate::answers::Got;
 use crate::answers::present;
 use crate::nodes::put_span;
 use crate::terms::clause;
+use crate::terms::follows;
 use crate::terms::pattern;
 use crate::tokens::end_before;
 use crate::tokens::kind;
 use crate::tokens::span_from;
 use refal_ast::kinds::node;
 use refal_ast::kinds::token;
-
-// After a condition's block: a comma or `=`, which is left to the caller.
-fn joins(tokens: &[u32], at: usize, m: usize) -> Got
-    requires { ⌜ Ready (now tokens) at ⌝ }
-    ensures { λ r. ⌜ JoinsPost (now (tokens .entry)) at m r ⌝ }
-{
-    let k = kind(tokens, at);
-    if k == token::COMMA {
-        return Got::At(at, m);
-    }
-    if k == token::EQUALS {
-        return Got::At(at, m);
-    }
-    present(tokens, at, 35, token::EQUALS)
-}
 
 // The condition whose comma is at `at`, up to a comma or `=`; its row is row n.
 fn condition(tokens: &[u32], rows: &mut [u32], at: usize, n: usize, left: usize) -> Got
@@ -52,7 +38,7 @@ fn condition(tokens: &[u32], rows: &mut [u32], at: usize, n: usize, left: usize)
         let to = end_before(tokens, i);
         put_span(rows, m, node::CONDITION_BLOCK, from, to, m2);
         put_span(rows, n, node::CONDITION, from, to, m2);
-        return joins(tokens, i, m2);
+        return follows(tokens, i, m2, false);
     }
     let r3 = pattern(tokens, rows, j, m, left);
     let Got::At(i, m2) = r3 else {

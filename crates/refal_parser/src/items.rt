@@ -19,6 +19,11 @@ use crate::tokens::text_start;
 use refal_ast::kinds::node;
 use refal_ast::kinds::token;
 
+// The most brackets, calls and blocks that may be open at once; a function's own braces stand outside them.
+const LEVELS: usize = 64;
+
+const BODY: usize = LEVELS + 1;
+
 // A name of a declaration, at `at`; its row is row n.
 fn name(tokens: &[u32], rows: &mut [u32], at: usize, n: usize) -> Got
     requires { ⌜ Ready (now tokens) at × (n ≤ at) ⌝ }
@@ -77,7 +82,7 @@ fn function(tokens: &[u32], rows: &mut [u32], at: usize, name: usize, n: usize, 
         return present(tokens, open, 35, token::LBRACE);
     }
     let first = n + 1;
-    let r = block(tokens, rows, open, first, 65);
+    let r = block(tokens, rows, open, first, BODY);
     let Got::At(j, m) = r else {
         return r;
     };

@@ -214,10 +214,11 @@ pub fn clause(tokens: &[u32], rows: &mut [u32], at: usize, n: usize, left: usize
     Got::At(j, m)
 }
 
-// After a pattern's terms: a comma or `=`, which is left to the caller; Eof there is 35, another kind 34.
-fn follows(tokens: &[u32], at: usize, m: usize) -> Got
+// After a pattern's terms, or after a condition's block: a comma or `=`, which is left to the caller. After terms Eof is 35 and
+// another kind 34; after a block another kind is 35.
+pub fn follows(tokens: &[u32], at: usize, m: usize, terms: bool) -> Got
     requires { ⌜ Ready (now tokens) at ⌝ }
-    ensures { λ r. ⌜ FollowsPost (now (tokens .entry)) at m r ⌝ }
+    ensures { λ r. ⌜ FollowsPost (now (tokens .entry)) at m terms r ⌝ }
 {
     let k = kind(tokens, at);
     if k == token::COMMA {
@@ -225,6 +226,9 @@ fn follows(tokens: &[u32], at: usize, m: usize) -> Got
     }
     if k == token::EQUALS {
         return Got::At(at, m);
+    }
+    if !terms {
+        return present(tokens, at, 35, token::EQUALS);
     }
     if k == token::EOF {
         return present(tokens, at, 35, token::EQUALS);
@@ -243,5 +247,5 @@ pub fn pattern(tokens: &[u32], rows: &mut [u32], at: usize, n: usize, left: usiz
         return r;
     };
     put_terms(rows, n, m);
-    follows(tokens, j, m)
+    follows(tokens, j, m, true)
 }

@@ -14,7 +14,6 @@ use Rattle.refal_parser.proofs.Rows.{size-block-condition, size-terms-c
 use Rattle.refal_parser.proofs.Steps.{is-at, is-no, other, leveled, moved, open-none, open-some, cond-start, cond-equals, match-block, match-terms}
 use Rattle.refal_parser.proofs.Steps.{end-terms, end-start, end-block, end-unopened, end-closed, end-unclosed, block-close, block-eof, block-more}
 use borrow.Author.Needs.{needs}
-use Prim.Native.Nat.{ℕ, _<_}
 use borrow.Fn.Kinds.{In}
 use borrow.Fn.PlainCycle.{Measures, is, falls, and}
 use Rattle.refal_parser.proofs.block.block.Reads as block
@@ -30,9 +29,9 @@ use Rattle.refal_parser.proofs.block.sentence.Reads as sentence
 use Rattle.refal_parser.proofs.block.sentence.Kinds as sentence-kinds
 use Rattle.refal_parser.proofs.block.+block+condition+ending+sentence.Lts-sentence as sentence-lts
 use Rattle.refal_parser.proofs.answers.present.Reads as present-reads
-use Rattle.refal_parser.proofs.block.joins.Reads as joins-reads
 use Rattle.refal_parser.proofs.nodes.put_span.Reads as put-span-reads
 use Rattle.refal_parser.proofs.terms.clause.Reads as clause-reads
+use Rattle.refal_parser.proofs.terms.follows.Reads as follows-reads
 use Rattle.refal_parser.proofs.terms.pattern.Reads as pattern-reads
 use Rattle.refal_parser.proofs.tokens.end_before.Reads as end-before-reads
 use Rattle.refal_parser.proofs.tokens.kind.Reads as kind-reads
@@ -82,7 +81,7 @@ abbrev block-claims : ℕ → block-lts.Claims
 block-claims t = (present-reads.Asked, present-reads.Learnt, kind-reads.Asked, kind-reads.Learnt, sentence-below t, sentence.Post)
 
 abbrev condition-claims : ℕ → condition-lts.Claims
-condition-claims t = (span-from-reads.Asked, span-from-reads.Learnt, clause-reads.Asked, clause-reads.Learnt, kind-reads.Asked, kind-reads.Learnt, block-below t, block.Post, end-before-reads.Asked, end-before-reads.Learnt, put-span-reads.Asked, put-span-reads.Learnt, joins-reads.Asked, joins-reads.Learnt, pattern-reads.Asked, pattern-reads.Learnt)
+condition-claims t = (span-from-reads.Asked, span-from-reads.Learnt, clause-reads.Asked, clause-reads.Learnt, kind-reads.Asked, kind-reads.Learnt, block-below t, block.Post, end-before-reads.Asked, end-before-reads.Learnt, put-span-reads.Asked, put-span-reads.Learnt, follows-reads.Asked, follows-reads.Learnt, pattern-reads.Asked, pattern-reads.Learnt)
 
 abbrev ending-claims : ℕ → ending-lts.Claims
 ending-claims t = (kind-reads.Asked, kind-reads.Learnt, clause-reads.Asked, clause-reads.Learnt, span-from-reads.Asked, span-from-reads.Learnt, present-reads.Asked, present-reads.Learnt, block-below t, block.Post, end-before-reads.Asked, end-before-reads.Learnt, put-span-reads.Asked, put-span-reads.Learnt)
@@ -96,17 +95,11 @@ block-Inv-loop tokens rows₀ at n left under i₀ m₀ rows i m = BlockInv toke
 abbrev block-μ-loop : block-lts.MeasureT-loop
 block-μ-loop tokens rows₀ at n left under i₀ m₀ rows i m = length tokens - i
 
-block-present-requires : (t : ℕ) → block-lts.Need-present-requires (block-claims t) (block-at t) block.Post block-Inv-loop block-μ-loop
-block-present-requires t c κs = search needs
-
 block-returns : (t : ℕ) → block-lts.Need-returns (block-claims t) (block-at t) block.Post block-Inv-loop block-μ-loop
 block-returns t c = let w = c .before .before .before .before .args .tokens .now in
     let at₀ = c .before .before .before .before .args .at in
     let left₀ = c .before .before .before .before .args .left in
     is-no (c .present .ensures) (λ b. open-none w at₀ left₀ (λ (d : ℕ). between d b s0) (c .before .if1 .taken))
-
-block-sub-under : (t : ℕ) → block-lts.Need-sub-under (block-claims t) (block-at t) block.Post block-Inv-loop block-μ-loop
-block-sub-under t c = search needs
 
 block-add-i : (t : ℕ) → block-lts.Need-add-i (block-claims t) (block-at t) block.Post block-Inv-loop block-μ-loop
 block-add-i t c = let pre₀ = c .before .before .before .pre .1 in
@@ -143,15 +136,6 @@ block-sentence-requires t c κs = let pre₀ = c .before .before .before .before
     let I = c .before .before .before .before .before .loop .inv in
     let R = I .ready in let o = I .on in let n = c .before .before .before .before .before .before .if1 .left in let g = pre₀ .0 in (omega arith, (I .ready, I .few))
 
-block-enum-known-r : (t : ℕ) → block-lts.Need-enum-known-r (block-claims t) (block-at t) block.Post block-Inv-loop block-μ-loop
-block-enum-known-r t c = search needs
-
-block-enum-told : (t : ℕ) → block-lts.Need-enum-told (block-claims t) (block-at t) block.Post block-Inv-loop block-μ-loop
-block-enum-told t c = search needs
-
-block-same-length-2 : (t : ℕ) → block-lts.Need-same-length-2 (block-claims t) (block-at t) block.Post block-Inv-loop block-μ-loop
-block-same-length-2 t c = search needs
-
 block-returns-3 : (t : ℕ) → block-lts.Need-returns-3 (block-claims t) (block-at t) block.Post block-Inv-loop block-μ-loop
 block-returns-3 t c = let I = c .before .before .before .before .before .before .before .before .before .before .loop .inv in
     is-no (c .enum-told .given .1) (λ b p. I .means b p ∙ block-more _ _ (I .ready) _ b (I .v) (λ e. c .before .before .before .before .before .before .before .before .if2 .taken (c .before .before .before .before .before .before .before .before .before .kind .ensures
@@ -180,9 +164,6 @@ block-loop-again t c = let w = c .before .before .before .before .before .before
 block-add-next : (t : ℕ) → block-lts.Need-add-next (block-claims t) (block-at t) block.Post block-Inv-loop block-μ-loop
 block-add-next t c = let I = c .before .before .loop .inv in let R = I .ready in omega arith
 
-block-same-length-3 : (t : ℕ) → block-lts.Need-same-length-3 (block-claims t) (block-at t) block.Post block-Inv-loop block-μ-loop
-block-same-length-3 t c = search needs
-
 block-returns-4 : (t : ℕ) → block-lts.Need-returns-4 (block-claims t) (block-at t) block.Post block-Inv-loop block-μ-loop
 block-returns-4 t c = let w = c .before .before .before .before .before .before .args .tokens .now in
     let i₀ = c .before .before .loop .i in
@@ -205,6 +186,10 @@ condition-add-start : (t : ℕ) → condition-lts.Need-add-start (condition-clai
 condition-add-start t c = let pre₀ = c .before .before .pre .1 in
     let R = pre₀ .0 in let h = pre₀ .1 in omega arith
 
+condition-span-from-requires : (t : ℕ) → condition-lts.Need-span-from-requires (condition-claims t) (condition-at t) condition.Post
+condition-span-from-requires t c κs = let pre₀ = c .before .before .pre .1 in
+    (ready-next _ _ (pre₀ .0) (other _ _ _ (pre₀ .2) refl))
+
 condition-add-first : (t : ℕ) → condition-lts.Need-add-first (condition-claims t) (condition-at t) condition.Post
 condition-add-first t c = let pre₀ = c .before .before .before .pre .1 in
     let R = pre₀ .0 in let h = pre₀ .1 in omega arith
@@ -212,15 +197,6 @@ condition-add-first t c = let pre₀ = c .before .before .before .pre .1 in
 condition-clause-requires : (t : ℕ) → condition-lts.Need-clause-requires (condition-claims t) (condition-at t) condition.Post
 condition-clause-requires t c κs = let pre₀ = c .before .before .before .before .pre .1 in
     let h = pre₀ .1 in ((ready-next _ _ (pre₀ .0) (other _ _ _ (pre₀ .2) refl)), omega arith, omega arith)
-
-condition-enum-known-r : (t : ℕ) → condition-lts.Need-enum-known-r (condition-claims t) (condition-at t) condition.Post
-condition-enum-known-r t c = search needs
-
-condition-enum-told : (t : ℕ) → condition-lts.Need-enum-told (condition-claims t) (condition-at t) condition.Post
-condition-enum-told t c = search needs
-
-condition-same-length : (t : ℕ) → condition-lts.Need-same-length (condition-claims t) (condition-at t) condition.Post
-condition-same-length t c = search needs
 
 condition-returns : (t : ℕ) → condition-lts.Need-returns (condition-claims t) (condition-at t) condition.Post
 condition-returns t c = let w = c .before .before .before .before .before .before .before .before .before .args .tokens .now in
@@ -247,15 +223,6 @@ condition-block-requires t c κs = let w = c .before .before .before .before .be
     let v₁ = K .few in
     let k₇ : getD w j₁ 0 ≡ 7 = sym (c .before .before .kind .ensures) ∙ c .before .if1 .taken in let g = pre₀ .0 in (omega arith, (R, omega arith, k₇))
 
-condition-enum-known-r2 : (t : ℕ) → condition-lts.Need-enum-known-r2 (condition-claims t) (condition-at t) condition.Post
-condition-enum-known-r2 t c = search needs
-
-condition-enum-told-2 : (t : ℕ) → condition-lts.Need-enum-told-2 (condition-claims t) (condition-at t) condition.Post
-condition-enum-told-2 t c = search needs
-
-condition-same-length-2 : (t : ℕ) → condition-lts.Need-same-length-2 (condition-claims t) (condition-at t) condition.Post
-condition-same-length-2 t c = search needs
-
 condition-returns-2 : (t : ℕ) → condition-lts.Need-returns-2 (condition-claims t) (condition-at t) condition.Post
 condition-returns-2 t c = let w = c .before .before .before .before .before .before .before .before .before .before .before .before .before .before .before .before .before .before .args .tokens .now in
     let j₁ = c .before .before .before .before .before .before .before .before .before .r .given .0 .0 in
@@ -269,10 +236,6 @@ condition-returns-2 t c = let w = c .before .before .before .before .before .bef
     ∙ match-block _ _ (K .closed .ready) _ b r (getD w (at₀ + 6 + 4) 0) (asked (K .g) (K .closed .a) (K .closed .e)) k₇ p
     ∙ c .before .before .before .before .block .ensures .no _ _ _ _ _ (c .enum-told2 .given .1) (inCondition b r (getD w (at₀ + 6 + 4) 0) (asked (K .g) (K .closed .a) (K .closed .e))) p)
 
-condition-span-from-requires : (t : ℕ) → condition-lts.Need-span-from-requires (condition-claims t) (condition-at t) condition.Post
-condition-span-from-requires t c κs = let pre₀ = c .before .before .pre .1 in
-    (ready-next _ _ (pre₀ .0) (other _ _ _ (pre₀ .2) refl))
-
 condition-end-before-requires : (t : ℕ) → condition-lts.Need-end-before-requires (condition-claims t) (condition-at t) condition.Post
 condition-end-before-requires t c κs = let B = c .before .before .before .before .before .block .ensures .at _ _ (c .before .r2 .given .1) in
     let Z = B .ready in let q = B .on in let v = B .few in (B .ready, omega arith)
@@ -283,17 +246,13 @@ condition-put-span-requires t c κs = let K = c .before .before .before .before 
     let R = K .closed .ready in
     let o = K .closed .on in let v₁ = K .few in let Z = B .ready in let q = B .on in let v = B .few in (omega arith, omega arith)
 
-condition-end-before-requires-2 : (t : ℕ) → condition-lts.Need-end-before-requires-2 (condition-claims t) (condition-at t) condition.Post
-condition-end-before-requires-2 t c κs = let K = c .before .before .before .before .before .before .before .before .before .before .before .before .before .before .clause .ensures .at _ _ (c .before .before .before .before .before .before .before .before .before .before .r .given .1) in
-    let Q = c .before .before .before .before .before .pattern .ensures .at _ _ (c .before .r3 .given .1) in let o = K .closed .on in let q = Q .on in (Q .ready, omega arith)
-
 condition-put-span-requires-2 : (t : ℕ) → condition-lts.Need-put-span-requires-2 (condition-claims t) (condition-at t) condition.Post
 condition-put-span-requires-2 t c κs = let pre₀ = c .before .before .before .before .before .before .before .before .before .before .before .before .before .before .before .before .before .before .before .before .before .before .before .before .before .pre .1 in
     let B = c .before .before .before .before .before .before .before .before .before .before .before .block .ensures .at _ _ (c .before .before .before .before .before .before .before .r2 .given .1) in
     let Z = B .ready in let q = B .on in let v = B .few in let h = pre₀ .1 in let g = pre₀ .0 in (omega arith, omega arith)
 
-condition-joins-requires : (t : ℕ) → condition-lts.Need-joins-requires (condition-claims t) (condition-at t) condition.Post
-condition-joins-requires t c κs = let B = c .before .before .before .before .before .before .before .before .before .before .before .before .before .before .block .ensures .at _ _ (c .before .before .before .before .before .before .before .before .before .before .r2 .given .1) in B .ready
+condition-follows-requires : (t : ℕ) → condition-lts.Need-follows-requires (condition-claims t) (condition-at t) condition.Post
+condition-follows-requires t c κs = let B = c .before .before .before .before .before .before .before .before .before .before .before .before .before .before .block .ensures .at _ _ (c .before .before .before .before .before .before .before .before .before .before .r2 .given .1) in B .ready
 
 condition-same-length-3 : (t : ℕ) → condition-lts.Need-same-length-3 (condition-claims t) (condition-at t) condition.Post
 condition-same-length-3 t c = c .before .before .before .put-span2 .kept .0
@@ -315,7 +274,7 @@ condition-returns-3 t c = let w = c .before .before .before .before .before .bef
     let k₇ : getD w j₁ 0 ≡ 7 = sym (c .before .before .before .before .before .before .before .before .before .before .before .before .before .before .before .before .before .before .kind .ensures) ∙ c .before .before .before .before .before .before .before .before .before .before .before .before .before .before .before .before .before .if1 .taken in
     record {
       at = λ j m e.
-          let N = c .joins .ensures .at j m e in
+          let N = c .follows .ensures .at j m e in
           record {
             x = toBlock (getD w (at₀ + 6 + 4) 0) (asked (K .g) (K .closed .a) (K .closed .e)) (B .v) (B .e);
             ready = N .ready;
@@ -337,21 +296,12 @@ condition-returns-3 t c = let w = c .before .before .before .before .before .bef
           ∙ match-block _ _ (K .closed .ready) _ b r (getD w (at₀ + 6 + 4) 0) (asked (K .g) (K .closed .a) (K .closed .e)) k₇ p
           ∙ B .means (inCondition b r (getD w (at₀ + 6 + 4) 0) (asked (K .g) (K .closed .a) (K .closed .e))) p
           ∙ leveled w j₂ left₀ (λ (d : ℕ). conditioned d b (withCondition r (toBlock (getD w (at₀ + 6 + 4) 0) (asked (K .g) (K .closed .a) (K .closed .e)) (B .v) (B .e)))) (B .some) p
-          ∙ c .joins .ensures .no a z k d e q left₀ b (withCondition r (toBlock (getD w (at₀ + 6 + 4) 0) (asked (K .g) (K .closed .a) (K .closed .e)) (B .v) (B .e))) p;
+          ∙ c .follows .ensures .no a z k d e q .ofBlock refl left₀ b (withCondition r (toBlock (getD w (at₀ + 6 + 4) 0) (asked (K .g) (K .closed .a) (K .closed .e)) (B .v) (B .e))) p;
     }
 
 condition-pattern-requires : (t : ℕ) → condition-lts.Need-pattern-requires (condition-claims t) (condition-at t) condition.Post
 condition-pattern-requires t c κs = let K = c .before .before .before .before .before .before .before .before .clause .ensures .at _ _ (c .before .before .before .before .r .given .1) in
     let R = K .closed .ready in let o = K .closed .on in let v₁ = K .few in (R, omega arith)
-
-condition-enum-known-r3 : (t : ℕ) → condition-lts.Need-enum-known-r3 (condition-claims t) (condition-at t) condition.Post
-condition-enum-known-r3 t c = search needs
-
-condition-enum-told-3 : (t : ℕ) → condition-lts.Need-enum-told-3 (condition-claims t) (condition-at t) condition.Post
-condition-enum-told-3 t c = search needs
-
-condition-same-length-4 : (t : ℕ) → condition-lts.Need-same-length-4 (condition-claims t) (condition-at t) condition.Post
-condition-same-length-4 t c = search needs
 
 condition-returns-4 : (t : ℕ) → condition-lts.Need-returns-4 (condition-claims t) (condition-at t) condition.Post
 condition-returns-4 t c = let w = c .before .before .before .before .before .before .before .before .before .before .before .before .before .before .before .before .before .before .args .tokens .now in
@@ -365,13 +315,14 @@ condition-returns-4 t c = let w = c .before .before .before .before .before .bef
     ∙ e)) p
     ∙ c .before .before .before .before .pattern .ensures .no _ _ _ _ _ (c .enum-told3 .given .1) (matching b r (getD w (at₀ + 6 + 4) 0) (asked (K .g) (K .closed .a) (K .closed .e))) b (λ (h : Terms). withCondition r (toTerms (getD w (at₀ + 6 + 4) 0) (asked (K .g) (K .closed .a) (K .closed .e)) h)) (λ h t y z. refl) p)
 
+condition-end-before-requires-2 : (t : ℕ) → condition-lts.Need-end-before-requires-2 (condition-claims t) (condition-at t) condition.Post
+condition-end-before-requires-2 t c κs = let K = c .before .before .before .before .before .before .before .before .before .before .before .before .before .before .clause .ensures .at _ _ (c .before .before .before .before .before .before .before .before .before .before .r .given .1) in
+    let Q = c .before .before .before .before .before .pattern .ensures .at _ _ (c .before .r3 .given .1) in let o = K .closed .on in let q = Q .on in (Q .ready, omega arith)
+
 condition-put-span-requires-3 : (t : ℕ) → condition-lts.Need-put-span-requires-3 (condition-claims t) (condition-at t) condition.Post
 condition-put-span-requires-3 t c κs = let pre₀ = c .before .before .before .before .before .before .before .before .before .before .before .before .before .before .before .before .before .before .before .before .before .pre .1 in
     let Q = c .before .before .before .before .before .before .before .pattern .ensures .at _ _ (c .before .before .before .r3 .given .1) in
     let Z = Q .ready in let v = Q .few in let h = pre₀ .1 in let g = pre₀ .0 in (omega arith, omega arith)
-
-condition-same-length-5 : (t : ℕ) → condition-lts.Need-same-length-5 (condition-claims t) (condition-at t) condition.Post
-condition-same-length-5 t c = search needs
 
 condition-returns-5 : (t : ℕ) → condition-lts.Need-returns-5 (condition-claims t) (condition-at t) condition.Post
 condition-returns-5 t c = let w = c .before .before .before .before .before .before .before .before .before .before .before .before .before .before .before .before .before .before .before .before .before .before .before .before .args .tokens .now in
@@ -407,9 +358,6 @@ ending-clause-requires : (t : ℕ) → ending-lts.Need-clause-requires (ending-c
 ending-clause-requires t c κs = let pre₀ = c .before .before .before .before .before .pre .1 in
     let h = pre₀ .1 in (pre₀ .0, omega arith, omega arith)
 
-ending-same-length : (t : ℕ) → ending-lts.Need-same-length (ending-claims t) (ending-at t) ending.Post
-ending-same-length t c = search needs
-
 ending-returns : (t : ℕ) → ending-lts.Need-returns (ending-claims t) (ending-at t) ending.Post
 ending-returns t c = let left₀ = c .before .before .before .before .before .before .before .before .args .left in
     let pre₀ = c .before .before .before .before .before .before .before .before .pre .1 in
@@ -436,6 +384,12 @@ ending-add-start : (t : ℕ) → ending-lts.Need-add-start (ending-claims t) (en
 ending-add-start t c = let pre₀ = c .before .before .before .before .pre .1 in
     let R = pre₀ .0 in let h = pre₀ .1 in omega arith
 
+ending-span-from-requires : (t : ℕ) → ending-lts.Need-span-from-requires (ending-claims t) (ending-at t) ending.Post
+ending-span-from-requires t c κs = let w = c .before .before .before .before .args .tokens .now in
+    let at₀ = c .before .before .before .before .args .at in
+    let pre₀ = c .before .before .before .before .pre .1 in
+    let k₁₃ : getD w at₀ 0 ≡ 13 = sym (c .before .kind .ensures) ∙ c .if1 .left in (ready-next _ _ (pre₀ .0) (other _ _ _ k₁₃ refl))
+
 ending-add-first : (t : ℕ) → ending-lts.Need-add-first (ending-claims t) (ending-at t) ending.Post
 ending-add-first t c = let pre₀ = c .before .before .before .before .before .pre .1 in
     let R = pre₀ .0 in let h = pre₀ .1 in omega arith
@@ -446,15 +400,6 @@ ending-clause-requires-2 t c κs = let w = c .before .before .before .before .be
     let pre₀ = c .before .before .before .before .before .before .pre .1 in
     let k₁₃ : getD w at₀ 0 ≡ 13 = sym (c .before .before .before .kind .ensures) ∙ c .before .before .if1 .left in
     let h = pre₀ .1 in ((ready-next _ _ (pre₀ .0) (other _ _ _ k₁₃ refl)), omega arith, omega arith)
-
-ending-enum-known-r : (t : ℕ) → ending-lts.Need-enum-known-r (ending-claims t) (ending-at t) ending.Post
-ending-enum-known-r t c = search needs
-
-ending-enum-told : (t : ℕ) → ending-lts.Need-enum-told (ending-claims t) (ending-at t) ending.Post
-ending-enum-told t c = search needs
-
-ending-same-length-2 : (t : ℕ) → ending-lts.Need-same-length-2 (ending-claims t) (ending-at t) ending.Post
-ending-same-length-2 t c = search needs
 
 ending-returns-2 : (t : ℕ) → ending-lts.Need-returns-2 (ending-claims t) (ending-at t) ending.Post
 ending-returns-2 t c = let w = c .before .before .before .before .before .before .before .before .before .before .before .args .tokens .now in
@@ -470,9 +415,6 @@ ending-kind-requires-2 t c κs = let K = c .before .before .before .before .befo
 
 ending-present-requires : (t : ℕ) → ending-lts.Need-present-requires (ending-claims t) (ending-at t) ending.Post
 ending-present-requires t c κs = let K = c .before .before .before .before .before .before .before .clause2 .ensures .at _ _ (c .before .before .before .r .given .1) in K .closed .ready
-
-ending-same-length-3 : (t : ℕ) → ending-lts.Need-same-length-3 (ending-claims t) (ending-at t) ending.Post
-ending-same-length-3 t c = search needs
 
 ending-returns-3 : (t : ℕ) → ending-lts.Need-returns-3 (ending-claims t) (ending-at t) ending.Post
 ending-returns-3 t c = let w = c .before .before .before .before .before .before .before .before .before .before .before .before .before .before .before .args .tokens .now in
@@ -496,15 +438,6 @@ ending-block-requires t c κs = let w = c .before .before .before .before .befor
     let v₁ = K .few in
     let k₇ : getD w j₁ 0 ≡ 7 = sym (c .before .before .kind2 .ensures) ∙ c .before .if2 .left in let g = pre₀ .0 in (omega arith, (R, omega arith, k₇))
 
-ending-enum-known-r2 : (t : ℕ) → ending-lts.Need-enum-known-r2 (ending-claims t) (ending-at t) ending.Post
-ending-enum-known-r2 t c = search needs
-
-ending-enum-told-2 : (t : ℕ) → ending-lts.Need-enum-told-2 (ending-claims t) (ending-at t) ending.Post
-ending-enum-told-2 t c = search needs
-
-ending-same-length-4 : (t : ℕ) → ending-lts.Need-same-length-4 (ending-claims t) (ending-at t) ending.Post
-ending-same-length-4 t c = search needs
-
 ending-returns-4 : (t : ℕ) → ending-lts.Need-returns-4 (ending-claims t) (ending-at t) ending.Post
 ending-returns-4 t c = let w = c .before .before .before .before .before .before .before .before .before .before .before .before .before .before .before .before .before .before .before .before .args .tokens .now in
     let j₁ = c .before .before .before .before .before .before .before .before .before .r .given .0 .0 in
@@ -525,9 +458,6 @@ ending-kind-requires-3 t c κs = let B = c .before .before .before .before .befo
 ending-present-requires-2 : (t : ℕ) → ending-lts.Need-present-requires-2 (ending-claims t) (ending-at t) ending.Post
 ending-present-requires-2 t c κs = let B = c .before .before .before .before .before .before .before .block .ensures .at _ _ (c .before .before .before .r2 .given .1) in B .ready
 
-ending-same-length-5 : (t : ℕ) → ending-lts.Need-same-length-5 (ending-claims t) (ending-at t) ending.Post
-ending-same-length-5 t c = search needs
-
 ending-returns-5 : (t : ℕ) → ending-lts.Need-returns-5 (ending-claims t) (ending-at t) ending.Post
 ending-returns-5 t c = let w = c .before .before .before .before .before .before .before .before .before .before .before .before .before .before .before .before .before .before .before .before .before .before .before .before .args .tokens .now in
     let j₁ = c .before .before .before .before .before .before .before .before .before .before .before .before .before .r .given .0 .0 in
@@ -547,12 +477,6 @@ ending-returns-5 t c = let w = c .before .before .before .before .before .before
     ∙ end-unclosed _ _ (B .ready) _ b r (asked (K .g) (K .closed .a) (K .closed .e)) (B .v) (B .e) (λ e. c .before .if3 .taken (c .before .before .kind3 .ensures
     ∙ e)) p)
 
-ending-span-from-requires : (t : ℕ) → ending-lts.Need-span-from-requires (ending-claims t) (ending-at t) ending.Post
-ending-span-from-requires t c κs = let w = c .before .before .before .before .args .tokens .now in
-    let at₀ = c .before .before .before .before .args .at in
-    let pre₀ = c .before .before .before .before .pre .1 in
-    let k₁₃ : getD w at₀ 0 ≡ 13 = sym (c .before .kind .ensures) ∙ c .if1 .left in (ready-next _ _ (pre₀ .0) (other _ _ _ k₁₃ refl))
-
 ending-end-before-requires : (t : ℕ) → ending-lts.Need-end-before-requires (ending-claims t) (ending-at t) ending.Post
 ending-end-before-requires t c κs = let B = c .before .before .before .before .before .before .before .block .ensures .at _ _ (c .before .before .before .r2 .given .1) in
     let Z = B .ready in let q = B .on in let v = B .few in (B .ready, omega arith)
@@ -564,9 +488,6 @@ ending-put-span-requires t c κs = let pre₀ = c .before .before .before .befor
 
 ending-add-next : (t : ℕ) → ending-lts.Need-add-next (ending-claims t) (ending-at t) ending.Post
 ending-add-next t c = let B = c .before .before .before .before .before .before .before .before .before .before .before .before .block .ensures .at _ _ (c .before .before .before .before .before .before .before .before .r2 .given .1) in let Z = B .ready in let q = B .on in let v = B .few in omega arith
-
-ending-same-length-6 : (t : ℕ) → ending-lts.Need-same-length-6 (ending-claims t) (ending-at t) ending.Post
-ending-same-length-6 t c = search needs
 
 ending-returns-6 : (t : ℕ) → ending-lts.Need-returns-6 (ending-claims t) (ending-at t) ending.Post
 ending-returns-6 t c = let w = c .before .before .before .before .before .before .before .before .before .before .before .before .before .before .before .before .before .before .before .before .before .before .before .before .before .before .before .before .args .tokens .now in
@@ -614,15 +535,6 @@ sentence-pattern-requires : (t : ℕ) → sentence-lts.Need-pattern-requires (se
 sentence-pattern-requires t c κs = let pre₀ = c .before .before .before .pre .1 in
     let h = pre₀ .1 in (pre₀ .0, omega arith)
 
-sentence-enum-known-r : (t : ℕ) → sentence-lts.Need-enum-known-r (sentence-claims t) (sentence-at t) sentence.Post sentence-Inv-loop sentence-μ-loop
-sentence-enum-known-r t c = search needs
-
-sentence-enum-told : (t : ℕ) → sentence-lts.Need-enum-told (sentence-claims t) (sentence-at t) sentence.Post sentence-Inv-loop sentence-μ-loop
-sentence-enum-told t c = search needs
-
-sentence-same-length : (t : ℕ) → sentence-lts.Need-same-length (sentence-claims t) (sentence-at t) sentence.Post sentence-Inv-loop sentence-μ-loop
-sentence-same-length t c = search needs
-
 sentence-returns : (t : ℕ) → sentence-lts.Need-returns (sentence-claims t) (sentence-at t) sentence.Post sentence-Inv-loop sentence-μ-loop
 sentence-returns t c = let w = c .before .before .before .before .before .before .before .before .args .tokens .now in
     let at₀ = c .before .before .before .before .before .before .before .before .args .at in
@@ -644,12 +556,6 @@ sentence-condition-requires t c κs = let w = c .before .before .before .before 
     let Q = c .before .before .before .before .before .before .before .before .before .pattern .ensures .at _ _ (c .before .before .before .before .before .r .given .1) in
     let k₁₃ : getD w i₀ 0 ≡ 13 = sym (c .before .before .kind .ensures) ∙ c .before .if1 .taken in
     let o = I .on in let q = Q .on in let R = I .ready in let g = pre₀ .0 in (omega arith, (I .ready, I .few, k₁₃))
-
-sentence-enum-known-r2 : (t : ℕ) → sentence-lts.Need-enum-known-r2 (sentence-claims t) (sentence-at t) sentence.Post sentence-Inv-loop sentence-μ-loop
-sentence-enum-known-r2 t c = search needs
-
-sentence-enum-told-2 : (t : ℕ) → sentence-lts.Need-enum-told-2 (sentence-claims t) (sentence-at t) sentence.Post sentence-Inv-loop sentence-μ-loop
-sentence-enum-told-2 t c = search needs
 
 sentence-same-length-2 : (t : ℕ) → sentence-lts.Need-same-length-2 (sentence-claims t) (sentence-at t) sentence.Post sentence-Inv-loop sentence-μ-loop
 sentence-same-length-2 t c = let I = c .before .before .before .before .before .before .before .before .loop .inv in
@@ -698,12 +604,6 @@ sentence-ending-requires t c κs = let w = c .before .before .before .before .be
     let q = Q .on in
     let R = I .ready in
     let v = I .few in let g = pre₀ .0 in (omega arith, (ready-next _ _ (I .ready) (other _ _ _ k₁₅ refl), omega arith))
-
-sentence-enum-known-r3 : (t : ℕ) → sentence-lts.Need-enum-known-r3 (sentence-claims t) (sentence-at t) sentence.Post sentence-Inv-loop sentence-μ-loop
-sentence-enum-known-r3 t c = search needs
-
-sentence-enum-told-3 : (t : ℕ) → sentence-lts.Need-enum-told-3 (sentence-claims t) (sentence-at t) sentence.Post sentence-Inv-loop sentence-μ-loop
-sentence-enum-told-3 t c = search needs
 
 sentence-same-length-3 : (t : ℕ) → sentence-lts.Need-same-length-3 (sentence-claims t) (sentence-at t) sentence.Post sentence-Inv-loop sentence-μ-loop
 sentence-same-length-3 t c = let I = c .before .before .before .before .before .before .before .before .loop .inv in
@@ -763,125 +663,34 @@ sentence-returns-4 t c = let w = c .before .before .before .before .before .befo
 
 pub +block+condition+ending+sentence-spec : {M : Type 1} → statement M
 +block+condition+ending+sentence-spec =
-    close μ-block μ-condition μ-ending μ-sentence (λ t. block-lts.spec (block-claims t)
-    (block-at t)
+    close μ-block μ-condition μ-ending μ-sentence (λ t. block-lts.spec (block-claims t) (block-at t)
     block.Post
     block-Inv-loop
-    block-μ-loop
-    (block-present-requires t)
-    (block-returns t)
-    (block-sub-under t)
-    (block-add-i t)
-    (block-loop-holds t)
-    (block-kind-requires t)
-    (block-kind-requires-2 t)
-    (block-present-requires-2 t)
-    (block-same-length t)
-    (block-returns-2 t)
-    (block-sentence-requires t)
-    (block-enum-known-r t)
-    (block-enum-told t)
-    (block-same-length-2 t)
-    (block-returns-3 t)
-    (block-loop-less t)
-    (block-loop-again t)
-    (block-add-next t)
-    (block-same-length-3 t)
-    (block-returns-4 t))
-    (λ t. condition-lts.spec (condition-claims t)
-    (condition-at t)
-    condition.Post
-    (condition-add-start t)
-    (condition-span-from-requires t)
-    (condition-add-first t)
-    (condition-clause-requires t)
-    (condition-enum-known-r t)
-    (condition-enum-told t)
-    (condition-same-length t)
-    (condition-returns t)
-    (condition-kind-requires t)
-    (condition-add-row t)
-    (condition-block-requires t)
-    (condition-enum-known-r2 t)
-    (condition-enum-told-2 t)
-    (condition-same-length-2 t)
-    (condition-returns-2 t)
-    (condition-end-before-requires t)
-    (condition-put-span-requires t)
-    (condition-put-span-requires-2 t)
-    (condition-joins-requires t)
-    (condition-same-length-3 t)
-    (condition-returns-3 t)
-    (condition-pattern-requires t)
-    (condition-enum-known-r3 t)
-    (condition-enum-told-3 t)
-    (condition-same-length-4 t)
-    (condition-returns-4 t)
-    (condition-end-before-requires-2 t)
-    (condition-put-span-requires-3 t)
-    (condition-same-length-5 t)
+    block-μ-loop (λ c κs. search needs) (block-returns t) (λ c. search needs) (block-add-i t) (block-loop-holds t) (block-kind-requires t)
+    (block-kind-requires-2 t) (block-present-requires-2 t) (block-same-length t) (block-returns-2 t) (block-sentence-requires t)
+    (λ c. search needs) (λ c. search needs) (λ c. search needs) (block-returns-3 t) (block-loop-less t) (block-loop-again t)
+    (block-add-next t) (λ c. search needs) (block-returns-4 t))
+    (λ t. condition-lts.spec (condition-claims t) (condition-at t)
+    condition.Post (condition-add-start t) (condition-span-from-requires t) (condition-add-first t) (condition-clause-requires t)
+    (λ c. search needs) (λ c. search needs) (λ c. search needs) (condition-returns t) (condition-kind-requires t) (condition-add-row t)
+    (condition-block-requires t) (λ c. search needs) (λ c. search needs) (λ c. search needs) (condition-returns-2 t)
+    (condition-end-before-requires t) (condition-put-span-requires t) (condition-put-span-requires-2 t) (condition-follows-requires t)
+    (condition-same-length-3 t) (condition-returns-3 t) (condition-pattern-requires t) (λ c. search needs) (λ c. search needs)
+    (λ c. search needs) (condition-returns-4 t) (condition-end-before-requires-2 t) (condition-put-span-requires-3 t) (λ c. search needs)
     (condition-returns-5 t))
-    (λ t. ending-lts.spec (ending-claims t)
-    (ending-at t)
-    ending.Post
-    (ending-kind-requires t)
-    (ending-clause-requires t)
-    (ending-same-length t)
-    (ending-returns t)
-    (ending-add-start t)
-    (ending-span-from-requires t)
-    (ending-add-first t)
-    (ending-clause-requires-2 t)
-    (ending-enum-known-r t)
-    (ending-enum-told t)
-    (ending-same-length-2 t)
-    (ending-returns-2 t)
-    (ending-kind-requires-2 t)
-    (ending-present-requires t)
-    (ending-same-length-3 t)
-    (ending-returns-3 t)
-    (ending-block-requires t)
-    (ending-enum-known-r2 t)
-    (ending-enum-told-2 t)
-    (ending-same-length-4 t)
-    (ending-returns-4 t)
-    (ending-kind-requires-3 t)
-    (ending-present-requires-2 t)
-    (ending-same-length-5 t)
-    (ending-returns-5 t)
-    (ending-end-before-requires t)
-    (ending-put-span-requires t)
-    (ending-add-next t)
-    (ending-same-length-6 t)
-    (ending-returns-6 t))
-    λ t. sentence-lts.spec (sentence-claims t)
-    (sentence-at t)
+    (λ t. ending-lts.spec (ending-claims t) (ending-at t)
+    ending.Post (ending-kind-requires t) (ending-clause-requires t) (λ c. search needs) (ending-returns t) (ending-add-start t)
+    (ending-span-from-requires t) (ending-add-first t) (ending-clause-requires-2 t) (λ c. search needs) (λ c. search needs)
+    (λ c. search needs) (ending-returns-2 t) (ending-kind-requires-2 t) (ending-present-requires t) (λ c. search needs) (ending-returns-3 t)
+    (ending-block-requires t) (λ c. search needs) (λ c. search needs) (λ c. search needs) (ending-returns-4 t) (ending-kind-requires-3 t)
+    (ending-present-requires-2 t) (λ c. search needs) (ending-returns-5 t) (ending-end-before-requires t) (ending-put-span-requires t)
+    (ending-add-next t) (λ c. search needs) (ending-returns-6 t))
+    λ t. sentence-lts.spec (sentence-claims t) (sentence-at t)
     sentence.Post
     sentence-Inv-loop
-    sentence-μ-loop
-    (sentence-add-first t)
-    (sentence-pattern-requires t)
-    (sentence-enum-known-r t)
-    (sentence-enum-told t)
-    (sentence-same-length t)
-    (sentence-returns t)
-    (sentence-loop-holds t)
-    (sentence-kind-requires t)
-    (sentence-condition-requires t)
-    (sentence-enum-known-r2 t)
-    (sentence-enum-told-2 t)
-    (sentence-same-length-2 t)
-    (sentence-returns-2 t)
-    (sentence-loop-less t)
-    (sentence-loop-again t)
-    (sentence-add-after t)
-    (sentence-ending-requires t)
-    (sentence-enum-known-r3 t)
-    (sentence-enum-told-3 t)
-    (sentence-same-length-3 t)
-    (sentence-returns-3 t)
-    (sentence-span-from-requires t)
-    (sentence-end-before-requires t)
-    (sentence-put-span-requires t)
-    (sentence-same-length-4 t)
-    (sentence-returns-4 t)
+    sentence-μ-loop (sentence-add-first t) (sentence-pattern-requires t) (λ c. search needs) (λ c. search needs) (λ c. search needs)
+    (sentence-returns t) (sentence-loop-holds t) (sentence-kind-requires t) (sentence-condition-requires t) (λ c. search needs)
+    (λ c. search needs) (sentence-same-length-2 t) (sentence-returns-2 t) (sentence-loop-less t) (sentence-loop-again t)
+    (sentence-add-after t) (sentence-ending-requires t) (λ c. search needs) (λ c. search needs) (sentence-same-length-3 t)
+    (sentence-returns-3 t) (sentence-span-from-requires t) (sentence-end-before-requires t) (sentence-put-span-requires t)
+    (sentence-same-length-4 t) (sentence-returns-4 t)

@@ -1,58 +1,72 @@
--- `refal_parser::terms::follows` meets its contract: a comma, `=`, Eof, or another kind.
+-- `refal_parser::terms::follows` meets its contract: a comma, `=`, Eof, or another kind, after terms and after a block.
 use mathlib.Core.Path.{refl, sym, _∙_}
-use Rattle.refal_parser.proofs.Steps.{is-at, is-no, joint-comma, joint-equals, joint-eof, joint-none}
+use mathlib.Core.Bool.{true, false, true≢false}
+use borrow.Author.Tests.{not-true, not-false}
+use Rattle.refal_parser.proofs.Steps.{is-at, is-no, joint-comma, joint-equals, joint-eof, joint-none, joins-none}
 use borrow.Author.Needs.{needs}
 use Rattle.refal_parser.proofs.terms.follows.Statement.{statement}
 use Rattle.refal_parser.proofs.terms.follows.Tie as tie
+use Rattle.refal_parser.proofs.terms.follows.Reads as reads
+use Rattle.refal_parser.proofs.terms.follows.Lts as lts
+use Rattle.refal_parser.proofs.answers.present.Reads as present-reads
+use Rattle.refal_parser.proofs.answers.taken.Reads as taken-reads
+use Rattle.refal_parser.proofs.tokens.kind.Reads as kind-reads
 
--- src/terms.rt:191:9
 kind-requires : tie.Need-kind-requires
 kind-requires c κs = search needs
 
--- src/terms.rt:193:9
 returns : tie.Need-returns
 returns c = let pre₀ = c .before .before .before .pre in
     let k = sym (c .before .kind .ensures) ∙ c .if1 .taken in
-    is-at refl (record {
-      ready = pre₀;
-      stays = refl;
-      rows = refl;
-      joint = λ n. absurd (n k);
-      means = λ d b r. joint-comma _ _ pre₀ d b r k;
-    })
+    is-at refl (record { ready = pre₀; stays = refl; rows = refl; joint = λ n. absurd (n k); means = λ d b r. joint-comma _ _ pre₀ d b r k })
 
--- src/terms.rt:196:9
 returns-2 : tie.Need-returns-2
 returns-2 c = let pre₀ = c .before .before .before .before .pre in
     let k = sym (c .before .before .kind .ensures) ∙ c .if2 .taken in
-    is-at refl (record {
-      ready = pre₀;
-      stays = refl;
-      rows = refl;
-      joint = λ n. k;
-      means = λ d b r. joint-equals _ _ pre₀ d b r k;
-    })
+    is-at refl (record { ready = pre₀; stays = refl; rows = refl; joint = λ n. k; means = λ d b r. joint-equals _ _ pre₀ d b r k })
 
--- src/terms.rt:199:9
 present-requires : tie.Need-present-requires
 present-requires c κs = search needs
 
--- src/terms.rt:199:9
 returns-3 : tie.Need-returns-3
 returns-3 c = let pre₀ = c .before .before .before .before .before .before .pre in
-    is-no (c .present .ensures) (λ d b r. joint-eof _ _ pre₀ d b r (sym (c .before .before .before .before .kind .ensures) ∙ c .before .if3 .taken))
+    let f = not-true _ (c .before .if3 .taken) in
+    is-no (c .present .ensures) (record {
+      ofTerms = λ h. absurd (true≢false (sym h ∙ f));
+      ofBlock = λ h d b r. joins-none _ _ pre₀ d b r (λ e. c .before .before .before .if1 .left (c .before .before .before .before .kind .ensures ∙ e)) (λ e. c .before .before .if2 .left (c .before .before .before .before .kind .ensures ∙ e));
+    })
 
--- src/terms.rt:201:5
+present-requires-2 : tie.Need-present-requires-2
+present-requires-2 c κs = search needs
+
+returns-4 : tie.Need-returns-4
+returns-4 c = let pre₀ = c .before .before .before .before .before .before .before .pre in
+    is-no (c .present2 .ensures) (record {
+      ofTerms = λ h d b r. joint-eof _ _ pre₀ d b r (sym (c .before .before .before .before .before .kind .ensures) ∙ c .before .if4 .taken);
+      ofBlock = λ h d b r. joins-none _ _ pre₀ d b r (λ e. c .before .before .before .before .if1 .left (c .before .before .before .before .before .kind .ensures ∙ e)) (λ e. c .before .before .before .if2 .left (c .before .before .before .before .before .kind .ensures ∙ e));
+    })
+
 taken-requires : tie.Need-taken-requires
 taken-requires c κs = search needs
 
--- src/terms.rt:187:1
-returns-4 : tie.Need-returns-4
-returns-4 c = let pre₀ = c .before .before .before .before .before .before .pre in
-    is-no (c .taken .ensures) (λ d b r. joint-none _ _ pre₀ d b r (λ e. c .before .before .before .if1 .left (c .before .before .before .before .kind .ensures
-    ∙ e)) (λ e. c .before .before .if2 .left (c .before .before .before .before .kind .ensures ∙ e)) (λ e. c .before .if3 .left (c .before .before .before .before .kind .ensures ∙ e)))
+returns-5 : tie.Need-returns-5
+returns-5 c = let pre₀ = c .before .before .before .before .before .before .before .pre in
+    let t = not-false _ (c .before .before .if3 .left) in
+    is-no (c .taken .ensures) (record {
+      ofTerms = λ h d b r. joint-none _ _ pre₀ d b r (λ e. c .before .before .before .before .if1 .left (c .before .before .before .before .before .kind .ensures ∙ e)) (λ e. c .before .before .before .if2 .left (c .before .before .before .before .before .kind .ensures ∙ e)) (λ e. c .before .if4 .left (c .before .before .before .before .before .kind .ensures ∙ e));
+      ofBlock = λ h. absurd (true≢false (sym t ∙ h));
+    })
 
 pub follows-spec : {M : Type 1} → statement M
 follows-spec =
     tie.close
-    (tie.spec kind-requires returns returns-2 present-requires returns-3 taken-requires returns-4)
+    (tie.spec
+    kind-requires
+    returns
+    returns-2
+    present-requires
+    returns-3
+    present-requires-2
+    returns-4
+    taken-requires
+    returns-5)

@@ -1,5 +1,5 @@
 -- `refal_parser::terms::pattern` meets its contract: terms up to a comma or `=`, with their row.
-use mathlib.Core.Path.{sym, ap, _∙_}
+use mathlib.Core.Path.{refl, sym, ap, _∙_}
 use Prim.Native.Nat.{ℕ}
 use native.Mathlib.Omega.{arith}
 use Rattle.refal_ast.specs.declared.tree.Term.the-variants.{NoTerm}
@@ -75,7 +75,7 @@ returns-2 c = let w = c .before .before .before .before .before .before .before 
           };
       no = λ a b k d e u. λ q z r h p. T .means q p ∙ term-step _ _ (T .ready) _ q (T .g) NoTerm (T .none) p
           ∙ ap (λ (y : Step). after w j₁ p y) (h (T .g) (tok w j₁) (afterFrom w j₁) (afterTo w j₁))
-          ∙ c .follows .ensures .no a b k d e u left₀ z (r (T .g)) p;
+          ∙ c .follows .ensures .no a b k d e u .ofTerms refl left₀ z (r (T .g)) p;
     }
 
 pub pattern-spec : {M : Type 1} → statement M
