@@ -1,6 +1,6 @@
 -- White space and comments at the front of the bytes s.
 use Prim.Native.Nat.{ℕ, _+_, zero, suc}
-use mathlib.Core.Bool.{Bool, false, not, _&&_, _||_, true}
+use mathlib.Core.Bool.{Bool, true, false, _&&_}
 use mathlib.Core.List.{List, [], _∷_}
 use lib.Dec.{eqb}
 use lib.ListN.{drop, getD}

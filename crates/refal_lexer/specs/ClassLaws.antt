@@ -7,11 +7,11 @@ use mathlib.Core.List.{List, _∷_, _++_}
 use mathlib.Core.Bool.{Bool, true, false, not, _&&_, _||_, true≢false}
 use mathlib.Core.Path.{_≡_, refl, _∙_, sym, subst}
 use lib.ListN.{length, getD}
-use lib.Dec.{T, leb, eqb}
+use lib.Dec.{T, leb, ltb, eqb}
 use Rattle.refal_rows.specs.Tests.{each-below, below, range-lo}
 use Rattle.refal_text.specs.Pick.{split}
 use Rattle.refal_text.specs.White.{whiteSpace}
-use Rattle.refal_lexer.specs.Classes.{upper, digit, letter, nameByte, blank, variable, single, classOf, cNone, cQuote}
+use Rattle.refal_lexer.specs.Classes.{upper, digit, letter, nameByte, blank, variable, singleKind, classOf, cNone, cQuote}
 use Rattle.refal_lexer.specs.Tokens.{one}
 
 -- ---- what a class says of the byte
@@ -28,33 +28,26 @@ pub data ClassIs (b : ℕ) : ℕ → Type 0 where
   is-digit : digit b ≡ true → ClassIs b 22
   is-variable : variable b ≡ true → ClassIs b 23
   is-other : letter b || eqb b 95 ≡ true → ClassIs b 24
-  is-single : (k : ℕ) → leb 7 k && leb k 16 ≡ true → single b cNone ≡ k → ClassIs b k
+  is-single : ltb 0 (singleKind b) ≡ true → ClassIs b 7
   is-none : ClassIs b 0
 
-data OneByte (k : ℕ) : Type 0 where
-  a-kind : leb 7 k && leb k 16 ≡ true → OneByte k
-  no-kind : k ≡ 0 → OneByte k
-
-single-view : (b : ℕ) → ClassIs b (single b cNone)
-single-view b = go (single b cNone) refl
-    (split P (eqb b 123) _ _ (λ _. a-kind refl) (λ _.
-    split P (eqb b 125) _ _ (λ _. a-kind refl) (λ _.
-    split P (eqb b 40) _ _ (λ _. a-kind refl) (λ _.
-    split P (eqb b 41) _ _ (λ _. a-kind refl) (λ _.
-    split P (eqb b 60) _ _ (λ _. a-kind refl) (λ _.
-    split P (eqb b 62) _ _ (λ _. a-kind refl) (λ _.
-    split P (eqb b 44) _ _ (λ _. a-kind refl) (λ _.
-    split P (eqb b 58) _ _ (λ _. a-kind refl) (λ _.
-    split P (eqb b 61) _ _ (λ _. a-kind refl) (λ _.
-    split P (eqb b 59) _ _ (λ _. a-kind refl) (λ _.
-    no-kind refl)))))))))))
+-- the kind of a token of one byte is from 7 to 16
+pub single-range : (b : ℕ) → ltb 0 (singleKind b) ≡ true → leb 7 (singleKind b) && leb (singleKind b) 16 ≡ true
+single-range b =
+    split P (eqb b 123) _ _ (λ _ _. refl) (λ _.
+    split P (eqb b 125) _ _ (λ _ _. refl) (λ _.
+    split P (eqb b 40) _ _ (λ _ _. refl) (λ _.
+    split P (eqb b 41) _ _ (λ _ _. refl) (λ _.
+    split P (eqb b 60) _ _ (λ _ _. refl) (λ _.
+    split P (eqb b 62) _ _ (λ _ _. refl) (λ _.
+    split P (eqb b 44) _ _ (λ _ _. refl) (λ _.
+    split P (eqb b 58) _ _ (λ _ _. refl) (λ _.
+    split P (eqb b 61) _ _ (λ _ _. refl) (λ _.
+    split P (eqb b 59) _ _ (λ _ _. refl) (λ _ h.
+    absurd (true≢false (sym h))))))))))))
   where
     P : ℕ → Type 0
-    P = OneByte
-
-    go : (k : ℕ) → single b cNone ≡ k → OneByte k → ClassIs b k
-    go k e (a-kind h) = is-single k h e
-    go k e (no-kind z) = subst (ClassIs b) (sym z) is-none
+    P n = ltb 0 n ≡ true → leb 7 n && leb n 16 ≡ true
 
 pub class-view : (b : ℕ) → ClassIs b (classOf b)
 class-view b =
@@ -70,11 +63,10 @@ class-view b =
     split (ClassIs b) (digit b) _ _ is-digit (λ _.
     split (ClassIs b) (variable b) _ _ is-variable (λ _.
     split (ClassIs b) (letter b || eqb b 95) _ _ is-other (λ _.
-    single-view b))))))))))))
+    split (ClassIs b) (ltb 0 (singleKind b)) _ _ is-single (λ _. is-none)))))))))))))
 
 of-digit : (b : ℕ) → ClassIs b 22 → digit b ≡ true
 of-digit b (is-digit h) = h
-of-digit b (is-single k h e) = absurd (true≢false (sym h))
 
 pub class-digit : (b : ℕ) → classOf b ≡ 22 → digit b ≡ true
 class-digit b e = of-digit b (subst (ClassIs b) e (class-view b))
@@ -85,7 +77,6 @@ quote-some (suc b) h = omega arith
 
 of-quote : (b : ℕ) → ClassIs b 3 → 0 < b
 of-quote b (is-quote h) = quote-some b h
-of-quote b (is-single k h e) = absurd (true≢false (sym h))
 
 pub class-quote : (b : ℕ) → classOf b ≡ 3 → 0 < b
 class-quote b e = of-quote b (subst (ClassIs b) e (class-view b))
@@ -150,5 +141,5 @@ quote-class b t = go (classOf b) (class-view b) (eqb-true (classOf b) 3 t)
     go k (is-digit t) e = absurd (omega arith)
     go k (is-variable t) e = absurd (omega arith)
     go k (is-other t) e = absurd (omega arith)
-    go k (is-single j t f) e = let m = range-lo 7 k 16 t in absurd (omega arith)
+    go k (is-single t) e = absurd (omega arith)
     go k is-none e = absurd (omega arith)

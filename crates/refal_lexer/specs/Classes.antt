@@ -1,8 +1,9 @@
 -- The classes of bytes. The class of a token's first byte decides how it is scanned.
 use Prim.Native.Nat.{ℕ}
 use mathlib.Core.Bool.{Bool, not, _&&_, _||_}
-use lib.Dec.{leb, eqb}
+use lib.Dec.{leb, ltb, eqb}
 use Rattle.refal_text.specs.Pick.{pick}
+use Rattle.refal_ast.specs.Kinds.{tokLBrace, tokRBrace, tokLParen, tokRParen, tokLAngle, tokRAngle, tokComma, tokColon, tokEquals, tokSemicolon}
 use Rattle.refal_text.specs.White.{whiteSpace}
 
 abbrev pub upper : ℕ → Bool
@@ -29,7 +30,7 @@ blank b = (leb 9 b && leb b 13) || eqb b 32
 abbrev pub variable : ℕ → Bool
 variable b = (eqb b 115 || eqb b 116) || eqb b 101
 
--- ---- the classes' numbers. 7 to 16 are the kinds of the tokens of one byte
+-- ---- the classes' numbers
 abbrev pub cNone : ℕ
 cNone = 0
 
@@ -47,6 +48,10 @@ cSlash = 5
 
 abbrev pub cDollar : ℕ
 cDollar = 6
+
+-- the tokens of one byte
+abbrev pub cSingle : ℕ
+cSingle = 7
 
 abbrev pub cPlus : ℕ
 cPlus = 17
@@ -69,20 +74,20 @@ cVariable = 23
 abbrev pub cOther : ℕ
 cOther = 24
 
--- `{` `}` `(` `)` `<` `>` `,` `:` `=` `;` and their kinds
-abbrev pub single : ℕ → ℕ → ℕ
-single b other =
-    pick (eqb b 123) 7
-    (pick (eqb b 125) 8
-    (pick (eqb b 40) 9
-    (pick (eqb b 41) 10
-    (pick (eqb b 60) 11
-    (pick (eqb b 62) 12
-    (pick (eqb b 44) 13
-    (pick (eqb b 58) 14
-    (pick (eqb b 61) 15
-    (pick (eqb b 59) 16
-    other)))))))))
+-- the kinds of `{` `}` `(` `)` `<` `>` `,` `:` `=` `;`, and 0 of any other byte
+abbrev pub singleKind : ℕ → ℕ
+singleKind b =
+    pick (eqb b 123) tokLBrace
+    (pick (eqb b 125) tokRBrace
+    (pick (eqb b 40) tokLParen
+    (pick (eqb b 41) tokRParen
+    (pick (eqb b 60) tokLAngle
+    (pick (eqb b 62) tokRAngle
+    (pick (eqb b 44) tokComma
+    (pick (eqb b 58) tokColon
+    (pick (eqb b 61) tokEquals
+    (pick (eqb b 59) tokSemicolon
+    0)))))))))
 
 abbrev pub classOf : ℕ → ℕ
 classOf b =
@@ -98,4 +103,4 @@ classOf b =
     (pick (digit b) cDigit
     (pick (variable b) cVariable
     (pick (letter b || eqb b 95) cOther
-    (single b cNone))))))))))))
+    (pick (ltb 0 (singleKind b)) cSingle cNone))))))))))))

@@ -269,7 +269,7 @@ module _ (src : List ℕ) (w : Well src) where
   ends-class at b s k h g l (is-digit t) = ends-digits at 0 (b ∷ s) (h .at) (omega arith) (stands at (b ∷ s) h) (run-to digit digit-low at (at + (0 + span digit (b ∷ s))) (b ∷ s) h (omega arith))
   ends-class at b s k h g l (is-variable t) = ends-variable at b s (stands at (b ∷ s) h) g
   ends-class at b s k h g l (is-other t) = ends-other at b s (stands at (b ∷ s) h) g
-  ends-class at b s k h g l (is-single j t e) = rw t (stands at (b ∷ s) h, stands (at + 1) s g, first, first)
+  ends-class at b s k h g l (is-single t) = (stands at (b ∷ s) h, stands (at + 1) s g, first, first)
   ends-class at b s k h g l is-none = (stands at (b ∷ s) h, stands (at + 1) s g)
 
   ends-scan : (at b : ℕ) (s : List ℕ) → Here src at (b ∷ s) → Ends src (classScan (classOf b) at (b ∷ s))

@@ -1,5 +1,5 @@
 -- What reading gives: tokens, and how it stops.
-use Prim.Native.Nat.{ℕ, _-_}
+use Prim.Native.Nat.{ℕ}
 use mathlib.Core.List.{List, [], _∷_, _++_}
 use lib.ListN.{length}
 use Rattle.refal_ast.specs.Kinds.{tokEof}
@@ -7,7 +7,6 @@ use Rattle.refal_ast.specs.Answers.{refusal}
 use Rattle.refal_ast.specs.Tokens.{Token, token}
 use Rattle.refal_ast.specs.declared.Answer.{Answer}
 use Rattle.refal_ast.specs.declared.Answer.the-variants.{Done, Refused}
-use Rattle.refal_lexer.specs.declared.Scan.the-variants as S
 
 -- how reading stops: at the end, or with a refusal's number and span
 pub data Stop : Type 0 where

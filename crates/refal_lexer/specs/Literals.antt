@@ -9,7 +9,7 @@ use Rattle.refal_text.specs.declared.Char.{Char}
 use Rattle.refal_ast.specs.Kinds.{tokChar}
 use Rattle.refal_ast.specs.Tokens.{Token, token}
 
--- a byte that is no character counts as one
+-- a byte that is no character counts as one, so that every list of bytes has a meaning; reading refuses such bytes before (2)
 abbrev pub some : Char → Char
 some c = pick (eqb (c .len) 0) (char 0 1) c
 

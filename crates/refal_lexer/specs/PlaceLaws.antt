@@ -122,7 +122,7 @@ placed-class at b s k (is-upper h) = placed-name at (suc (length s)) (1 + span n
 placed-class at b s k (is-digit h) = placed-digits at 0 (b ∷ s) (omega arith) (rw h (omega arith))
 placed-class at b s k (is-variable h) = placed-variable at b s
 placed-class at b s k (is-other h) = placed-other at b s
-placed-class at b s k (is-single j h e) = rw h (refl, omega arith, omega arith, text-none)
+placed-class at b s k (is-single h) = (refl, omega arith, omega arith, text-none)
 placed-class at b s k is-none = (refl, omega arith, omega arith)
 
 pub scan-placed : (at b : ℕ) (s : List ℕ) → Placed at (at + suc (length s)) (classScan (classOf b) at (b ∷ s))

@@ -6,7 +6,7 @@ use mathlib.Core.Bool.{true, false, _&&_, _||_}
 use mathlib.Core.Path.{_≡_, refl, ap, _∙_, sym}
 use lib.Dec.{leb}
 use lib.ListN.{getD}
-use Rattle.refal_lexer.specs.Classes.{digit}
+use Rattle.refal_lexer.specs.Classes.{digit, singleKind}
 use Rattle.refal_lexer.specs.Words.{otherScan}
 use Rattle.refal_lexer.specs.Numbers.{numberScan}
 use Rattle.refal_lexer.specs.declared.Scan.{Scan}
@@ -47,8 +47,8 @@ module _ (k at : ℕ) (s : List ℕ) where
   pub rare-none : (k ≡ 6 → ⊥) → (k ≡ 17 → ⊥) → (k ≡ 18 → ⊥) → (k ≡ 20 → ⊥) → (k ≡ 24 → ⊥) → Bad 10 at (at + 1) ≡ rareScan k at s
   rare-none n₆ n₇ n₈ n₂ n₃ = sym (rw (ne-eqb _ _ n₆, ne-eqb _ _ n₇, ne-eqb _ _ n₈, ne-eqb _ _ n₂, ne-eqb _ _ n₃) refl)
 
-  pub class-single : leb 7 k && leb k 16 ≡ true → (w : ℕ) → w ≡ k → Token w 0 0 0 at (at + 1) ≡ classScan k at s
-  class-single t w e = rw e (sym (rw t refl))
+  pub class-single : k ≡ 7 → (b w : ℕ) → b ≡ getD s 0 0 → w ≡ singleKind b → Token w 0 0 0 at (at + 1) ≡ classScan k at s
+  class-single t b w f e = ap (λ (x : ℕ). Token x 0 0 0 at (at + 1)) (e ∙ ap singleKind f) ∙ sym (rw (eq-eqb _ _ t) refl)
 
-  pub class-rare : (r : Scan) → leb 7 k && leb k 16 ≡ false → (k ≡ 21 → ⊥) → (k ≡ 22 → ⊥) → (k ≡ 23 → ⊥) → r ≡ rareScan k at s → r ≡ classScan k at s
-  class-rare r t n₁ n₂ n₃ e = e ∙ sym (rw (t, ne-eqb _ _ n₁, ne-eqb _ _ n₂, ne-eqb _ _ n₃) refl)
+  pub class-rare : (r : Scan) → (k ≡ 7 → ⊥) → (k ≡ 21 → ⊥) → (k ≡ 22 → ⊥) → (k ≡ 23 → ⊥) → r ≡ rareScan k at s → r ≡ classScan k at s
+  class-rare r t n₁ n₂ n₃ e = e ∙ sym (rw (ne-eqb _ _ t, ne-eqb _ _ n₁, ne-eqb _ _ n₂, ne-eqb _ _ n₃) refl)

@@ -16,7 +16,7 @@ use Rattle.refal_text.specs.Encode.{Scalar}
 use Rattle.refal_lexer.specs.Tokens.{wideScan, signScan, classScan}
 use Rattle.refal_lexer.specs.Words.{nameOf, indexOf, variableScan, entryWord, externWord, directiveOf}
 use Rattle.refal_lexer.specs.Numbers.{value, numberOf, numberScan, pointAt, exponentAt, digitsEnd}
-use Rattle.refal_lexer.specs.ClassLaws.{ClassIs, is-wide, is-white, is-quote, is-star, is-slash, is-dollar, is-plus, is-minus, is-upper, is-digit, is-variable, is-other, is-single, is-none}
+use Rattle.refal_lexer.specs.ClassLaws.{ClassIs, is-wide, is-white, is-quote, is-star, is-slash, is-dollar, is-plus, is-minus, is-upper, is-digit, is-variable, is-other, is-single, single-range, is-none}
 use Rattle.refal_ast.specs.Tokens.{token}
 use Rattle.refal_lexer.specs.declared.number.Part.{Part}
 
@@ -77,5 +77,5 @@ sound-class at b s k (is-upper h) = sound-name at (1 + span nameByte s)
 sound-class at b s k (is-digit h) = sound-digits at 0 (b ∷ s)
 sound-class at b s k (is-variable h) = sound-variable at b s h
 sound-class at b s k (is-other h) = tt
-sound-class at b s k (is-single j h e) = rw h (row-single h)
+sound-class at b s k (is-single h) = row-single (single-range b h)
 sound-class at b s k is-none = tt

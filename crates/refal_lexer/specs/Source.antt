@@ -20,7 +20,8 @@ turn starts at b s white comment token =
     (onComment (commentAt starts (b ∷ s)) (λ n. comment (n - 1)) (stopBad 24 at (at + suc (length s)))
     (onFound at (tokenAt at (b ∷ s)) token))
 
--- the tokens of src from `at` on, where s stands, of which the first `skip` bytes are taken already
+-- the tokens of src from `at` on, where s stands, of which the first `skip` bytes are taken already: white space, comments and tokens lie within,
+-- so no more are taken than stand there
 unfoldable pub lex01 : List ℕ → ℕ → ℕ → List ℕ → Out
 lex01 src skip at [] = eofAt at
 lex01 src zero at (b ∷ s) =

@@ -207,7 +207,7 @@ module _ (src : List ℕ) where
   lined-class at b s k a i (is-digit t) = lined-first at b s t a (i refl)
   lined-class at b s k a i (is-variable t) = lined-variable at b s (next at (at + 1) b s a refl) (i refl)
   lined-class at b s k a i (is-other t) = tt
-  lined-class at b s k a i (is-single j t e) = let m = range-lo 7 k 16 t in rw t (i (ne-eqb k 2 (λ z. absurd (omega arith))))
+  lined-class at b s k a i (is-single t) = i refl
   lined-class at b s k a i is-none = tt
 
   -- ---- literals: only the quote closes
@@ -269,7 +269,7 @@ module _ (src : List ℕ) where
       of-quote k (is-digit t) e = absurd (omega arith)
       of-quote k (is-variable t) e = absurd (omega arith)
       of-quote k (is-other t) e = absurd (omega arith)
-      of-quote k (is-single j t f) e = let m = range-lo 7 k 16 t in absurd (omega arith)
+      of-quote k (is-single t) e = absurd (omega arith)
       of-quote k is-none e = absurd (omega arith)
 
       quote : eqb (classOf b) cQuote ≡ true → Ink b

@@ -8,7 +8,7 @@ use Rattle.refal_text.specs.Pick.{pick}
 use Rattle.refal_text.specs.Utf8.{decode}
 use Rattle.refal_text.specs.declared.Char.{Char}
 use Rattle.refal_ast.specs.Tokens.{token, Token as Tok}
-use Rattle.refal_lexer.specs.Classes.{classOf, digit, cQuote, cDollar, cPlus, cWide, cMinus, cUpper, cDigit, cVariable, cOther}
+use Rattle.refal_lexer.specs.Classes.{classOf, digit, cQuote, cDollar, cPlus, cWide, cMinus, cSingle, singleKind, cUpper, cDigit, cVariable, cOther}
 use Rattle.refal_lexer.specs.Literals.{charTokens, Lit, closed, newline, unclosed, litFrom}
 use Rattle.refal_lexer.specs.Words.{nameScan, otherScan, variableScan, directiveScan}
 use Rattle.refal_lexer.specs.Numbers.{numberScan}
@@ -34,13 +34,13 @@ rareScan k at s =
 
 abbrev pub classScan : ℕ → ℕ → List ℕ → Scan
 classScan k at s =
-    pick (leb 7 k && leb k 16) (Token k 0 0 0 at (at + 1))
+    pick (eqb k cSingle) (Token (singleKind (getD s 0 0)) 0 0 0 at (at + 1))
     (pick (eqb k cUpper) (nameScan at s)
     (pick (eqb k cDigit) (numberScan at 0 s)
     (pick (eqb k cVariable) (variableScan at s)
     (rareScan k at s))))
 
--- one token, whose first byte is no quote, or a refusal
+-- one token, whose first byte is no quote, or a refusal: 10 for the classes that start none
 abbrev pub tokenScan : ℕ → List ℕ → Scan
 tokenScan at s = classScan (classOf (getD s 0 0)) at s
 

@@ -2,9 +2,10 @@
 ghost use mathlib.Core.Path.{_≡_};
 ghost use Rattle.refal_lexer.specs.ClassLaws.{Table};
 ghost use Rattle.refal_lexer.specs.Classes.{classOf, nameByte, blank, letter};
-ghost use Rattle.refal_lexer.specs.Classes.{upper, digit};
+ghost use Rattle.refal_lexer.specs.Classes.{upper, digit, singleKind};
+use refal_ast::kinds::token as kind;
 
-// The classes that decide a token, by name; those of `specs/Classes.antt`. The tokens of one byte have the classes from SINGLE to SINGLE_LAST.
+// The classes that decide a token, by name; those of `specs/Classes.antt`.
 pub const QUOTE: u8 = 3;
 
 pub const DOLLAR: u8 = 6;
@@ -24,8 +25,6 @@ pub const VARIABLE: u8 = 23;
 pub const OTHER: u8 = 24;
 
 pub const SINGLE: u8 = 7;
-
-pub const SINGLE_LAST: u8 = 16;
 
 // The class of each byte.
 pub const CLASS: [u8; 256] = [
@@ -69,11 +68,11 @@ pub const CLASS: [u8; 256] = [
     0,
     0,
     3,
-    9,
-    10,
+    7,
+    7,
     4,
     17,
-    13,
+    7,
     20,
     0,
     5,
@@ -87,11 +86,11 @@ pub const CLASS: [u8; 256] = [
     22,
     22,
     22,
-    14,
-    16,
-    11,
-    15,
-    12,
+    7,
+    7,
+    7,
+    7,
+    7,
     0,
     0,
     21,
@@ -154,7 +153,7 @@ pub const CLASS: [u8; 256] = [
     24,
     7,
     0,
-    8,
+    7,
     0,
     0,
     18,
@@ -287,7 +286,7 @@ pub const CLASS: [u8; 256] = [
     18,
 ];
 
-// The class of a byte, by the table, which the caller has made once. A token of one byte has its kind as its class.
+// The class of a byte, by the table, which the caller has made once.
 pub fn class_of(b: u8, table: &[u8]) -> u8
     requires { ⌜ Table (now table) ⌝ }
     ensures { λ r. ⌜ r ≡ classOf b ⌝ }
@@ -327,4 +326,41 @@ pub fn is_blank(b: u8) -> bool
     ensures { λ r. ⌜ r ≡ blank b ⌝ }
 {
     ((9 <= b) & (b <= 13)) | (b == 32)
+}
+
+// The kind of a token of one byte, and 0 of any other byte.
+pub fn single_kind(b: u8) -> u32
+    ensures { λ r. ⌜ r ≡ singleKind b ⌝ }
+{
+    if b == b'{' {
+        return kind::LBRACE;
+    }
+    if b == b'}' {
+        return kind::RBRACE;
+    }
+    if b == b'(' {
+        return kind::LPAREN;
+    }
+    if b == b')' {
+        return kind::RPAREN;
+    }
+    if b == b'<' {
+        return kind::LANGLE;
+    }
+    if b == b'>' {
+        return kind::RANGLE;
+    }
+    if b == b',' {
+        return kind::COMMA;
+    }
+    if b == b':' {
+        return kind::COLON;
+    }
+    if b == b'=' {
+        return kind::EQUALS;
+    }
+    if b == b';' {
+        return kind::SEMICOLON;
+    }
+    0
 }

@@ -80,11 +80,10 @@ pub fn scan(src: &[u8], at: usize, b: u8, k: u8, table: &[u8]) -> Scan
     requires { ⌜ (0 < length (now src)) × (at + length (now src) ≤ 16777216) × (b ≡ getD (now src) 0 0) × Table (now table) ⌝ }
     ensures { λ r. ⌜ r ≡ classScan k at (now (src .entry)) ⌝ }
 {
-    let single = (class::SINGLE <= k) & (k <= class::SINGLE_LAST);
-    if single {
+    if k == class::SINGLE {
         let end = at + 1;
         return Scan::Token {
-            kind: refal_text::wide(k),
+            kind: class::single_kind(b),
             detail: 0,
             text: 0,
             len: 0,

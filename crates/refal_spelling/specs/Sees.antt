@@ -14,9 +14,9 @@ use Rattle.refal_text.specs.Span.{span}
 use Rattle.refal_text.specs.Utf8.{decode}
 use Rattle.refal_ast.specs.Kinds.{tokVariable}
 use Rattle.refal_ast.specs.Check.{usesText}
-use Rattle.refal_lexer.specs.Classes.{upper, digit, letter, nameByte, variable, classOf, cMinus}
+use Rattle.refal_lexer.specs.Classes.{upper, digit, letter, nameByte, variable, classOf, singleKind, cMinus}
 use Rattle.refal_lexer.specs.ClassLaws.{ClassIs, is-wide, is-white, is-quote, is-star, is-slash, is-dollar, is-plus, is-minus, is-upper, is-digit}
-use Rattle.refal_lexer.specs.ClassLaws.{is-variable, is-other, is-single, is-none, class-view}
+use Rattle.refal_lexer.specs.ClassLaws.{is-variable, is-other, is-single, single-range, is-none, class-view}
 use Rattle.refal_lexer.specs.Words.{entryWord, externWord, directiveScan, nameScan, indexOf, variableScan}
 use Rattle.refal_lexer.specs.Numbers.{numberScan}
 use Rattle.refal_lexer.specs.Tokens.{signScan, classScan, tokenScan}
@@ -104,7 +104,7 @@ sees-class at b s k (is-upper h) = sees-name at b s h
 sees-class at b s k (is-digit h) = subst (Sees at b s) (sym (unsigned-ends at (b ∷ s))) (of-number at b s _ (sees-number at at [] no-sign b s h))
 sees-class at b s k (is-variable h) = sees-variable at b s h
 sees-class at b s k (is-other h) = a-bad
-sees-class at b s k (is-single j h e) = rw h (a-plain (mark j (range-lo 7 j 16 h) (range-hi 7 j 16 h)))
+sees-class at b s k (is-single h) = let r = single-range b h in a-plain (mark (singleKind b) (range-lo 7 (singleKind b) 16 r) (range-hi 7 (singleKind b) 16 r))
 sees-class at b s k is-none = a-bad
 
 pub sees : (at b : ℕ) (s : List ℕ) → Sees at b s (tokenScan at (b ∷ s))

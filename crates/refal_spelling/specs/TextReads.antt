@@ -3,8 +3,8 @@ use Prim.Native.Nat.{ℕ, suc, _+_, _-_, _<_, _≤_}
 use native.Mathlib.Omega.{arith}
 use native.Mathlib.Nat.{add-zero}
 use native.Mathlib.Numerals.{add-one}
-use borrow.Author.Tests.{le-leb, ltb-true, ne-eqb}
-use mathlib.Core.Bool.{Bool, true, false, _||_}
+use borrow.Author.Tests.{ltb-true, eqb-true, ne-eqb}
+use mathlib.Core.Bool.{Bool, true, false, _||_, _&&_}
 use mathlib.Core.List.{List, [], _∷_, _++_, append-assoc}
 use mathlib.Core.Path.{_≡_, refl, ap, ap₂, sym, subst, _∙_}
 use lib.Dec.{T, ltb, eqb, eqb→eq}
@@ -13,7 +13,7 @@ use lib.Seq.{drop-append-seam}
 use Rattle.refal_rows.specs.Tests.{each-below}
 use Rattle.refal_ast.specs.Kinds.{tokEntry, tokExtern, tokIdentifier, tokVariable, tokNumber, tokChar}
 use Rattle.refal_ast.specs.Tokens.{Token, token}
-use Rattle.refal_lexer.specs.Classes.{classOf}
+use Rattle.refal_lexer.specs.Classes.{classOf, singleKind}
 use Rattle.refal_text.specs.Utf8.{decode}
 use Rattle.refal_lexer.specs.Tokens.{Found, found, classScan, tokenScan}
 use Rattle.refal_lexer.specs.Tokens.{tokenAt as foundAt}
@@ -70,15 +70,20 @@ pub mark-not : (k j : ℕ) → 7 ≤ k → j < 7 → eqb k j ≡ false
 mark-not k j lo h = ne-eqb k j (λ e. absurd (omega arith))
 
 mark-test : ℕ → Bool
-mark-test k = ltb k 7 || eqb (classOf (markByte k)) k
+mark-test k = ltb k 7 || (eqb (classOf (markByte k)) 7 && eqb (singleKind (markByte k)) k)
 
-mark-class : (k : ℕ) → 7 ≤ k → k ≤ 16 → classOf (markByte k) ≡ k
+mark-class : (k : ℕ) → 7 ≤ k → k ≤ 16 → (classOf (markByte k) ≡ 7) × (singleKind (markByte k) ≡ k)
 unfolding mark-test
 mark-class k lo hi = go (ltb k 7) refl (each-below mark-test 17 tt k (omega arith))
   where
-    go : (t : Bool) → ltb k 7 ≡ t → T (t || eqb (classOf (markByte k)) k) → classOf (markByte k) ≡ k
+    go : (t : Bool) → ltb k 7 ≡ t → T (t || (eqb (classOf (markByte k)) 7 && eqb (singleKind (markByte k)) k)) → (classOf (markByte k) ≡ 7) × (singleKind (markByte k) ≡ k)
     go true e h = let z : k < 7 = ltb-true _ _ e in absurd (omega arith)
-    go false e h = eqb→eq _ _ h
+    go false e h = both (eqb (classOf (markByte k)) 7) (eqb (singleKind (markByte k)) k) refl refl h
+      where
+        both : (x y : Bool) → eqb (classOf (markByte k)) 7 ≡ x → eqb (singleKind (markByte k)) k ≡ y → T (x && y) → (classOf (markByte k) ≡ 7) × (singleKind (markByte k) ≡ k)
+        both true true p q t = (eqb-true _ _ p, eqb-true _ _ q)
+        both true false p q t = absurd t
+        both false y p q t = absurd t
 
 pub mark-spelling : (k : ℕ) → 7 ≤ k → spelling (spelled k 0 []) ≡ markByte k ∷ []
 unfolding spelling
@@ -91,7 +96,7 @@ mark-token at k lo =
     rw (mark-spelling k lo, mark-not k 3 lo (omega arith), mark-not k 4 lo (omega arith), mark-not k 5 lo (omega arith)) refl
 
 mark-scan : (at k : ℕ) (r : List ℕ) → 7 ≤ k → k ≤ 16 → tokenScan at (markByte k ∷ r) ≡ S.Token k 0 0 0 at (at + 1)
-mark-scan at k r lo hi = ap (λ (c : ℕ). classScan c at (markByte k ∷ r)) (mark-class k lo hi) ∙ rw (le-leb _ _ lo, le-leb _ _ hi) refl
+mark-scan at k r lo hi = let m = mark-class k lo hi in ap (λ (c : ℕ). classScan c at (markByte k ∷ r)) (m .0) ∙ ap (λ (x : ℕ). S.Token x 0 0 0 at (at + 1)) (m .1)
 
 -- ---- a good token: whatever `line` is
 pub reads-one : (t : Spelled) → Good t → (at : ℕ) (line : Bool) (r : List ℕ)

@@ -1,9 +1,11 @@
 -- Eight bytes below 128 at a time, and 32: the run of them goes on as many bytes further.
-use Prim.Native.Nat.{ℕ, _+_, _<_, _≤_}
+use Prim.Native.Nat.{ℕ, _+_, _-_, _<_, _≤_}
 use native.Mathlib.Omega.{arith}
 use mathlib.Core.Bool.{Bool, true, _&&_}
 use mathlib.Core.List.{List}
-use mathlib.Core.Path.{_≡_, refl, ap, _∙_}
+use mathlib.Core.Path.{_≡_, refl, ap, sym, _∙_}
+use borrow.Author.Tests.{leb-true}
+use lib.Dec.{leb}
 use lib.ListN.{length, drop, getD}
 use Rattle.refal_rows.specs.Tests.{and-left, and-right}
 use Rattle.refal_text.specs.Span.{span}
@@ -57,3 +59,12 @@ block-on s i h t =
     ∙ eight-to s (i + 16) (i + 24) (omega arith) (omega arith) (and-left (eight s (i + 16)) (eight s (i + 24)) r)
     ∙ eight-to s (i + 8) (i + 16) (omega arith) (omega arith) (and-right (eight s i) (eight s (i + 8)) l)
     ∙ eight-to s i (i + 8) refl (omega arith) (and-left (eight s i) (eight s (i + 8)) l)
+
+-- where the code's test says so
+pub block-past : (s : List ℕ) (i : ℕ) (t : Bool) → i ≤ length s → t ≡ leb 32 (length s - i) && block s i → t ≡ true
+    → (i + 32 ≤ length s) × (i + 32 + span ascii (drop (i + 32) s) ≡ i + span ascii (drop i s))
+block-past s i t h e f =
+    let g : leb 32 (length s - i) && block s i ≡ true = sym e ∙ f in
+    let l = leb-true 32 (length s - i) (and-left (leb 32 (length s - i)) (block s i) g) in
+    let k : i + 32 ≤ length s = omega arith in
+    (k, block-on s i k (and-right (leb 32 (length s - i)) (block s i) g))

@@ -1,6 +1,8 @@
 // Characters in UTF-8, and white space.
 ghost use mathlib.Core.Path.{_≡_};
-ghost use Prim.Native.Nat.{_+_, _≤_, _<_};
+ghost use mathlib.Core.Bool.{_&&_};
+ghost use Prim.Native.Nat.{_+_, _-_, _≤_, _<_};
+ghost use lib.Dec.{leb};
 ghost use lib.ListN.{length, drop, getD};
 ghost use Rattle.refal_text.specs.Utf8.{leads, second, well2, well3, well4, two, three, four, decode, wellTo, ascii};
 ghost use Rattle.refal_text.specs.White.{whiteSpace};
@@ -162,52 +164,29 @@ fn ascii_eight(src: &[u8], i: usize) -> bool
         & (((src[i + 4] < 128) & (src[i + 5] < 128)) & ((src[i + 6] < 128) & (src[i + 7] < 128)))
 }
 
-// Whether the 32 bytes at i are below 128.
+// Whether 32 bytes stand at i, all below 128.
 fn ascii_block(src: &[u8], i: usize) -> bool
-    requires { ⌜ i + 32 ≤ length (now src) ⌝ }
-    ensures { λ r. ⌜ r ≡ block (now (src .entry)) i ⌝ }
+    requires { ⌜ i ≤ length (now src) ⌝ }
+    ensures { λ r. ⌜ r ≡ leb 32 (length (now (src .entry)) - i) && block (now (src .entry)) i ⌝ }
 {
+    if src.len() - i < 32 {
+        return false;
+    }
     (ascii_eight(src, i) & ascii_eight(src, i + 8))
         & (ascii_eight(src, i + 16) & ascii_eight(src, i + 24))
 }
 
-// A place within the run of bytes below 128 from `at`, as far on as blocks of 32 of them go.
-fn ascii_blocks(src: &[u8], at: usize) -> usize
-    requires { ⌜ at ≤ length (now src) ⌝ }
-    ensures { λ r. ⌜ (r + span ascii (drop r (now (src .entry))) ≡ at + span ascii (drop at (now (src .entry)))) × (r ≤ length (now (src .entry))) ⌝ }
-{
-    let mut i = at;
-    while 32 <= src.len() - i {
-        if !ascii_block(src, i) {
-            return i;
-        }
-        i += 32;
-    }
-    i
-}
-
-// The same, as far on as eights of them go.
-fn ascii_eights(src: &[u8], at: usize) -> usize
-    requires { ⌜ at ≤ length (now src) ⌝ }
-    ensures { λ r. ⌜ (r + span ascii (drop r (now (src .entry))) ≡ at + span ascii (drop at (now (src .entry)))) × (r ≤ length (now (src .entry))) ⌝ }
-{
-    let mut i = ascii_blocks(src, at);
-    while 8 <= src.len() - i {
-        if !ascii_eight(src, i) {
-            return i;
-        }
-        i += 8;
-    }
-    i
-}
-
-// Where the bytes below 128 from `at` end.
+// Where the bytes below 128 from `at` end: 32 at a time where so many stand there.
 fn ascii_end(src: &[u8], at: usize) -> usize
     requires { ⌜ at ≤ length (now src) ⌝ }
     ensures { λ r. ⌜ (r ≡ at + span ascii (drop at (now (src .entry)))) × (r ≤ length (now (src .entry))) ⌝ }
 {
-    let mut i = ascii_eights(src, at);
+    let mut i = at;
     while i < src.len() {
+        if ascii_block(src, i) {
+            i += 32;
+            continue;
+        }
         if src[i] >= 128 {
             return i;
         }
