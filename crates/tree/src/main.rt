@@ -3,8 +3,8 @@
 use libc::STDOUT_FILENO;
 use refal_ast::Answer;
 use refal_ast::Refusal;
-ghost use Prim.Native.Nat.{_+_, _≤_};
-ghost use lib.ListN.{length};
+use refal_ast::nodes;
+ghost use Rattle.refal_ast.specs.Nodes.{HasRow};
 
 fn wide(x: u32) -> u64 {
     x as u64
@@ -23,24 +23,23 @@ fn put_refusal(refusal: Refusal) {
     put(refusal.end as u64, b'\n');
 }
 
-// Row i, whose words begin at `at`.
-fn put_row(rows: &[u32], at: usize, i: usize)
-    requires { ⌜ at + 7 ≤ length (now rows) ⌝ }
+// Row i: row, kind, detail, span start, span end, next.
+fn put_row(rows: &[u32], i: usize)
+    requires { ⌜ HasRow (now rows) i ⌝ }
 {
     put(i as u64, b' ');
-    put(wide(rows[at]), b' ');
-    put(wide(rows[at + 1]), b' ');
-    put(wide(rows[at + 4]), b' ');
-    put(wide(rows[at + 5]), b' ');
-    put(wide(rows[at + 6]), b'\n');
+    put(wide(nodes::kind(rows, i)), b' ');
+    put(wide(nodes::detail(rows, i)), b' ');
+    put(wide(nodes::span_from(rows, i)), b' ');
+    put(wide(nodes::span_to(rows, i)), b' ');
+    put(nodes::next(rows, i) as u64, b'\n');
 }
 
 fn put_rows(rows: &[u32]) {
-    let mut at = 0;
+    let n = rows.len() / nodes::WIDTH;
     let mut i = 0;
-    while rows.len() - at >= 7 {
-        put_row(rows, at, i);
-        at += 7;
+    while i < n {
+        put_row(rows, i);
         i += 1;
     }
 }
@@ -53,7 +52,7 @@ fn put_tree(tokens: &[u32]) {
         }
         Answer::Done(n) => {
             if n <= 2048 {
-                let end = 7 * n;
+                let end = nodes::WIDTH * n;
                 put_rows(&rows[..end]);
             }
         }

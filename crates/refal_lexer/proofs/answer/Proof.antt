@@ -1,10 +1,9 @@
-use mathlib.Core.Path.{_≡_, refl, sym, ap, _∙_}
+-- `refal_lexer::answer` meets its contract.
+use mathlib.Core.Path.{sym, ap, _∙_}
 use Rattle.refal_lexer.specs.Steps.{answerOf}
 use borrow.Author.Needs.{needs}
 use Rattle.refal_lexer.proofs.answer.Statement.{statement}
 use Rattle.refal_lexer.proofs.answer.Tie as tie
-use Rattle.refal_lexer.proofs.answer.Reads as reads
-use Rattle.refal_lexer.proofs.answer.Lts as lts
 
 enum-known-s : tie.Need-enum-known-s
 enum-known-s c = search needs

@@ -28,20 +28,16 @@ table-rule : Table table
 unfolding table
 table-rule = record { long = refl; rule = table-is classOf table 256 tt }
 
--- src/lib.rt:120:23
 slice-aggregate-lex-by : tie.Need-slice-aggregate-lex-by
 slice-aggregate-lex-by c = search needs
 
--- src/lib.rt:120:5
 lex-by-requires : tie.Need-lex-by-requires
 unfolding table
 lex-by-requires c κs = (search needs, table-rule)
 
--- src/lib.rt:114:1
 same-length : tie.Need-same-length
 same-length c = search needs
 
--- src/lib.rt:114:1
 returns : tie.Need-returns
 returns c =
     let a = c .before .before .before .before .before .before .before .args in

@@ -1,10 +1,9 @@
-use mathlib.Core.Path.{_≡_, refl, sym, ap, _∙_}
+-- `refal_lexer::opened` meets its contract.
+use mathlib.Core.Path.{sym, ap, _∙_}
 use Rattle.refal_lexer.specs.Steps.{openedOf}
 use borrow.Author.Needs.{needs}
 use Rattle.refal_lexer.proofs.opened.Statement.{statement}
 use Rattle.refal_lexer.proofs.opened.Tie as tie
-use Rattle.refal_lexer.proofs.opened.Reads as reads
-use Rattle.refal_lexer.proofs.opened.Lts as lts
 
 enum-known-b : tie.Need-enum-known-b
 enum-known-b c = search needs

@@ -7,91 +7,70 @@ use borrow.Author.Needs.{needs}
 use Rattle.refal_lexer.proofs.read.Statement.{statement}
 use Rattle.refal_lexer.proofs.read.Tie as tie
 
--- src/lib.rt:119:9
 clear-requires : tie.Need-clear-requires
 clear-requires c κs = search needs
 
--- src/lib.rt:120:9
 refused-requires : tie.Need-refused-requires
 refused-requires c κs = search needs
 
--- src/lib.rt:120:9
 same-length : tie.Need-same-length
 same-length c = search needs
 
--- src/lib.rt:120:9
 returns : tie.Need-returns
 returns c = let a = c .before .before .before .before .before .before .before .before .args in read-refused (a .src .now) (a .rows .now) _ _ _ (c .refused .ensures) (answer-long (a .src .now) _ (c .before .before .before .before .before .if1 .taken)) (c .before .before .before .clear .ensures)
 
--- src/lib.rt:122:9
 first-ill-requires : tie.Need-first-ill-requires
 first-ill-requires c κs = search needs
 
--- src/lib.rt:124:9
 clear-requires-2 : tie.Need-clear-requires-2
 clear-requires-2 c κs = search needs
 
--- src/lib.rt:125:9
 refused-requires-2 : tie.Need-refused-requires-2
 refused-requires-2 c κs = search needs
 
--- src/lib.rt:125:9
 same-length-2 : tie.Need-same-length-2
 same-length-2 c = search needs
 
--- src/lib.rt:125:9
 returns-2 : tie.Need-returns-2
 returns-2 c = let a = c .before .before .before .before .before .before .before .before .before .before .args in read-refused (a .src .now) (a .rows .now) _ _ _ (c .refused2 .ensures) (answer-ill (a .src .now) _ _ (c .before .before .before .before .before .before .before .if1 .left) (c .before .before .before .before .before .before .first-ill .ensures .0) (c .before .before .before .before .before .if2 .taken)) (c .before .before .before .clear2 .ensures)
 
--- src/lib.rt:128:9
 lex-all-requires : tie.Need-lex-all-requires
 lex-all-requires c κs = search needs
 
--- src/lib.rt:129:22
 enum-known-a : tie.Need-enum-known-a
 enum-known-a c = search needs
 
--- src/lib.rt:130:27
 enum-told : tie.Need-enum-told
 enum-told c = search needs
 
--- src/lib.rt:130:9
 clear-requires-3 : tie.Need-clear-requires-3
 clear-requires-3 c κs = search needs
 
--- src/lib.rt:131:9
 same-length-3 : tie.Need-same-length-3
 same-length-3 c = search needs
 
--- src/lib.rt:131:9
 returns-3 : tie.Need-returns-3
 returns-3 c = let a = c .before .before .before .before .before .before .before .before .before .before .before .before .before .before .before .args in
     let e = answer-lexed (a .src .now) (length (a .rows .now)) _ _ _ (c .before .before .before .before .before .before .before .before .before .before .before .before .if1 .left) (c .before .before .before .before .before .before .before .before .before .before .before .first-ill .ensures .0) (c .before .before .before .before .before .before .before .before .before .before .if2 .left)
     (c .before .before .before .before .before .before .before .before .lex-all .ensures .0) (c .before .before .before .before .enum-told .given .1) in read-refused (a .src .now) (a .rows .now) _ _ _ (c .before .before .before .before .enum-told .given .1) e (c .before .before .clear3 .ensures ∙ ap (λ k. replicate k 0) (c .before .before .before .before .before .before .before .before .lex-all .kept .1 .0))
 
--- src/lib.rt:134:9
 same-length-4 : tie.Need-same-length-4
 same-length-4 c = search needs
 
--- src/lib.rt:134:9
 returns-4 : tie.Need-returns-4
 returns-4 c = let a = c .before .before .before .before .before .before .before .before .before .before .before .before .before .args in
     let e = answer-lexed (a .src .now) (length (a .rows .now)) _ _ _ (c .before .before .before .before .before .before .before .before .before .before .if1 .left) (c .before .before .before .before .before .before .before .before .before .first-ill .ensures .0) (c .before .before .before .before .before .before .before .before .if2 .left) (c .before .before .before .before .before .before .lex-all .ensures .0) (c .before .before .a .given .1) in
     read-done (a .src .now) (a .rows .now) _ _ (sym (c .before .before .a .given .1) ∙ c .before .before .before .before .before .before .lex-all .ensures .0) e (c .if3 .taken) (c .before .before .before .before .before .before .lex-all .ensures .1)
 
--- src/lib.rt:136:5
 clear-requires-4 : tie.Need-clear-requires-4
 clear-requires-4 c κs = search needs
 
--- src/lib.rt:137:5
 refused-requires-3 : tie.Need-refused-requires-3
 refused-requires-3 c κs = search needs
 
--- src/lib.rt:114:1
 same-length-5 : tie.Need-same-length-5
 same-length-5 c = search needs
 
--- src/lib.rt:114:1
 returns-5 : tie.Need-returns-5
 returns-5 c = let a = c .before .before .before .before .before .before .before .before .before .before .before .before .before .before .before .before .before .before .args in
     let e = answer-lexed (a .src .now) (length (a .rows .now)) _ _ _ (c .before .before .before .before .before .before .before .before .before .before .before .before .before .before .before .if1 .left) (c .before .before .before .before .before .before .before .before .before .before .before .before .before .before .first-ill .ensures .0) (c .before .before .before .before .before .before .before .before .before .before .before .before .before .if2 .left)

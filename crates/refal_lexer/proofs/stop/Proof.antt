@@ -1,10 +1,9 @@
-use mathlib.Core.Path.{_≡_, refl, sym, ap, _∙_}
+-- `refal_lexer::stop` meets its contract.
+use mathlib.Core.Path.{sym, ap}
 use Rattle.refal_lexer.specs.Steps.{stopOf}
 use borrow.Author.Needs.{needs}
 use Rattle.refal_lexer.proofs.stop.Statement.{statement}
 use Rattle.refal_lexer.proofs.stop.Tie as tie
-use Rattle.refal_lexer.proofs.stop.Reads as reads
-use Rattle.refal_lexer.proofs.stop.Lts as lts
 
 enum-known-s : tie.Need-enum-known-s
 enum-known-s c = search needs

@@ -1,11 +1,9 @@
+-- `refal_text::ascii_block` meets its contract.
 use mathlib.Core.Path.{refl}
-use native.Mathlib.Omega.{arith}
 use borrow.Author.Tests.{le-leb, lt-leb}
 use borrow.Author.Needs.{needs}
 use Rattle.refal_text.proofs.ascii_block.Statement.{statement}
 use Rattle.refal_text.proofs.ascii_block.Tie as tie
-use Rattle.refal_text.proofs.ascii_block.Reads as reads
-use Rattle.refal_text.proofs.ascii_block.Lts as lts
 
 sub-if1 : tie.Need-sub-if1
 sub-if1 c = search needs

@@ -5,15 +5,12 @@ use borrow.Author.Needs.{needs}
 use Rattle.refal_text.proofs.byte.Statement.{statement}
 use Rattle.refal_text.proofs.byte.Tie as tie
 
--- src/lib.rt:19:24
 shared-slice-read-result : tie.Need-shared-slice-read-result
 shared-slice-read-result c = search needs
 
--- src/lib.rt:16:1
 returns : tie.Need-returns
 returns c = search needs
 
--- src/lib.rt:16:1
 returns-2 : tie.Need-returns-2
 returns-2 c = sym (List·getD-eq-default (c .before .args .src .now) 0 (c .if1 .left))
 

@@ -4,15 +4,12 @@ use borrow.Author.Needs.{needs}
 use Rattle.refal_text.proofs.char_at.Statement.{statement}
 use Rattle.refal_text.proofs.char_at.Tie as tie
 
--- src/lib.rt:128:9
 char-in-requires : tie.Need-char-in-requires
 char-in-requires c κs = search needs
 
--- src/lib.rt:128:9
 returns : tie.Need-returns
 returns c = search needs
 
--- src/lib.rt:124:1
 returns-2 : tie.Need-returns-2
 returns-2 c = decode-past _ _ (c .if1 .left)
 

@@ -6,72 +6,55 @@ use borrow.Author.Needs.{needs}
 use Rattle.refal_text.proofs.char_in.Statement.{statement}
 use Rattle.refal_text.proofs.char_in.Tie as tie
 
--- src/lib.rt:100:13
 shared-slice-read-a : tie.Need-shared-slice-read-a
 shared-slice-read-a c = search needs
 
--- src/lib.rt:101:9
 lead-requires : tie.Need-lead-requires
 lead-requires c κs = search needs
 
--- src/lib.rt:104:19
 wide-requires : tie.Need-wide-requires
 wide-requires c κs = search needs
 
--- src/lib.rt:103:9
 returns : tie.Need-returns
 returns c = char-one _ _ _ (c .before .before .before .before .before .pre) (c .before .before .lead .ensures) _ (c .before .if1 .taken) (c .wide .ensures)
 
--- src/lib.rt:108:23
 add-byte : tie.Need-add-byte
 add-byte c = search needs
 
--- src/lib.rt:108:9
 byte-requires : tie.Need-byte-requires
 byte-requires c κs = search needs
 
--- src/lib.rt:110:9
 two-at-requires : tie.Need-two-at-requires
 two-at-requires c κs = let a = c .before .before .before .before .before .before .args in leads-lo (getD (a .src .now) (a .at) 0) .0 (sym (c .before .before .before .lead .ensures) ∙ c .if2 .taken)
 
--- src/lib.rt:110:9
 returns-2 : tie.Need-returns-2
 returns-2 c = char-two _ _ _ (c .before .before .before .before .before .before .before .pre) (c .before .before .before .before .lead .ensures) _ _ (c .before .before .before .if1 .left) (c .before .if2 .taken) (c .before .before .byte .ensures) (c .two-at .ensures)
 
--- src/lib.rt:112:23
 add-byte-2 : tie.Need-add-byte-2
 add-byte-2 c = search needs
 
--- src/lib.rt:112:9
 byte-requires-2 : tie.Need-byte-requires-2
 byte-requires-2 c κs = search needs
 
--- src/lib.rt:114:9
 three-at-requires : tie.Need-three-at-requires
 three-at-requires c κs = let a = c .before .before .before .before .before .before .before .before .args in leads-lo (getD (a .src .now) (a .at) 0) .1 (sym (c .before .before .before .before .before .lead .ensures) ∙ c .if3 .taken)
 
--- src/lib.rt:114:9
 returns-3 : tie.Need-returns-3
 returns-3 c = char-three _ _ _ (c .before .before .before .before .before .before .before .before .before .pre) (c .before .before .before .before .before .before .lead .ensures) _ _ _ (c .before .before .before .before .before .if1 .left) (c .before .before .before .if2 .left) (c .before .if3 .taken) (c .before .before .before .before .byte .ensures) (c .before .before .byte2 .ensures) (c .three-at .ensures)
 
--- src/lib.rt:116:23
 add-byte-3 : tie.Need-add-byte-3
 add-byte-3 c = search needs
 
--- src/lib.rt:116:9
 byte-requires-3 : tie.Need-byte-requires-3
 byte-requires-3 c κs = search needs
 
--- src/lib.rt:118:9
 four-at-requires : tie.Need-four-at-requires
 four-at-requires c κs = let a = c .before .before .before .before .before .before .before .before .before .before .args in leads-lo (getD (a .src .now) (a .at) 0) .2 (sym (c .before .before .before .before .before .before .before .lead .ensures) ∙ c .if4 .taken)
 
--- src/lib.rt:118:9
 returns-4 : tie.Need-returns-4
 returns-4 c = char-four _ _ _ (c .before .before .before .before .before .before .before .before .before .before .before .pre) (c .before .before .before .before .before .before .before .before .lead .ensures) _ _ _ _ (c .before .before .before .before .before .before .before .if1 .left) (c .before .before .before .before .before .if2 .left) (c .before .before .before .if3 .left) (c .before .if4 .taken) (c .before .before .before .before .before .before .byte .ensures)
     (c .before .before .before .before .byte2 .ensures) (c .before .before .byte3 .ensures) (c .four-at .ensures)
 
--- src/lib.rt:96:1
 returns-5 : tie.Need-returns-5
 returns-5 c = char-none _ _ _ (c .before .before .before .before .before .before .before .before .before .before .pre) (c .before .before .before .before .before .before .before .lead .ensures) (c .before .before .before .before .before .before .if1 .left) (c .before .before .before .before .if2 .left) (c .before .before .if3 .left) (c .if4 .left)
 

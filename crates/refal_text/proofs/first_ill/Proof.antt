@@ -19,35 +19,27 @@ Inv-loop src at₀ at = (at ≤ length src) × (at + wellTo 0 (drop at src) ≡ 
 abbrev μ-loop : tie.MeasureT-loop
 μ-loop src at₀ at = length src - at
 
--- src/lib.rt:196:5
 loop-holds : tie.Need-loop-holds Inv-loop μ-loop
 loop-holds c = (omega arith, zero-add _)
 
--- src/lib.rt:197:17
 shared-slice-read-a : tie.Need-shared-slice-read-a Inv-loop μ-loop
 shared-slice-read-a c = search needs
 
--- src/lib.rt:199:13
 ascii-end-requires : tie.Need-ascii-end-requires Inv-loop μ-loop
 ascii-end-requires c κs = search needs
 
--- src/lib.rt:196:5
 loop-less : tie.Need-loop-less Inv-loop μ-loop
 loop-less c = let p = span-some ascii (c .before .before .before .before .before .before .args .src .now) (c .before .before .before .before .loop .at) (c .before .before .before .loop-test .taken) (lt-ltb _ _ (c .before .if1 .taken)) in omega (arith, c .ascii-end .ensures .0)
 
--- src/lib.rt:196:5
 loop-again : tie.Need-loop-again Inv-loop μ-loop
 loop-again c = (c .ascii-end .ensures .1, well-run _ _ _ (c .ascii-end .ensures .0) ∙ c .before .before .before .before .loop .inv .1)
 
--- src/lib.rt:201:17
 lead-requires : tie.Need-lead-requires Inv-loop μ-loop
 lead-requires c κs = search needs
 
--- src/lib.rt:204:25
 two-in-requires : tie.Need-two-in-requires Inv-loop μ-loop
 two-in-requires c κs = search needs
 
--- src/lib.rt:205:25
 returns : tie.Need-returns Inv-loop μ-loop
 returns c = (
   sym (well-stop _ _ (c .before .before .before .before .before .before .loop-test .taken) (len-two (c .before .before .before .before .before .before .before .before .before .args .src .now) (c .before .before .before .before .before .before .before .loop .at) _ (c .before .before .before .before .before .before .loop-test .taken) (c .before .before .before .lead .ensures) false (c .before .before .match .keys1) (sym (c .before .two-in .ensures)
@@ -55,26 +47,21 @@ returns c = (
   omega arith,
 )
 
--- src/lib.rt:207:21
 add-at : tie.Need-add-at Inv-loop μ-loop
 add-at c = let p = well-pass (c .before .before .before .before .before .before .before .before .before .args .src .now) (c .before .before .before .before .before .before .before .loop .at) _ (c .before .before .before .before .before .before .loop-test .taken)
     (len-two (c .before .before .before .before .before .before .before .before .before .args .src .now) (c .before .before .before .before .before .before .before .loop .at) _ (c .before .before .before .before .before .before .loop-test .taken) (c .before .before .before .lead .ensures) true (c .before .before .match .keys1) (sym (c .before .two-in .ensures) ∙ not-false _ (c .if2 .left))) in search needs
 
--- src/lib.rt:196:5
 loop-less-2 : tie.Need-loop-less-2 Inv-loop μ-loop
 loop-less-2 c = let p = well-pass (c .before .before .before .before .before .before .before .before .before .args .src .now) (c .before .before .before .before .before .before .before .loop .at) _ (c .before .before .before .before .before .before .loop-test .taken)
     (len-two (c .before .before .before .before .before .before .before .before .before .args .src .now) (c .before .before .before .before .before .before .before .loop .at) _ (c .before .before .before .before .before .before .loop-test .taken) (c .before .before .before .lead .ensures) true (c .before .before .match .keys1) (sym (c .before .two-in .ensures) ∙ not-false _ (c .if2 .left))) in search needs
 
--- src/lib.rt:196:5
 loop-again-2 : tie.Need-loop-again-2 Inv-loop μ-loop
 loop-again-2 c = let e = len-two (c .before .before .before .before .before .before .before .before .before .args .src .now) (c .before .before .before .before .before .before .before .loop .at) _ (c .before .before .before .before .before .before .loop-test .taken) (c .before .before .before .lead .ensures) true (c .before .before .match .keys1) (sym (c .before .two-in .ensures) ∙ not-false _ (c .if2 .left)) in
     let p = well-pass (c .before .before .before .before .before .before .before .before .before .args .src .now) (c .before .before .before .before .before .before .before .loop .at) _ (c .before .before .before .before .before .before .loop-test .taken) e in (p, well-step _ _ 2 (c .before .before .before .before .before .before .loop-test .taken) e (λ z. absurd (omega arith)) p ∙ c .before .before .before .before .before .before .before .loop .inv .1)
 
--- src/lib.rt:210:25
 three-in-requires : tie.Need-three-in-requires Inv-loop μ-loop
 three-in-requires c κs = search needs
 
--- src/lib.rt:211:25
 returns-2 : tie.Need-returns-2 Inv-loop μ-loop
 returns-2 c = (
   sym (well-stop _ _ (c .before .before .before .before .before .before .loop-test .taken) (len-three (c .before .before .before .before .before .before .before .before .before .args .src .now) (c .before .before .before .before .before .before .before .loop .at) _ (c .before .before .before .before .before .before .loop-test .taken) (c .before .before .before .lead .ensures) false (c .before .before .match .keys2) (sym (c .before .three-in .ensures)
@@ -82,26 +69,21 @@ returns-2 c = (
   omega arith,
 )
 
--- src/lib.rt:213:21
 add-at-2 : tie.Need-add-at-2 Inv-loop μ-loop
 add-at-2 c = let p = well-pass (c .before .before .before .before .before .before .before .before .before .args .src .now) (c .before .before .before .before .before .before .before .loop .at) _ (c .before .before .before .before .before .before .loop-test .taken)
     (len-three (c .before .before .before .before .before .before .before .before .before .args .src .now) (c .before .before .before .before .before .before .before .loop .at) _ (c .before .before .before .before .before .before .loop-test .taken) (c .before .before .before .lead .ensures) true (c .before .before .match .keys2) (sym (c .before .three-in .ensures) ∙ not-false _ (c .if3 .left))) in search needs
 
--- src/lib.rt:196:5
 loop-less-3 : tie.Need-loop-less-3 Inv-loop μ-loop
 loop-less-3 c = let p = well-pass (c .before .before .before .before .before .before .before .before .before .args .src .now) (c .before .before .before .before .before .before .before .loop .at) _ (c .before .before .before .before .before .before .loop-test .taken)
     (len-three (c .before .before .before .before .before .before .before .before .before .args .src .now) (c .before .before .before .before .before .before .before .loop .at) _ (c .before .before .before .before .before .before .loop-test .taken) (c .before .before .before .lead .ensures) true (c .before .before .match .keys2) (sym (c .before .three-in .ensures) ∙ not-false _ (c .if3 .left))) in search needs
 
--- src/lib.rt:196:5
 loop-again-3 : tie.Need-loop-again-3 Inv-loop μ-loop
 loop-again-3 c = let e = len-three (c .before .before .before .before .before .before .before .before .before .args .src .now) (c .before .before .before .before .before .before .before .loop .at) _ (c .before .before .before .before .before .before .loop-test .taken) (c .before .before .before .lead .ensures) true (c .before .before .match .keys2) (sym (c .before .three-in .ensures) ∙ not-false _ (c .if3 .left)) in
     let p = well-pass (c .before .before .before .before .before .before .before .before .before .args .src .now) (c .before .before .before .before .before .before .before .loop .at) _ (c .before .before .before .before .before .before .loop-test .taken) e in (p, well-step _ _ 3 (c .before .before .before .before .before .before .loop-test .taken) e (λ z. absurd (omega arith)) p ∙ c .before .before .before .before .before .before .before .loop .inv .1)
 
--- src/lib.rt:216:25
 four-in-requires : tie.Need-four-in-requires Inv-loop μ-loop
 four-in-requires c κs = search needs
 
--- src/lib.rt:217:25
 returns-3 : tie.Need-returns-3 Inv-loop μ-loop
 returns-3 c = (
   sym (well-stop _ _ (c .before .before .before .before .before .before .loop-test .taken) (len-four (c .before .before .before .before .before .before .before .before .before .args .src .now) (c .before .before .before .before .before .before .before .loop .at) _ (c .before .before .before .before .before .before .loop-test .taken) (c .before .before .before .lead .ensures) false (c .before .before .match .keys3) (sym (c .before .four-in .ensures)
@@ -109,26 +91,21 @@ returns-3 c = (
   omega arith,
 )
 
--- src/lib.rt:219:21
 add-at-3 : tie.Need-add-at-3 Inv-loop μ-loop
 add-at-3 c = let p = well-pass (c .before .before .before .before .before .before .before .before .before .args .src .now) (c .before .before .before .before .before .before .before .loop .at) _ (c .before .before .before .before .before .before .loop-test .taken)
     (len-four (c .before .before .before .before .before .before .before .before .before .args .src .now) (c .before .before .before .before .before .before .before .loop .at) _ (c .before .before .before .before .before .before .loop-test .taken) (c .before .before .before .lead .ensures) true (c .before .before .match .keys3) (sym (c .before .four-in .ensures) ∙ not-false _ (c .if4 .left))) in search needs
 
--- src/lib.rt:196:5
 loop-less-4 : tie.Need-loop-less-4 Inv-loop μ-loop
 loop-less-4 c = let p = well-pass (c .before .before .before .before .before .before .before .before .before .args .src .now) (c .before .before .before .before .before .before .before .loop .at) _ (c .before .before .before .before .before .before .loop-test .taken)
     (len-four (c .before .before .before .before .before .before .before .before .before .args .src .now) (c .before .before .before .before .before .before .before .loop .at) _ (c .before .before .before .before .before .before .loop-test .taken) (c .before .before .before .lead .ensures) true (c .before .before .match .keys3) (sym (c .before .four-in .ensures) ∙ not-false _ (c .if4 .left))) in search needs
 
--- src/lib.rt:196:5
 loop-again-4 : tie.Need-loop-again-4 Inv-loop μ-loop
 loop-again-4 c = let e = len-four (c .before .before .before .before .before .before .before .before .before .args .src .now) (c .before .before .before .before .before .before .before .loop .at) _ (c .before .before .before .before .before .before .loop-test .taken) (c .before .before .before .lead .ensures) true (c .before .before .match .keys3) (sym (c .before .four-in .ensures) ∙ not-false _ (c .if4 .left)) in
     let p = well-pass (c .before .before .before .before .before .before .before .before .before .args .src .now) (c .before .before .before .before .before .before .before .loop .at) _ (c .before .before .before .before .before .before .loop-test .taken) e in (p, well-step _ _ 4 (c .before .before .before .before .before .before .loop-test .taken) e (λ z. absurd (omega arith)) p ∙ c .before .before .before .before .before .before .before .loop .inv .1)
 
--- src/lib.rt:221:22
 returns-4 : tie.Need-returns-4 Inv-loop μ-loop
 returns-4 c = let n = c .match .rest in (sym (well-stop _ _ (c .before .before .before .before .loop-test .taken) (len-none (c .before .before .before .before .before .before .before .args .src .now) (c .before .before .before .before .before .loop .at) _ (c .before .before .before .before .loop-test .taken) (c .before .lead .ensures) (c .before .before .if1 .left) (n .0 .0 .1) (n .0 .1) (n .1))) ∙ c .before .before .before .before .before .loop .inv .1, omega arith)
 
--- src/lib.rt:192:1
 returns-5 : tie.Need-returns-5 Inv-loop μ-loop
 returns-5 c = (sym (well-end _ _ (c .loop-test .left)) ∙ c .before .loop .inv .1, omega arith)
 

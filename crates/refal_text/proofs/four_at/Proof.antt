@@ -9,55 +9,42 @@ use borrow.Author.Needs.{needs}
 use Rattle.refal_text.proofs.four_at.Statement.{statement}
 use Rattle.refal_text.proofs.four_at.Tie as tie
 
--- src/lib.rt:105:9
 is-four-requires : tie.Need-is-four-requires
 is-four-requires c κs = search needs
 
--- src/lib.rt:107:18
 sub-x : tie.Need-sub-x
 sub-x c = search needs
 
--- src/lib.rt:107:17
 mul-x : tie.Need-mul-x
 mul-x c = search needs
 
--- src/lib.rt:108:16
 sub-x-2 : tie.Need-sub-x-2
 sub-x-2 c = let a = c .before .before .args in second-is (a .a) (a .b) (and-right (leb (a .a) 244) (second (a .a) (a .b)) (and-left (leb (a .a) 244 && second (a .a) (a .b)) (cont (a .c) && cont (a .d)) (sym (c .before .is-four .ensures) ∙ c .if1 .taken))) .lo
 
--- src/lib.rt:108:15
 mul-x-2 : tie.Need-mul-x-2
 mul-x-2 c = search needs
 
--- src/lib.rt:107:17
 add-x : tie.Need-add-x
 add-x c = search needs
 
--- src/lib.rt:109:16
 sub-x-3 : tie.Need-sub-x-3
 sub-x-3 c = let a = c .before .before .args in range-lo 128 (a .c) 191 (and-left (cont (a .c)) (cont (a .d)) (and-right (leb (a .a) 244 && second (a .a) (a .b)) (cont (a .c) && cont (a .d)) (sym (c .before .is-four .ensures) ∙ c .if1 .taken)))
 
--- src/lib.rt:109:15
 mul-x-3 : tie.Need-mul-x-3
 mul-x-3 c = search needs
 
--- src/lib.rt:107:17
 add-x-2 : tie.Need-add-x-2
 add-x-2 c = search needs
 
--- src/lib.rt:110:16
 sub-x-4 : tie.Need-sub-x-4
 sub-x-4 c = let a = c .before .before .args in range-lo 128 (a .d) 191 (and-right (cont (a .c)) (cont (a .d)) (and-right (leb (a .a) 244 && second (a .a) (a .b)) (cont (a .c) && cont (a .d)) (sym (c .before .is-four .ensures) ∙ c .if1 .taken)))
 
--- src/lib.rt:107:17
 add-x-3 : tie.Need-add-x-3
 add-x-3 c = search needs
 
--- src/lib.rt:111:9
 returns : tie.Need-returns
 returns c = simp (← c .before .is-four .ensures, c .if1 .taken)
 
--- src/lib.rt:101:1
 returns-2 : tie.Need-returns-2
 returns-2 c = simp (← c .before .is-four .ensures, c .if1 .left)
 

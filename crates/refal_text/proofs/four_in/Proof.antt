@@ -7,39 +7,30 @@ use borrow.Author.Needs.{needs}
 use Rattle.refal_text.proofs.four_in.Statement.{statement}
 use Rattle.refal_text.proofs.four_in.Tie as tie
 
--- src/lib.rt:188:13
 shared-slice-read-is-four : tie.Need-shared-slice-read-is-four
 shared-slice-read-is-four c = search needs
 
--- src/lib.rt:188:32
 add-byte : tie.Need-add-byte
 add-byte c = search needs
 
--- src/lib.rt:188:22
 byte-requires : tie.Need-byte-requires
 byte-requires c κs = search needs
 
--- src/lib.rt:188:51
 add-byte-2 : tie.Need-add-byte-2
 add-byte-2 c = search needs
 
--- src/lib.rt:188:41
 byte-requires-2 : tie.Need-byte-requires-2
 byte-requires-2 c κs = search needs
 
--- src/lib.rt:188:70
 add-byte-3 : tie.Need-add-byte-3
 add-byte-3 c = search needs
 
--- src/lib.rt:188:60
 byte-requires-3 : tie.Need-byte-requires-3
 byte-requires-3 c κs = search needs
 
--- src/lib.rt:188:5
 is-four-requires : tie.Need-is-four-requires
 is-four-requires c κs = search needs
 
--- src/lib.rt:184:1
 returns : tie.Need-returns
 returns c = let a = c .before .before .before .before .before .before .args in c .is-four .ensures ∙ ap₂ (λ (x y : ℕ). well4 (getD (a .src .now) (a .at) 0) x y (c .before .byte3 .result)) (c .before .before .before .byte .ensures) (c .before .before .byte2 .ensures)
     ∙ ap (well4 (getD (a .src .now) (a .at) 0) (getD (a .src .now) (a .at + 1) 0) (getD (a .src .now) (a .at + 2) 0)) (c .before .byte3 .ensures)

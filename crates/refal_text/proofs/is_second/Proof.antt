@@ -3,23 +3,18 @@ use borrow.Author.Tests.{ne-eqb}
 use Rattle.refal_text.proofs.is_second.Statement.{statement}
 use Rattle.refal_text.proofs.is_second.Tie as tie
 
--- src/lib.rt:40:9
 returns : tie.Need-returns
 returns c = rw (c .if1 .taken)
 
--- src/lib.rt:43:9
 returns-2 : tie.Need-returns-2
 returns-2 c = rw (c .if2 .taken)
 
--- src/lib.rt:46:9
 returns-3 : tie.Need-returns-3
 returns-3 c = rw (c .if3 .taken)
 
--- src/lib.rt:49:9
 returns-4 : tie.Need-returns-4
 returns-4 c = rw (c .if4 .taken)
 
--- src/lib.rt:36:1
 returns-5 : tie.Need-returns-5
 returns-5 c = simp (ne-eqb _ _ (c .before .before .before .if1 .left), ne-eqb _ _ (c .before .before .if2 .left), ne-eqb _ _ (c .before .if3 .left), ne-eqb _ _ (c .if4 .left))
 

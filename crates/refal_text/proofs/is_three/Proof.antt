@@ -3,11 +3,9 @@ use borrow.Author.Needs.{needs}
 use Rattle.refal_text.proofs.is_three.Statement.{statement}
 use Rattle.refal_text.proofs.is_three.Tie as tie
 
--- src/lib.rt:65:9
 is-second-requires : tie.Need-is-second-requires
 is-second-requires c κs = search needs
 
--- src/lib.rt:62:1
 returns : tie.Need-returns
 returns c = rw (c .is-second .ensures)
 

@@ -3,7 +3,6 @@ use Rattle.refal_text.specs.Utf8Laws.{leads-is}
 use Rattle.refal_text.proofs.lead.Statement.{statement}
 use Rattle.refal_text.proofs.lead.Tie as tie
 
--- src/lib.rt:29:1
 returns : tie.Need-returns
 returns c = leads-is _ (c .fits .a .fits)
 

@@ -7,43 +7,33 @@ use borrow.Author.Needs.{needs}
 use Rattle.refal_text.proofs.three_at.Statement.{statement}
 use Rattle.refal_text.proofs.three_at.Tie as tie
 
--- src/lib.rt:93:9
 is-three-requires : tie.Need-is-three-requires
 is-three-requires c κs = search needs
 
--- src/lib.rt:95:18
 sub-x : tie.Need-sub-x
 sub-x c = search needs
 
--- src/lib.rt:95:17
 mul-x : tie.Need-mul-x
 mul-x c = search needs
 
--- src/lib.rt:95:46
 sub-x-2 : tie.Need-sub-x-2
 sub-x-2 c = let a = c .before .before .args in second-is (a .a) (a .b) (and-left (second (a .a) (a .b)) (cont (a .c)) (sym (c .before .is-three .ensures) ∙ c .if1 .taken)) .lo
 
--- src/lib.rt:95:45
 mul-x-2 : tie.Need-mul-x-2
 mul-x-2 c = search needs
 
--- src/lib.rt:95:17
 add-x : tie.Need-add-x
 add-x c = search needs
 
--- src/lib.rt:95:72
 sub-x-3 : tie.Need-sub-x-3
 sub-x-3 c = let a = c .before .before .args in range-lo 128 (a .c) 191 (and-right (second (a .a) (a .b)) (cont (a .c)) (sym (c .before .is-three .ensures) ∙ c .if1 .taken))
 
--- src/lib.rt:95:17
 add-x-2 : tie.Need-add-x-2
 add-x-2 c = search needs
 
--- src/lib.rt:96:9
 returns : tie.Need-returns
 returns c = simp (← c .before .is-three .ensures, c .if1 .taken)
 
--- src/lib.rt:89:1
 returns-2 : tie.Need-returns-2
 returns-2 c = simp (← c .before .is-three .ensures, c .if1 .left)
 

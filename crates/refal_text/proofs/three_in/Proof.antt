@@ -6,31 +6,24 @@ use borrow.Author.Needs.{needs}
 use Rattle.refal_text.proofs.three_in.Statement.{statement}
 use Rattle.refal_text.proofs.three_in.Tie as tie
 
--- src/lib.rt:181:14
 shared-slice-read-is-three : tie.Need-shared-slice-read-is-three
 shared-slice-read-is-three c = search needs
 
--- src/lib.rt:181:33
 add-byte : tie.Need-add-byte
 add-byte c = search needs
 
--- src/lib.rt:181:23
 byte-requires : tie.Need-byte-requires
 byte-requires c κs = search needs
 
--- src/lib.rt:181:52
 add-byte-2 : tie.Need-add-byte-2
 add-byte-2 c = search needs
 
--- src/lib.rt:181:42
 byte-requires-2 : tie.Need-byte-requires-2
 byte-requires-2 c κs = search needs
 
--- src/lib.rt:181:5
 is-three-requires : tie.Need-is-three-requires
 is-three-requires c κs = search needs
 
--- src/lib.rt:177:1
 returns : tie.Need-returns
 returns c = let a = c .before .before .before .before .before .args in c .is-three .ensures ∙ ap₂ (well3 (getD (a .src .now) (a .at) 0)) (c .before .before .byte .ensures) (c .before .byte2 .ensures)
 

@@ -7,31 +7,24 @@ use borrow.Author.Needs.{needs}
 use Rattle.refal_text.proofs.two_at.Statement.{statement}
 use Rattle.refal_text.proofs.two_at.Tie as tie
 
--- src/lib.rt:81:9
 is-two-requires : tie.Need-is-two-requires
 is-two-requires c κs = search needs
 
--- src/lib.rt:83:18
 sub-x : tie.Need-sub-x
 sub-x c = search needs
 
--- src/lib.rt:83:17
 mul-x : tie.Need-mul-x
 mul-x c = search needs
 
--- src/lib.rt:83:44
 sub-x-2 : tie.Need-sub-x-2
 sub-x-2 c = let a = c .before .before .args in range-lo 128 (a .b) 191 (and-right (leb 194 (a .a)) (cont (a .b)) (sym (c .before .is-two .ensures) ∙ c .if1 .taken))
 
--- src/lib.rt:83:17
 add-x : tie.Need-add-x
 add-x c = search needs
 
--- src/lib.rt:84:9
 returns : tie.Need-returns
 returns c = simp (← c .before .is-two .ensures, c .if1 .taken)
 
--- src/lib.rt:77:1
 returns-2 : tie.Need-returns-2
 returns-2 c = simp (← c .before .is-two .ensures, c .if1 .left)
 

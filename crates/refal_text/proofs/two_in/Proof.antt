@@ -6,23 +6,18 @@ use borrow.Author.Needs.{needs}
 use Rattle.refal_text.proofs.two_in.Statement.{statement}
 use Rattle.refal_text.proofs.two_in.Tie as tie
 
--- src/lib.rt:174:12
 shared-slice-read-is-two : tie.Need-shared-slice-read-is-two
 shared-slice-read-is-two c = search needs
 
--- src/lib.rt:174:31
 add-byte : tie.Need-add-byte
 add-byte c = search needs
 
--- src/lib.rt:174:21
 byte-requires : tie.Need-byte-requires
 byte-requires c κs = search needs
 
--- src/lib.rt:174:5
 is-two-requires : tie.Need-is-two-requires
 is-two-requires c κs = search needs
 
--- src/lib.rt:170:1
 returns : tie.Need-returns
 returns c = let a = c .before .before .before .before .args in c .is-two .ensures ∙ ap (well2 (getD (a .src .now) (a .at) 0)) (c .before .byte .ensures)
 

@@ -7,51 +7,39 @@ use borrow.Author.Needs.{needs}
 use Rattle.tree.proofs.put_source.Statement.{statement}
 use Rattle.tree.proofs.put_source.Tie as tie
 
--- src/main.rt:65:37
 slice-aggregate-read : tie.Need-slice-aggregate-read
 slice-aggregate-read c = search needs
 
--- src/main.rt:65:11
 read-requires : tie.Need-read-requires
 read-requires c κs = search needs
 
--- src/main.rt:66:25
 enum-known-refusal : tie.Need-enum-known-refusal
 enum-known-refusal c = search needs
 
--- src/main.rt:67:13
 put-refusal-requires : tie.Need-put-refusal-requires
 put-refusal-requires c κs = search needs
 
--- src/main.rt:69:22
 enum-known-n : tie.Need-enum-known-n
 enum-known-n c = search needs
 
--- src/main.rt:71:27
 mul-end : tie.Need-mul-end
 mul-end c = search needs
 
--- src/main.rt:72:26
 array-share-prefix-tokens : tie.Need-array-share-prefix-tokens
 array-share-prefix-tokens c = search needs
 
--- src/main.rt:72:26
 slice-aggregate-put-tree : tie.Need-slice-aggregate-put-tree
 slice-aggregate-put-tree c = sym (length-take-le (6 * (c .before .before .before .n .given .0 .0)) (c .before .before .before .before .before .before .read .last .1 .0) (let k = c .before .before .before .before .before .before .read .kept .1 .0 in let t = c .before .if1 .taken in omega arith))
 
--- src/main.rt:72:17
 put-tree-requires : tie.Need-put-tree-requires
 put-tree-requires c κs = search needs
 
--- src/main.rt:63:1
 returns : tie.Need-returns
 returns c = search needs
 
--- src/main.rt:63:1
 returns-2 : tie.Need-returns-2
 returns-2 c = search needs
 
--- src/main.rt:63:1
 returns-3 : tie.Need-returns-3
 returns-3 c = search needs
 

@@ -6,99 +6,75 @@ use borrow.Author.Needs.{needs}
 use Rattle.vectors.proofs.call.Statement.{statement}
 use Rattle.vectors.proofs.call.Tie as tie
 
--- src/main.rt:230:9
 returns : tie.Need-returns
 returns c = search needs
 
--- src/main.rt:233:21
 slice-relend-prefix-name : tie.Need-slice-relend-prefix-name
 slice-relend-prefix-name c = search needs
 
--- src/main.rt:233:21
 slice-aggregate-name : tie.Need-slice-aggregate-name
 slice-aggregate-name c = sym (length-take-le _ _ (omega arith))
 
--- src/main.rt:233:9
 name-requires : tie.Need-name-requires
 name-requires c κs = search needs
 
--- src/main.rt:234:9
 same-length : tie.Need-same-length
 same-length c = search needs
 
--- src/main.rt:234:9
 returns-2 : tie.Need-returns-2
 returns-2 c = search needs
 
--- src/main.rt:237:22
 slice-relend-prefix-index : tie.Need-slice-relend-prefix-index
 slice-relend-prefix-index c = search needs
 
--- src/main.rt:237:22
 slice-aggregate-index : tie.Need-slice-aggregate-index
 slice-aggregate-index c = sym (length-take-le _ _ (omega arith))
 
--- src/main.rt:237:9
 index-requires : tie.Need-index-requires
 index-requires c κs = search needs
 
--- src/main.rt:238:9
 same-length-2 : tie.Need-same-length-2
 same-length-2 c = search needs
 
--- src/main.rt:238:9
 returns-3 : tie.Need-returns-3
 returns-3 c = search needs
 
--- src/main.rt:241:22
 slice-relend-prefix-write : tie.Need-slice-relend-prefix-write
 slice-relend-prefix-write c = search needs
 
--- src/main.rt:241:22
 slice-aggregate-write : tie.Need-slice-aggregate-write
 slice-aggregate-write c = sym (length-take-le _ _ (omega arith))
 
--- src/main.rt:241:9
 write-requires : tie.Need-write-requires
 write-requires c κs = search needs
 
--- src/main.rt:242:9
 same-length-3 : tie.Need-same-length-3
 same-length-3 c = search needs
 
--- src/main.rt:242:9
 returns-4 : tie.Need-returns-4
 returns-4 c = search needs
 
--- src/main.rt:245:27
 slice-relend-prefix-write-tree : tie.Need-slice-relend-prefix-write-tree
 slice-relend-prefix-write-tree c = search needs
 
--- src/main.rt:245:27
 slice-aggregate-write-tree : tie.Need-slice-aggregate-write-tree
 slice-aggregate-write-tree c = sym (length-take-le _ _ (omega arith))
 
--- src/main.rt:245:9
 write-tree-requires : tie.Need-write-tree-requires
 write-tree-requires c κs = search needs
 
--- src/main.rt:246:9
 same-length-4 : tie.Need-same-length-4
 same-length-4 c = search needs
 
--- src/main.rt:246:9
 returns-5 : tie.Need-returns-5
 returns-5 c = search needs
 
--- src/main.rt:249:9
 equal-requires : tie.Need-equal-requires
 equal-requires c κs = search needs
 
--- src/main.rt:228:1
 returns-6 : tie.Need-returns-6
 returns-6 c = search needs
 
--- src/main.rt:228:1
 returns-7 : tie.Need-returns-7
 returns-7 c = search needs
 

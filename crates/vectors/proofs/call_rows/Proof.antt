@@ -6,51 +6,39 @@ use borrow.Author.Needs.{needs}
 use Rattle.vectors.proofs.call_rows.Statement.{statement}
 use Rattle.vectors.proofs.call_rows.Tie as tie
 
--- src/main.rt:136:9
 returns : tie.Need-returns
 returns c = search needs
 
--- src/main.rt:139:21
 slice-relend-prefix-read : tie.Need-slice-relend-prefix-read
 slice-relend-prefix-read c = search needs
 
--- src/main.rt:139:21
 slice-aggregate-read : tie.Need-slice-aggregate-read
 slice-aggregate-read c = sym (length-take-le _ _ (omega arith))
 
--- src/main.rt:139:9
 read-requires : tie.Need-read-requires
 read-requires c κs = search needs
 
--- src/main.rt:140:9
 same-length : tie.Need-same-length
 same-length c = search needs
 
--- src/main.rt:140:9
 returns-2 : tie.Need-returns-2
 returns-2 c = search needs
 
--- src/main.rt:143:22
 slice-relend-prefix-parse : tie.Need-slice-relend-prefix-parse
 slice-relend-prefix-parse c = search needs
 
--- src/main.rt:143:22
 slice-aggregate-parse : tie.Need-slice-aggregate-parse
 slice-aggregate-parse c = sym (length-take-le _ _ (omega arith))
 
--- src/main.rt:143:9
 parse-requires : tie.Need-parse-requires
 parse-requires c κs = search needs
 
--- src/main.rt:134:1
 same-length-2 : tie.Need-same-length-2
 same-length-2 c = search needs
 
--- src/main.rt:134:1
 returns-3 : tie.Need-returns-3
 returns-3 c = search needs
 
--- src/main.rt:134:1
 returns-4 : tie.Need-returns-4
 returns-4 c = search needs
 

@@ -6,51 +6,39 @@ use borrow.Author.Needs.{needs}
 use Rattle.vectors.proofs.equal.Statement.{statement}
 use Rattle.vectors.proofs.equal.Tie as tie
 
--- src/main.rt:77:9
 returns : tie.Need-returns
 returns c = search needs
 
--- src/main.rt:79:35
 slice-aggregate-refal5-names-equal : tie.Need-slice-aggregate-refal5-names-equal
 slice-aggregate-refal5-names-equal c = sym (length-take-le _ _ (omega arith))
 
--- src/main.rt:79:49
 sub-refal5-names-equal : tie.Need-sub-refal5-names-equal
 sub-refal5-names-equal c = search needs
 
--- src/main.rt:79:49
 part-refal5-names-equal-start : tie.Need-part-refal5-names-equal-start
 part-refal5-names-equal-start c = search needs
 
--- src/main.rt:79:49
 part-refal5-names-equal-end : tie.Need-part-refal5-names-equal-end
 part-refal5-names-equal-end c = search needs
 
--- src/main.rt:79:8
 refal5-names-equal-requires : tie.Need-refal5-names-equal-requires
 refal5-names-equal-requires c κs = search needs
 
--- src/main.rt:80:38
 slice-aggregate-write-all : tie.Need-slice-aggregate-write-all
 slice-aggregate-write-all c = search needs
 
--- src/main.rt:80:9
 write-all-requires : tie.Need-write-all-requires
 write-all-requires c κs = search needs
 
--- src/main.rt:82:38
 slice-aggregate-write-all-2 : tie.Need-slice-aggregate-write-all-2
 slice-aggregate-write-all-2 c = search needs
 
--- src/main.rt:82:9
 write-all-requires-2 : tie.Need-write-all-requires-2
 write-all-requires-2 c κs = search needs
 
--- src/main.rt:75:1
 returns-2 : tie.Need-returns-2
 returns-2 c = search needs
 
--- src/main.rt:75:1
 returns-3 : tie.Need-returns-3
 returns-3 c = search needs
 

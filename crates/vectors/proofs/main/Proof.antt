@@ -9,31 +9,24 @@ Inv-loop turns₀ turns = Unit {0}
 abbrev μ-loop : tie.MeasureT-loop
 μ-loop turns₀ turns = turns
 
--- src/main.rt:107:5
 loop-holds : tie.Need-loop-holds Inv-loop μ-loop
 loop-holds c = tt
 
--- src/main.rt:107:24
 record-requires : tie.Need-record-requires Inv-loop μ-loop
 record-requires c κs = search needs
 
--- src/main.rt:108:9
 sub-turns : tie.Need-sub-turns Inv-loop μ-loop
 sub-turns c = search needs
 
--- src/main.rt:107:5
 loop-less : tie.Need-loop-less Inv-loop μ-loop
 loop-less c = search needs
 
--- src/main.rt:107:5
 loop-again : tie.Need-loop-again Inv-loop μ-loop
 loop-again c = tt
 
--- src/main.rt:105:1
 returns : tie.Need-returns Inv-loop μ-loop
 returns c = search needs
 
--- src/main.rt:105:1
 returns-2 : tie.Need-returns-2 Inv-loop μ-loop
 returns-2 c = search needs
 

@@ -6,31 +6,24 @@ use borrow.Author.Needs.{needs}
 use Rattle.vectors.proofs.parse_first.Statement.{statement}
 use Rattle.vectors.proofs.parse_first.Tie as tie
 
--- src/main.rt:112:9
 returns : tie.Need-returns
 returns c = search needs
 
--- src/main.rt:115:26
 slice-aggregate-refal5-parse : tie.Need-slice-aggregate-refal5-parse
 slice-aggregate-refal5-parse c = sym (length-take-le _ _ (omega arith))
 
--- src/main.rt:115:5
 refal5-parse-requires : tie.Need-refal5-parse-requires
 refal5-parse-requires c κs = search needs
 
--- src/main.rt:116:5
 put-answer-requires : tie.Need-put-answer-requires
 put-answer-requires c κs = search needs
 
--- src/main.rt:117:5
 put-words-requires : tie.Need-put-words-requires
 put-words-requires c κs = search needs
 
--- src/main.rt:110:1
 same-length : tie.Need-same-length
 same-length c = search needs
 
--- src/main.rt:110:1
 returns-2 : tie.Need-returns-2
 returns-2 c = search needs
 

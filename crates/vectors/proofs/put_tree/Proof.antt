@@ -13,79 +13,60 @@ Inv-loop block tree₀ last₀ i₀ tree last i = (5 ≤ last) × (length tree �
 abbrev μ-loop : tie.MeasureT-loop
 μ-loop block tree₀ last₀ i₀ tree last i = length tree₀ - i
 
--- src/main.rt:200:5
 loop-holds : tie.Need-loop-holds Inv-loop μ-loop
 loop-holds c = (omega arith, refl)
 
--- src/main.rt:202:13
 same-length : tie.Need-same-length Inv-loop μ-loop
 same-length c = search needs
 
--- src/main.rt:202:13
 returns : tie.Need-returns Inv-loop μ-loop
 returns c = search needs
 
--- src/main.rt:205:19
 sub-word : tie.Need-sub-word Inv-loop μ-loop
 sub-word c = omega arith
 
--- src/main.rt:205:13
 shared-slice-read-word : tie.Need-shared-slice-read-word Inv-loop μ-loop
 shared-slice-read-word c = omega arith
 
--- src/main.rt:206:19
 sub-word-2 : tie.Need-sub-word-2 Inv-loop μ-loop
 sub-word-2 c = omega arith
 
--- src/main.rt:206:13
 shared-slice-read-word-2 : tie.Need-shared-slice-read-word-2 Inv-loop μ-loop
 shared-slice-read-word-2 c = omega arith
 
--- src/main.rt:207:19
 sub-word-3 : tie.Need-sub-word-3 Inv-loop μ-loop
 sub-word-3 c = omega arith
 
--- src/main.rt:207:13
 shared-slice-read-word-3 : tie.Need-shared-slice-read-word-3 Inv-loop μ-loop
 shared-slice-read-word-3 c = omega arith
 
--- src/main.rt:208:13
 shared-slice-read-word-4 : tie.Need-shared-slice-read-word-4 Inv-loop μ-loop
 shared-slice-read-word-4 c = search needs
 
--- src/main.rt:204:19
 word-requires : tie.Need-word-requires Inv-loop μ-loop
 word-requires c κs = search needs
 
--- src/main.rt:204:9
 mul-tree : tie.Need-mul-tree Inv-loop μ-loop
 mul-tree c = search needs
 
--- src/main.rt:204:9
 slice-write-tree : tie.Need-slice-write-tree Inv-loop μ-loop
 slice-write-tree c = search needs
 
--- src/main.rt:210:9
 add-last : tie.Need-add-last Inv-loop μ-loop
 add-last c = search needs
 
--- src/main.rt:211:9
 add-i : tie.Need-add-i Inv-loop μ-loop
 add-i c = search needs
 
--- src/main.rt:200:5
 loop-less : tie.Need-loop-less Inv-loop μ-loop
 loop-less c = omega arith
 
--- src/main.rt:200:5
 loop-again : tie.Need-loop-again Inv-loop μ-loop
 loop-again c = let l = c .before .before .before .before .before .before .before .loop in (omega arith, length-set (l .tree) (l .i) (c .word .result) ∙ l .inv .1)
 
--- src/main.rt:197:1
 same-length-2 : tie.Need-same-length-2 Inv-loop μ-loop
 same-length-2 c = search needs
 
--- src/main.rt:197:1
 returns-2 : tie.Need-returns-2 Inv-loop μ-loop
 returns-2 c = search needs
 

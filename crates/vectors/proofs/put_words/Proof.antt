@@ -10,43 +10,33 @@ Inv-loop words n i₀ t4 i = Unit {0}
 abbrev μ-loop : tie.MeasureT-loop
 μ-loop words n i₀ t4 i = n - i
 
--- src/main.rt:69:5
 loop-holds : tie.Need-loop-holds Inv-loop μ-loop
 loop-holds c = tt
 
--- src/main.rt:70:18
 mul-put-word : tie.Need-mul-put-word Inv-loop μ-loop
 mul-put-word c = search needs
 
--- src/main.rt:70:18
 shared-slice-read-put-word : tie.Need-shared-slice-read-put-word Inv-loop μ-loop
 shared-slice-read-put-word c = search needs
 
--- src/main.rt:70:9
 put-word-requires : tie.Need-put-word-requires Inv-loop μ-loop
 put-word-requires c κs = search needs
 
--- src/main.rt:71:9
 add-i : tie.Need-add-i Inv-loop μ-loop
 add-i c = search needs
 
--- src/main.rt:69:5
 loop-less : tie.Need-loop-less Inv-loop μ-loop
 loop-less c = search needs
 
--- src/main.rt:69:5
 loop-again : tie.Need-loop-again Inv-loop μ-loop
 loop-again c = tt
 
--- src/main.rt:73:34
 slice-aggregate-write-all : tie.Need-slice-aggregate-write-all Inv-loop μ-loop
 slice-aggregate-write-all c = search needs
 
--- src/main.rt:73:5
 write-all-requires : tie.Need-write-all-requires Inv-loop μ-loop
 write-all-requires c κs = search needs
 
--- src/main.rt:66:1
 returns : tie.Need-returns Inv-loop μ-loop
 returns c = search needs
 

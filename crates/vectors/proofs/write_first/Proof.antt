@@ -6,31 +6,24 @@ use borrow.Author.Needs.{needs}
 use Rattle.vectors.proofs.write_first.Statement.{statement}
 use Rattle.vectors.proofs.write_first.Tie as tie
 
--- src/main.rt:150:9
 returns : tie.Need-returns
 returns c = search needs
 
--- src/main.rt:153:26
 slice-aggregate-refal5-write : tie.Need-slice-aggregate-refal5-write
 slice-aggregate-refal5-write c = sym (length-take-le _ _ (omega arith))
 
--- src/main.rt:153:5
 refal5-write-requires : tie.Need-refal5-write-requires
 refal5-write-requires c κs = search needs
 
--- src/main.rt:154:5
 put-answer-requires : tie.Need-put-answer-requires
 put-answer-requires c κs = search needs
 
--- src/main.rt:155:5
 put-bytes-requires : tie.Need-put-bytes-requires
 put-bytes-requires c κs = search needs
 
--- src/main.rt:148:1
 same-length : tie.Need-same-length
 same-length c = search needs
 
--- src/main.rt:148:1
 returns-2 : tie.Need-returns-2
 returns-2 c = search needs
 

@@ -6,47 +6,36 @@ use borrow.Author.Needs.{needs}
 use Rattle.vectors.proofs.write_parsed.Statement.{statement}
 use Rattle.vectors.proofs.write_parsed.Tie as tie
 
--- src/main.rt:161:9
 returns : tie.Need-returns
 returns c = search needs
 
--- src/main.rt:165:26
 slice-aggregate-refal5-parse : tie.Need-slice-aggregate-refal5-parse
 slice-aggregate-refal5-parse c = sym (length-take-le _ _ (omega arith))
 
--- src/main.rt:165:40
 slice-aggregate-refal5-parse-2 : tie.Need-slice-aggregate-refal5-parse-2
 slice-aggregate-refal5-parse-2 c = search needs
 
--- src/main.rt:165:5
 refal5-parse-requires : tie.Need-refal5-parse-requires
 refal5-parse-requires c κs = search needs
 
--- src/main.rt:166:17
 array-read-count : tie.Need-array-read-count
 array-read-count c = search needs
 
--- src/main.rt:168:9
 returns-2 : tie.Need-returns-2
 returns-2 c = search needs
 
--- src/main.rt:170:13
 mul-m : tie.Need-mul-m
 mul-m c = search needs
 
--- src/main.rt:171:17
 slice-aggregate-write-first : tie.Need-slice-aggregate-write-first
 slice-aggregate-write-first c = search needs
 
--- src/main.rt:171:5
 write-first-requires : tie.Need-write-first-requires
 write-first-requires c κs = search needs
 
--- src/main.rt:159:1
 same-length : tie.Need-same-length
 same-length c = search needs
 
--- src/main.rt:159:1
 returns-3 : tie.Need-returns-3
 returns-3 c = search needs
 

@@ -1,40 +1,27 @@
-use native.Mathlib.Omega.{arith}
-use mathlib.Core.Path.{_≡_, refl, sym, ap, _∙_}
+-- `refal_lexer::blank::comment_at` meets its contract.
 use Rattle.refal_lexer.specs.BlankLaws.{comment-star, comment-slash, comment-none, slash-in}
 use borrow.Author.Needs.{needs}
 use Rattle.refal_lexer.proofs.blank.comment_at.Statement.{statement}
 use Rattle.refal_lexer.proofs.blank.comment_at.Tie as tie
-use Rattle.refal_lexer.proofs.blank.comment_at.Reads as reads
-use Rattle.refal_lexer.proofs.blank.comment_at.Lts as lts
-use Rattle.refal_lexer.proofs.blank.close.Reads as close-reads
-use Rattle.refal_lexer.proofs.runs.line_end.Reads as line-end-reads
-use Rattle.refal_text.proofs.byte.Reads as byte-reads
 
--- src/lib.rt:108:13
 shared-slice-read-b : tie.Need-shared-slice-read-b
 shared-slice-read-b c = search needs
 
--- src/lib.rt:111:13
 line-end-requires : tie.Need-line-end-requires
 line-end-requires c κs = search needs
 
--- src/lib.rt:112:9
 returns : tie.Need-returns
 returns c = let a = c .before .before .before .before .args in comment-star (a .line) (a .src .now) _ (c .before .if1 .taken) (c .line-end .ensures .0)
 
--- src/lib.rt:114:9
 byte-requires : tie.Need-byte-requires
 byte-requires c κs = search needs
 
--- src/lib.rt:117:9
 close-requires : tie.Need-close-requires
 close-requires c κs = let a = c .before .before .before .before .before .args in slash-in (a .line) (a .src .now) _ (c .before .byte .ensures) (c .if2 .taken)
 
--- src/lib.rt:117:9
 returns-2 : tie.Need-returns-2
 returns-2 c = let a = c .before .before .before .before .before .before .args in comment-slash (a .line) (a .src .now) _ _ (c .before .before .before .if1 .left) (c .before .before .byte .ensures) (c .before .if2 .taken) (c .close .ensures)
 
--- src/lib.rt:104:1
 returns-3 : tie.Need-returns-3
 returns-3 c = let a = c .before .before .before .before .before .args in comment-none (a .line) (a .src .now) _ (c .before .before .if1 .left) (c .before .byte .ensures) (c .if2 .left)
 

@@ -1,32 +1,24 @@
-use Prim.Native.Nat.{ℕ}
-use mathlib.Core.Bool.{Bool}
-use mathlib.Core.Path.{_≡_, refl, sym, ap, _∙_}
+-- `refal_lexer::blank::stop` meets its contract.
+use mathlib.Core.Path.{sym, ap}
 use Rattle.refal_lexer.specs.declared.blank.Comment.{Comment}
 use Rattle.refal_lexer.specs.Carried.{stopAt}
 use Rattle.refal_lexer.specs.BlankLaws.{stop-open, stop-none}
 use borrow.Author.Needs.{needs}
 use Rattle.refal_lexer.proofs.blank.stop.Statement.{statement}
 use Rattle.refal_lexer.proofs.blank.stop.Tie as tie
-use Rattle.refal_lexer.proofs.blank.stop.Reads as reads
-use Rattle.refal_lexer.proofs.blank.stop.Lts as lts
 
--- src/lib.rt:126:23
 enum-known-c : tie.Need-enum-known-c
 enum-known-c c = search needs
 
--- src/lib.rt:127:23
 enum-known-c-2 : tie.Need-enum-known-c-2
 enum-known-c-2 c = search needs
 
--- src/lib.rt:129:17
 returns : tie.Need-returns
 returns c = let a = c .before .before .before .before .args in stop-open _ _ (a .at) (a .line) (a .end) (c .before .before .c2 .given .1) (c .if1 .taken)
 
--- src/lib.rt:122:1
 returns-2 : tie.Need-returns-2
 returns-2 c = let a = c .before .before .before .args in sym (ap (λ (x : Comment). stopAt x (a .at) (a .line) (a .end)) (c .before .c .given .1))
 
--- src/lib.rt:122:1
 returns-3 : tie.Need-returns-3
 returns-3 c = let a = c .before .before .before .before .args in stop-none _ _ (a .at) (a .line) (a .end) (c .before .before .c2 .given .1) (c .if1 .left)
 

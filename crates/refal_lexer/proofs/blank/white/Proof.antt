@@ -1,9 +1,9 @@
+-- `refal_lexer::blank::white` meets its contract.
 use Prim.Native.Nat.{ℕ, _+_, _-_, _≤_}
 use native.Mathlib.Omega.{arith}
 use native.Mathlib.Nat.{add-zero}
-use mathlib.Core.Path.{_≡_, refl, sym, ap, _∙_}
+use mathlib.Core.Path.{_≡_, sym, ap, _∙_}
 use mathlib.Core.Bool.{Bool}
-use mathlib.Core.List.{List}
 use lib.ListN.{length, drop}
 use Rattle.refal_lexer.specs.Blanks.{whiteLen}
 use Rattle.refal_lexer.specs.Carried.{whites}
@@ -11,10 +11,6 @@ use Rattle.refal_lexer.specs.BlankLaws.{rest-is, rest-length, white-end,
 use borrow.Author.Needs.{needs}
 use Rattle.refal_lexer.proofs.blank.white.Statement.{statement}
 use Rattle.refal_lexer.proofs.blank.white.Tie as tie
-use Rattle.refal_lexer.proofs.blank.white.Reads as reads
-use Rattle.refal_lexer.proofs.blank.white.Lts as lts
-use Rattle.refal_lexer.proofs.blank.line_after.Reads as line-after-reads
-use Rattle.refal_lexer.proofs.blank.white_len.Reads as white-len-reads
 
 abbrev Inv-loop : tie.InvT-loop
 Inv-loop src at line i₀ l₀ i l = (i ≤ length src) × (whites 0 (at + i) l (drop i src) ≡ whites 0 at line src)
@@ -22,64 +18,50 @@ Inv-loop src at line i₀ l₀ i l = (i ≤ length src) × (whites 0 (at + i) l 
 abbrev μ-loop : tie.MeasureT-loop
 μ-loop src at line i₀ l₀ i l = length src - i
 
--- src/lib.rt:55:5
 loop-holds : tie.Need-loop-holds Inv-loop μ-loop
 loop-holds c = let a = c .before .args in (omega arith, ap (λ (n : ℕ). whites 0 n (a .line) (a .src .now)) (add-zero (a .at)))
 
--- src/lib.rt:56:17
 shared-slice-read-b : tie.Need-shared-slice-read-b Inv-loop μ-loop
 shared-slice-read-b c = search needs
 
--- src/lib.rt:57:20
 add-here : tie.Need-add-here Inv-loop μ-loop
 add-here c = search needs
 
--- src/lib.rt:58:27
 sub-white-len : tie.Need-sub-white-len Inv-loop μ-loop
 sub-white-len c = search needs
 
--- src/lib.rt:58:27
 part-white-len-start : tie.Need-part-white-len-start Inv-loop μ-loop
 part-white-len-start c = search needs
 
--- src/lib.rt:58:27
 part-white-len-end : tie.Need-part-white-len-end Inv-loop μ-loop
 part-white-len-end c = search needs
 
--- src/lib.rt:58:13
 white-len-requires : tie.Need-white-len-requires Inv-loop μ-loop
 white-len-requires c κs = search needs
 
--- src/lib.rt:60:13
 returns : tie.Need-returns Inv-loop μ-loop
 returns c = let s = c .before .before .before .before .before .before .before .args .src .now in let i = c .before .before .before .before .before .loop .i in let I = c .before .before .before .before .before .loop .inv in
     let e : 0 ≡ whiteLen (drop i s) = sym (c .if1 .taken) ∙ c .before .white-len .ensures .0 ∙ ap whiteLen (rest-is i s) in
     (white-stop s (c .before .before .before .before .before .before .before .args .at) i (c .before .before .before .before .before .loop .l) (c .before .before .before .before .loop-test .taken) e ∙ I .1, omega arith, omega arith)
 
--- src/lib.rt:62:9
 line-after-requires : tie.Need-line-after-requires Inv-loop μ-loop
 line-after-requires c κs = search needs
 
--- src/lib.rt:63:9
 add-i : tie.Need-add-i Inv-loop μ-loop
 add-i c = let w = c .before .before .white-len .ensures .1 in let r = rest-length (c .before .before .before .before .before .before .loop .i) (c .before .before .before .before .before .before .before .before .args .src .now) in omega arith
 
--- src/lib.rt:55:5
 loop-less : tie.Need-loop-less Inv-loop μ-loop
 loop-less c = search needs
 
--- src/lib.rt:55:5
 loop-again : tie.Need-loop-again Inv-loop μ-loop
 loop-again c = let s = c .before .before .before .before .before .before .before .before .args .src .now in let a = c .before .before .before .before .before .before .before .before .args .at in let i = c .before .before .before .before .before .before .loop .i in let I = c .before .before .before .before .before .before .loop .inv in let n = c .before .before .white-len .result in
     let w = c .before .before .white-len .ensures .1 in let r = rest-length i s in
     let m : i + n ≤ length s = omega arith in
     (m, ap (λ (x : Bool). whites 0 (a + (i + n)) x (drop (i + n) s)) (c .line-after .ensures) ∙ white-on s a i (c .before .before .before .before .before .before .loop .l) (c .before .before .before .before .before .loop-test .taken) n (c .before .before .white-len .ensures .0 ∙ ap whiteLen (rest-is i s)) (c .before .if1 .left) m ∙ I .1)
 
--- src/lib.rt:65:15
 add-end : tie.Need-add-end Inv-loop μ-loop
 add-end c = search needs
 
--- src/lib.rt:49:1
 returns-2 : tie.Need-returns-2 Inv-loop μ-loop
 returns-2 c = let a = c .before .before .before .args in let I = c .before .loop .inv in (white-end (a .src .now) (a .at) (c .before .loop .i) (c .before .loop .l) (c .loop-test .left) ∙ I .1, omega arith, omega arith)
 

@@ -1,11 +1,9 @@
-use native.Mathlib.Omega.{arith}
-use mathlib.Core.Path.{_≡_, refl, sym, ap, _∙_}
+-- `refal_lexer::blank::white_len` meets its contract.
+use mathlib.Core.Path.{sym, _∙_}
 use Rattle.refal_lexer.specs.BlankLaws.{len-white, len-none, ascii-white, ascii-none}
 use borrow.Author.Needs.{needs}
 use Rattle.refal_lexer.proofs.blank.white_len.Statement.{statement}
 use Rattle.refal_lexer.proofs.blank.white_len.Tie as tie
-use Rattle.refal_lexer.proofs.blank.white_len.Reads as reads
-use Rattle.refal_lexer.proofs.blank.white_len.Lts as lts
 
 shared-slice-read-b : tie.Need-shared-slice-read-b
 shared-slice-read-b c = search needs

@@ -3,11 +3,9 @@ use borrow.Author.Needs.{needs}
 use Rattle.refal_lexer.proofs.class.class_of.Statement.{statement}
 use Rattle.refal_lexer.proofs.class.class_of.Tie as tie
 
--- src/class.rt:271:5
 shared-slice-read-result : tie.Need-shared-slice-read-result
 shared-slice-read-result c = let l = c .before .pre .long in let f = c .before .fits .b .fits in search needs
 
--- src/class.rt:267:1
 returns : tie.Need-returns
 returns c = c .before .pre .rule _ (c .before .fits .b .fits)
 

@@ -6,11 +6,9 @@ use borrow.Author.Needs.{needs}
 use Rattle.refal_lexer.proofs.class.is_name.Statement.{statement}
 use Rattle.refal_lexer.proofs.class.is_name.Tie as tie
 
--- src/class.rt:279:9
 class-of-requires : tie.Need-class-of-requires
 class-of-requires c κs = search needs
 
--- src/class.rt:275:1
 returns : tie.Need-returns
 returns c = ap (leb 20) (c .class-of .ensures) ∙ name-class _ (c .before .before .fits .b .fits)
 

@@ -1,9 +1,8 @@
+-- `refal_lexer::literal::close` meets its contract.
 use borrow.Author.Tests.{lt-ltb, le-ltb, eq-eqb, ne-eqb}
 use borrow.Author.Needs.{needs}
 use Rattle.refal_lexer.proofs.literal.close.Statement.{statement}
 use Rattle.refal_lexer.proofs.literal.close.Tie as tie
-use Rattle.refal_lexer.proofs.literal.close.Reads as reads
-use Rattle.refal_lexer.proofs.literal.close.Lts as lts
 
 add-end : tie.Need-add-end
 add-end c = search needs

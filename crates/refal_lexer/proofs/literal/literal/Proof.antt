@@ -1,50 +1,40 @@
-use Prim.Native.Nat.{ℕ, _+_, _-_, _≤_, _<_}
+-- `refal_lexer::literal::literal` meets its contract.
+use Prim.Native.Nat.{ℕ, _-_}
 use native.Mathlib.Omega.{arith}
 use mathlib.Core.List.{List}
-use mathlib.Core.Path.{_≡_, refl, sym, ap, subst, _∙_}
-use lib.ListN.{length, drop, getD}
+use mathlib.Core.Path.{_≡_, refl, sym, ap, _∙_}
+use lib.ListN.{drop, getD}
 use Rattle.refal_lexer.specs.Literals.{litFrom}
 use Rattle.refal_lexer.specs.Tokens.{literalOf, literalAt}
-use Rattle.refal_lexer.specs.Steps.{endOf, stepOf, rowsOf}
+use Rattle.refal_lexer.specs.Steps.{stepOf, rowsOf}
 use Rattle.refal_lexer.specs.LiteralLaws.{lit-answer, lit-stop, lit-puts, lit-in}
 use borrow.Author.Needs.{needs}
 use Rattle.refal_lexer.proofs.literal.literal.Statement.{statement}
 use Rattle.refal_lexer.proofs.literal.literal.Tie as tie
-use Rattle.refal_lexer.proofs.literal.literal.Reads as reads
-use Rattle.refal_lexer.proofs.literal.literal.Lts as lts
-use Rattle.refal_lexer.proofs.literal.behind.Reads as behind-reads
-use Rattle.refal_lexer.proofs.literal.put_chars.Reads as put-chars-reads
 
 quoted : (at q : ℕ) (s : List ℕ) → q ≡ getD s 0 0 → literalOf at q (drop 1 s) (litFrom q 0 1 0 (drop 1 s)) ≡ literalAt at s
 quoted at q s e = ap (λ (x : ℕ). literalOf at x (drop 1 s) (litFrom x 0 1 0 (drop 1 s))) e
 
--- src/literal.rt:155:9
 behind-requires : tie.Need-behind-requires
 behind-requires c κs = search needs
 
--- src/literal.rt:156:18
 enum-known-s : tie.Need-enum-known-s
 enum-known-s c = search needs
 
--- src/literal.rt:157:9
 enum-told : tie.Need-enum-told
 enum-told c = search needs
 
--- src/literal.rt:157:9
 returns : tie.Need-returns
 returns c = let a = c .before .before .before .before .before .args in let e = quoted (a .c .at) (a .q) (a .src .now) (c .before .before .before .before .before .pre .4) in let l = lit-answer (a .c .at) (a .c .row) (a .q) (a .src .now) (litFrom (a .q) 0 1 0 (drop 1 (a .src .now))) refl in
     let b = c .before .before .behind .ensures in let f = c .enum-told .given .1 in
     (b ∙ l ∙ ap (λ x. stepOf x (a .c .row)) e, lit-stop (a .c .at) (a .c .row) (a .q) (a .src .now) (litFrom (a .q) 0 1 0 (drop 1 (a .src .now))) (a .rows .now) _ _ _ (sym b ∙ f) ∙ ap (λ x. rowsOf x (a .rows .now) (a .c .row)) e)
 
--- src/literal.rt:159:5
 put-chars-requires : tie.Need-put-chars-requires
 put-chars-requires c κs = let a = c .before .before .before .before .before .before .before .args in let i = lit-in (a .c .at) (a .c .row) (a .q) (a .src .now) (litFrom (a .q) 0 1 0 (drop 1 (a .src .now))) _ refl (sym (c .before .before .before .before .behind .ensures) ∙ c .before .before .s .given .1) (c .before .before .before .before .before .before .before .pre .0) in (omega arith, omega arith, omega arith, omega arith, omega arith)
 
--- src/literal.rt:150:1
 same-length : tie.Need-same-length
 same-length c = search needs
 
--- src/literal.rt:150:1
 returns-2 : tie.Need-returns-2
 returns-2 c = let a = c .before .before .before .before .before .before .before .before .before .before .args in let e = quoted (a .c .at) (a .q) (a .src .now) (c .before .before .before .before .before .before .before .before .before .before .pre .4) in let l = lit-answer (a .c .at) (a .c .row) (a .q) (a .src .now) (litFrom (a .q) 0 1 0 (drop 1 (a .src .now))) refl in
     let b = c .before .before .before .before .before .before .before .behind .ensures in let f = c .before .before .before .before .before .s .given .1 in

@@ -4,27 +4,21 @@ use borrow.Author.Needs.{needs}
 use Rattle.refal_lexer.proofs.number.add_digit.Statement.{statement}
 use Rattle.refal_lexer.proofs.number.add_digit.Tie as tie
 
--- src/number.rt:30:9
 mul-result : tie.Need-mul-result
 mul-result c = search needs
 
--- src/number.rt:30:19
 wide-requires : tie.Need-wide-requires
 wide-requires c κs = search needs
 
--- src/number.rt:30:19
 sub-result : tie.Need-sub-result
 sub-result c = search needs
 
--- src/number.rt:30:9
 add-result : tie.Need-add-result
 add-result c = search needs
 
--- src/number.rt:25:1
 returns : tie.Need-returns
 returns c = rw (c .wide .ensures, le-leb _ _ (c .before .if1 .taken))
 
--- src/number.rt:25:1
 returns-2 : tie.Need-returns-2
 returns-2 c = rw (lt-leb _ _ (c .if1 .left))
 

@@ -1,9 +1,8 @@
+-- `refal_lexer::number::macrodigit` meets its contract.
 use borrow.Author.Tests.{lt-ltb, le-ltb, le-leb, lt-leb}
 use borrow.Author.Needs.{needs}
 use Rattle.refal_lexer.proofs.number.macrodigit.Statement.{statement}
 use Rattle.refal_lexer.proofs.number.macrodigit.Tie as tie
-use Rattle.refal_lexer.proofs.number.macrodigit.Reads as reads
-use Rattle.refal_lexer.proofs.number.macrodigit.Lts as lts
 
 add-end : tie.Need-add-end
 add-end c = search needs

@@ -1,3 +1,4 @@
+-- `refal_lexer::number::marked` meets its contract.
 use native.Mathlib.Omega.{arith}
 use mathlib.Core.Path.{sym, _∙_}
 use Rattle.refal_lexer.specs.BlankLaws.{nonzero-in}
@@ -5,8 +6,6 @@ use Rattle.refal_lexer.specs.NumberLaws.{part-here, part-none}
 use borrow.Author.Needs.{needs}
 use Rattle.refal_lexer.proofs.number.marked.Statement.{statement}
 use Rattle.refal_lexer.proofs.number.marked.Tie as tie
-use Rattle.refal_lexer.proofs.number.marked.Reads as reads
-use Rattle.refal_lexer.proofs.number.marked.Lts as lts
 
 byte-requires : tie.Need-byte-requires
 byte-requires c κs = search needs

@@ -1,10 +1,8 @@
-use native.Mathlib.Omega.{arith}
+-- `refal_lexer::number::number` meets its contract.
 use Rattle.refal_lexer.specs.NumberLaws.{number-point, number-e, number-whole, number-real}
 use borrow.Author.Needs.{needs}
 use Rattle.refal_lexer.proofs.number.number.Statement.{statement}
 use Rattle.refal_lexer.proofs.number.number.Tie as tie
-use Rattle.refal_lexer.proofs.number.number.Reads as reads
-use Rattle.refal_lexer.proofs.number.number.Lts as lts
 
 whole-end-requires : tie.Need-whole-end-requires
 whole-end-requires c κs = search needs

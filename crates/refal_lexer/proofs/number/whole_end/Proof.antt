@@ -19,40 +19,31 @@ Inv-loop src at i₀ v₀ i v = (i ≤ length src) × (i + span digit (drop i sr
 abbrev μ-loop : tie.MeasureT-loop
 μ-loop src at i₀ v₀ i v = length src - i
 
--- src/number.rt:42:5
 loop-holds : tie.Need-loop-holds Inv-loop μ-loop
 loop-holds c = (search needs, refl, refl)
 
--- src/number.rt:43:17
 shared-slice-read-b : tie.Need-shared-slice-read-b Inv-loop μ-loop
 shared-slice-read-b c = search needs
 
--- src/number.rt:44:13
 is-digit-requires : tie.Need-is-digit-requires Inv-loop μ-loop
 is-digit-requires c κs = search needs
 
--- src/number.rt:45:13
 returns : tie.Need-returns Inv-loop μ-loop
 returns c = let d = sym (c .before .is-digit .ensures) ∙ not-true _ (c .if1 .taken) in (sym (span-stop digit _ _ (c .before .before .before .loop-test .taken) d) ∙ c .before .before .before .before .loop .inv .1, search needs, sym (worth-stop _ _ _ (c .before .before .before .loop-test .taken) d) ∙ c .before .before .before .before .loop .inv .2)
 
--- src/number.rt:47:9
 add-digit-requires : tie.Need-add-digit-requires Inv-loop μ-loop
 add-digit-requires c κs = range-lo 48 _ 57 (sym (c .before .is-digit .ensures) ∙ not-false _ (c .if1 .left))
 
--- src/number.rt:48:9
 add-i : tie.Need-add-i Inv-loop μ-loop
 add-i c = search needs
 
--- src/number.rt:42:5
 loop-less : tie.Need-loop-less Inv-loop μ-loop
 loop-less c = search needs
 
--- src/number.rt:42:5
 loop-again : tie.Need-loop-again Inv-loop μ-loop
 loop-again c = let d = sym (c .before .before .is-digit .ensures) ∙ not-false _ (c .before .if1 .left) in
     (omega arith, span-step digit _ _ (c .before .before .before .before .loop-test .taken) d ∙ c .before .before .before .before .before .loop .inv .1, ap (λ (x : ℕ). worth x (drop (c .before .before .before .before .before .loop .i + 1) (c .before .before .before .before .before .before .before .args .src .now))) (c .add-digit .ensures) ∙ worth-step _ _ _ (c .before .before .before .before .loop-test .taken) d ∙ c .before .before .before .before .before .loop .inv .2)
 
--- src/number.rt:36:1
 returns-2 : tie.Need-returns-2 Inv-loop μ-loop
 returns-2 c = (sym (span-end digit _ _ (c .loop-test .left)) ∙ c .before .loop .inv .1, search needs, sym (worth-end _ _ _ (c .loop-test .left)) ∙ c .before .loop .inv .2)
 

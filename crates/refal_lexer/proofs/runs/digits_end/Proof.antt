@@ -17,35 +17,27 @@ Inv-loop src at i₀ i = (i ≤ length src) × (i + span digit (drop i src) ≡ 
 abbrev μ-loop : tie.MeasureT-loop
 μ-loop src at i₀ i = length src - i
 
--- src/runs.rt:41:5
 loop-holds : tie.Need-loop-holds Inv-loop μ-loop
 loop-holds c = (search needs, refl)
 
--- src/runs.rt:42:36
 shared-slice-read-is-digit : tie.Need-shared-slice-read-is-digit Inv-loop μ-loop
 shared-slice-read-is-digit c = search needs
 
--- src/runs.rt:42:13
 is-digit-requires : tie.Need-is-digit-requires Inv-loop μ-loop
 is-digit-requires c κs = search needs
 
--- src/runs.rt:43:13
 returns : tie.Need-returns Inv-loop μ-loop
 returns c = (sym (span-stop digit _ _ (c .before .before .before .loop-test .taken) (sym (c .before .is-digit .ensures) ∙ not-true _ (c .if1 .taken))) ∙ c .before .before .before .before .loop .inv .1, search needs)
 
--- src/runs.rt:45:9
 add-i : tie.Need-add-i Inv-loop μ-loop
 add-i c = search needs
 
--- src/runs.rt:41:5
 loop-less : tie.Need-loop-less Inv-loop μ-loop
 loop-less c = search needs
 
--- src/runs.rt:41:5
 loop-again : tie.Need-loop-again Inv-loop μ-loop
 loop-again c = (omega arith, span-step digit _ _ (c .before .before .before .loop-test .taken) (sym (c .before .is-digit .ensures) ∙ not-false _ (c .if1 .left)) ∙ c .before .before .before .before .loop .inv .1)
 
--- src/runs.rt:36:1
 returns-2 : tie.Need-returns-2 Inv-loop μ-loop
 returns-2 c = (sym (span-end digit _ _ (c .loop-test .left)) ∙ c .before .loop .inv .1, search needs)
 

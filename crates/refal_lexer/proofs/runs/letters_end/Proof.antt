@@ -17,35 +17,27 @@ Inv-loop src at i₀ i = (i ≤ length src) × (i + span letter (drop i src) ≡
 abbrev μ-loop : tie.MeasureT-loop
 μ-loop src at i₀ i = length src - i
 
--- src/runs.rt:27:5
 loop-holds : tie.Need-loop-holds Inv-loop μ-loop
 loop-holds c = (search needs, refl)
 
--- src/runs.rt:28:37
 shared-slice-read-is-letter : tie.Need-shared-slice-read-is-letter Inv-loop μ-loop
 shared-slice-read-is-letter c = search needs
 
--- src/runs.rt:28:13
 is-letter-requires : tie.Need-is-letter-requires Inv-loop μ-loop
 is-letter-requires c κs = search needs
 
--- src/runs.rt:29:13
 returns : tie.Need-returns Inv-loop μ-loop
 returns c = (sym (span-stop letter _ _ (c .before .before .before .loop-test .taken) (sym (c .before .is-letter .ensures) ∙ not-true _ (c .if1 .taken))) ∙ c .before .before .before .before .loop .inv .1, search needs)
 
--- src/runs.rt:31:9
 add-i : tie.Need-add-i Inv-loop μ-loop
 add-i c = search needs
 
--- src/runs.rt:27:5
 loop-less : tie.Need-loop-less Inv-loop μ-loop
 loop-less c = search needs
 
--- src/runs.rt:27:5
 loop-again : tie.Need-loop-again Inv-loop μ-loop
 loop-again c = (omega arith, span-step letter _ _ (c .before .before .before .loop-test .taken) (sym (c .before .is-letter .ensures) ∙ not-false _ (c .if1 .left)) ∙ c .before .before .before .before .loop .inv .1)
 
--- src/runs.rt:22:1
 returns-2 : tie.Need-returns-2 Inv-loop μ-loop
 returns-2 c = (sym (span-end letter _ _ (c .loop-test .left)) ∙ c .before .loop .inv .1, search needs)
 

@@ -18,31 +18,24 @@ Inv-loop src at i₀ i = (i ≤ length src) × (i + span notNewline (drop i src)
 abbrev μ-loop : tie.MeasureT-loop
 μ-loop src at i₀ i = length src - i
 
--- src/runs.rt:55:5
 loop-holds : tie.Need-loop-holds Inv-loop μ-loop
 loop-holds c = (search needs, refl)
 
--- src/runs.rt:56:12
 shared-slice-read-if1 : tie.Need-shared-slice-read-if1 Inv-loop μ-loop
 shared-slice-read-if1 c = search needs
 
--- src/runs.rt:57:13
 returns : tie.Need-returns Inv-loop μ-loop
 returns c = (sym (span-stop notNewline _ _ (c .before .before .loop-test .taken) (ap not (eq-eqb _ _ (c .if1 .taken)))) ∙ c .before .before .before .loop .inv .1, search needs)
 
--- src/runs.rt:59:9
 add-i : tie.Need-add-i Inv-loop μ-loop
 add-i c = search needs
 
--- src/runs.rt:55:5
 loop-less : tie.Need-loop-less Inv-loop μ-loop
 loop-less c = search needs
 
--- src/runs.rt:55:5
 loop-again : tie.Need-loop-again Inv-loop μ-loop
 loop-again c = (omega arith, span-step notNewline _ _ (c .before .before .loop-test .taken) (ap not (ne-eqb _ _ (c .if1 .left))) ∙ c .before .before .before .loop .inv .1)
 
--- src/runs.rt:50:1
 returns-2 : tie.Need-returns-2 Inv-loop μ-loop
 returns-2 c = (sym (span-end notNewline _ _ (c .loop-test .left)) ∙ c .before .loop .inv .1, search needs)
 

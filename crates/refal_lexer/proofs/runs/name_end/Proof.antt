@@ -17,35 +17,27 @@ Inv-loop src at table i₀ i = (i ≤ length src) × (i + span nameByte (drop i 
 abbrev μ-loop : tie.MeasureT-loop
 μ-loop src at table i₀ i = length src - i
 
--- src/runs.rt:13:5
 loop-holds : tie.Need-loop-holds Inv-loop μ-loop
 loop-holds c = (search needs, refl)
 
--- src/runs.rt:14:35
 shared-slice-read-is-name : tie.Need-shared-slice-read-is-name Inv-loop μ-loop
 shared-slice-read-is-name c = search needs
 
--- src/runs.rt:14:13
 is-name-requires : tie.Need-is-name-requires Inv-loop μ-loop
 is-name-requires c κs = search needs
 
--- src/runs.rt:15:13
 returns : tie.Need-returns Inv-loop μ-loop
 returns c = (sym (span-stop nameByte _ _ (c .before .before .before .loop-test .taken) (sym (c .before .is-name .ensures) ∙ not-true _ (c .if1 .taken))) ∙ c .before .before .before .before .loop .inv .1, search needs)
 
--- src/runs.rt:17:9
 add-i : tie.Need-add-i Inv-loop μ-loop
 add-i c = search needs
 
--- src/runs.rt:13:5
 loop-less : tie.Need-loop-less Inv-loop μ-loop
 loop-less c = search needs
 
--- src/runs.rt:13:5
 loop-again : tie.Need-loop-again Inv-loop μ-loop
 loop-again c = (omega arith, span-step nameByte _ _ (c .before .before .before .loop-test .taken) (sym (c .before .is-name .ensures) ∙ not-false _ (c .if1 .left)) ∙ c .before .before .before .before .loop .inv .1)
 
--- src/runs.rt:8:1
 returns-2 : tie.Need-returns-2 Inv-loop μ-loop
 returns-2 c = (sym (span-end nameByte _ _ (c .loop-test .left)) ∙ c .before .loop .inv .1, search needs)
 

@@ -1,11 +1,9 @@
-use native.Mathlib.Omega.{arith}
+-- `refal_lexer::token::rare` meets its contract.
 use mathlib.Core.Path.{refl, _∙_}
 use Rattle.refal_lexer.specs.ScanLaws.{rare-class, rare-sign, rare-none}
 use borrow.Author.Needs.{needs}
 use Rattle.refal_lexer.proofs.token.rare.Statement.{statement}
 use Rattle.refal_lexer.proofs.token.rare.Tie as tie
-use Rattle.refal_lexer.proofs.token.rare.Reads as reads
-use Rattle.refal_lexer.proofs.token.rare.Lts as lts
 
 directive-requires : tie.Need-directive-requires
 directive-requires c κs = search needs

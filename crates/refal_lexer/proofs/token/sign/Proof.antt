@@ -1,12 +1,10 @@
+-- `refal_lexer::token::sign` meets its contract.
 use native.Mathlib.Omega.{arith}
 use mathlib.Core.Path.{sym, _∙_}
-use Rattle.refal_lexer.specs.BlankLaws.{nonzero-in}
 use Rattle.refal_lexer.specs.ScanLaws.{sign-number, sign-name, sign-bad}
 use borrow.Author.Needs.{needs}
 use Rattle.refal_lexer.proofs.token.sign.Statement.{statement}
 use Rattle.refal_lexer.proofs.token.sign.Tie as tie
-use Rattle.refal_lexer.proofs.token.sign.Reads as reads
-use Rattle.refal_lexer.proofs.token.sign.Lts as lts
 
 byte-requires : tie.Need-byte-requires
 byte-requires c κs = search needs

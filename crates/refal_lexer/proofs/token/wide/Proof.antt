@@ -1,11 +1,10 @@
+-- `refal_lexer::token::wide` meets its contract.
 use native.Mathlib.Omega.{arith}
 use Rattle.refal_text.specs.Utf8Laws.{step-in}
 use Rattle.refal_lexer.specs.ScanLaws.{wide-none, wide-some}
 use borrow.Author.Needs.{needs}
 use Rattle.refal_lexer.proofs.token.wide.Statement.{statement}
 use Rattle.refal_lexer.proofs.token.wide.Tie as tie
-use Rattle.refal_lexer.proofs.token.wide.Reads as reads
-use Rattle.refal_lexer.proofs.token.wide.Lts as lts
 
 char-at-requires : tie.Need-char-at-requires
 char-at-requires c κs = search needs

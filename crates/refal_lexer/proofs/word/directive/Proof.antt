@@ -1,48 +1,34 @@
-use Prim.Native.Nat.{_+_}
+-- `refal_lexer::word::directive` meets its contract.
 use lib.ListN.{drop}
 use Rattle.refal_lexer.specs.WordLaws.{directive-entry, directive-extern, directive-bad}
 use borrow.Author.Needs.{needs}
 use Rattle.refal_lexer.proofs.word.directive.Statement.{statement}
 use Rattle.refal_lexer.proofs.word.directive.Tie as tie
-use Rattle.refal_lexer.proofs.word.directive.Reads as reads
-use Rattle.refal_lexer.proofs.word.directive.Lts as lts
-use Rattle.refal_lexer.proofs.runs.letters_end.Reads as letters-end-reads
-use Rattle.refal_lexer.proofs.word.is_extern.Reads as is-extern-reads
-use Rattle.refal_lexer.proofs.word.is_word.Reads as is-word-reads
 
--- src/word.rt:157:9
 letters-end-requires : tie.Need-letters-end-requires
 letters-end-requires c κs = search needs
 
--- src/word.rt:158:13
 sub-n : tie.Need-sub-n
 sub-n c = search needs
 
--- src/word.rt:159:15
 add-end : tie.Need-add-end
 add-end c = search needs
 
--- src/word.rt:160:36
 slice-aggregate-is-word : tie.Need-slice-aggregate-is-word
 slice-aggregate-is-word c = search needs
 
--- src/word.rt:160:9
 is-word-requires : tie.Need-is-word-requires
 is-word-requires c κs = search needs
 
--- src/word.rt:162:9
 returns : tie.Need-returns
 returns c = directive-entry _ _ _ (drop 1 (c .before .before .before .before .before .args .src .now)) (c .before .before .before .letters-end .ensures .0) _ (c .before .is-word .ensures) (c .if1 .taken)
 
--- src/word.rt:171:9
 is-extern-requires : tie.Need-is-extern-requires
 is-extern-requires c κs = search needs
 
--- src/word.rt:173:9
 returns-2 : tie.Need-returns-2
 returns-2 c = directive-extern _ _ _ (drop 1 (c .before .before .before .before .before .before .before .args .src .now)) (c .before .before .before .before .before .letters-end .ensures .0) _ _ (c .before .before .before .is-word .ensures) (c .before .before .if1 .left) (c .before .is-extern .ensures) (c .if2 .taken)
 
--- src/word.rt:153:1
 returns-3 : tie.Need-returns-3
 returns-3 c = directive-bad _ _ _ (drop 1 (c .before .before .before .before .before .before .before .args .src .now)) (c .before .before .before .before .before .letters-end .ensures .0) _ _ (c .before .before .before .is-word .ensures) (c .before .before .if1 .left) (c .before .is-extern .ensures) (c .if2 .left)
 

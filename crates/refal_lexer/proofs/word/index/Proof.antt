@@ -1,41 +1,30 @@
+-- `refal_lexer::word::index` meets its contract.
 use Rattle.refal_lexer.specs.WordLaws.{index-none, index-fits, index-long}
 use borrow.Author.Needs.{needs}
 use Rattle.refal_lexer.proofs.word.index.Statement.{statement}
 use Rattle.refal_lexer.proofs.word.index.Tie as tie
-use Rattle.refal_lexer.proofs.word.index.Reads as reads
-use Rattle.refal_lexer.proofs.word.index.Lts as lts
-use Rattle.refal_lexer.proofs.runs.name_end.Reads as name-end-reads
-use Rattle.refal_text.proofs.wide.Reads as wide-reads
 
--- src/word.rt:57:9
 name-end-requires : tie.Need-name-end-requires
 name-end-requires c κs = search needs
 
--- src/word.rt:58:15
 sub-len : tie.Need-sub-len
 sub-len c = search needs
 
--- src/word.rt:59:16
 add-text : tie.Need-add-text
 add-text c = search needs
 
--- src/word.rt:60:15
 add-end : tie.Need-add-end
 add-end c = search needs
 
--- src/word.rt:62:9
 returns : tie.Need-returns
 returns c = index-none _ _ _ _ (c .before .name-end .ensures .0) (c .if1 .taken)
 
--- src/word.rt:71:21
 wide-requires : tie.Need-wide-requires
 wide-requires c κs = search needs
 
--- src/word.rt:69:9
 returns-2 : tie.Need-returns-2
 returns-2 c = index-fits _ _ _ _ (c .before .before .before .name-end .ensures .0) _ (c .wide .ensures) (c .before .before .if1 .left) (c .before .if2 .taken)
 
--- src/word.rt:53:1
 returns-3 : tie.Need-returns-3
 returns-3 c = index-long _ _ _ _ (c .before .before .name-end .ensures .0) (c .before .if1 .left) (c .if2 .left)
 

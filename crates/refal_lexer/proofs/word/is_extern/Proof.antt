@@ -3,31 +3,24 @@ use borrow.Author.Needs.{needs}
 use Rattle.refal_lexer.proofs.word.is_extern.Statement.{statement}
 use Rattle.refal_lexer.proofs.word.is_extern.Tie as tie
 
--- src/word.rt:125:33
 slice-aggregate-is-word : tie.Need-slice-aggregate-is-word
 slice-aggregate-is-word c = search needs
 
--- src/word.rt:125:9
 is-word-requires : tie.Need-is-word-requires
 is-word-requires c κs = search needs
 
--- src/word.rt:126:33
 slice-aggregate-is-word-2 : tie.Need-slice-aggregate-is-word-2
 slice-aggregate-is-word-2 c = search needs
 
--- src/word.rt:126:9
 is-word-requires-2 : tie.Need-is-word-requires-2
 is-word-requires-2 c κs = search needs
 
--- src/word.rt:127:33
 slice-aggregate-is-word-3 : tie.Need-slice-aggregate-is-word-3
 slice-aggregate-is-word-3 c = search needs
 
--- src/word.rt:127:9
 is-word-requires-3 : tie.Need-is-word-requires-3
 is-word-requires-3 c κs = search needs
 
--- src/word.rt:121:1
 returns : tie.Need-returns
 returns c = rw (c .before .before .before .before .is-word .ensures, c .before .before .is-word2 .ensures, c .is-word3 .ensures)
 

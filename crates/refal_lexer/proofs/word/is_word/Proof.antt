@@ -4,15 +4,12 @@ use borrow.Author.Needs.{needs}
 use Rattle.refal_lexer.proofs.word.is_word.Statement.{statement}
 use Rattle.refal_lexer.proofs.word.is_word.Tie as tie
 
--- src/word.rt:116:9
 starts-requires : tie.Need-starts-requires
 starts-requires c κs = search needs
 
--- src/word.rt:116:9
 returns : tie.Need-returns
 returns c = rw (c .before .if1 .taken) (c .starts .ensures)
 
--- src/word.rt:110:1
 returns-2 : tie.Need-returns-2
 returns-2 c = rw (c .if1 .left)
 

@@ -1,22 +1,17 @@
+-- `refal_lexer::word::other` meets its contract.
 use Prim.Native.Nat.{ℕ, _+_}
 use mathlib.Core.Path.{ap}
 use Rattle.refal_lexer.specs.declared.Scan.the-variants.{Bad}
 use borrow.Author.Needs.{needs}
 use Rattle.refal_lexer.proofs.word.other.Statement.{statement}
 use Rattle.refal_lexer.proofs.word.other.Tie as tie
-use Rattle.refal_lexer.proofs.word.other.Reads as reads
-use Rattle.refal_lexer.proofs.word.other.Lts as lts
-use Rattle.refal_lexer.proofs.runs.name_end.Reads as name-end-reads
 
--- src/word.rt:43:9
 name-end-requires : tie.Need-name-end-requires
 name-end-requires c κs = search needs
 
--- src/word.rt:44:15
 add-end : tie.Need-add-end
 add-end c = search needs
 
--- src/word.rt:39:1
 returns : tie.Need-returns
 returns c = let a = c .before .before .before .args in ap (λ (n : ℕ). Bad 14 (a .at) (a .at + n)) (c .name-end .ensures .0)
 

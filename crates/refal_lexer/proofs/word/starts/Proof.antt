@@ -16,43 +16,33 @@ Inv-loop src at w i₀ j₀ i j = (i ≤ length src) × (j ≤ length w) × (pre
 abbrev μ-loop : tie.MeasureT-loop
 μ-loop src at w i₀ j₀ i j = length w - j
 
--- src/word.rt:96:5
 loop-holds : tie.Need-loop-holds Inv-loop μ-loop
 loop-holds c = (omega arith, omega arith, refl)
 
--- src/word.rt:98:13
 returns : tie.Need-returns Inv-loop μ-loop
 returns c = sym (prefix-short _ _ _ _ (c .before .loop-test .taken) (c .if1 .taken)) ∙ c .before .before .loop .inv .2
 
--- src/word.rt:100:12
 shared-slice-read-if2 : tie.Need-shared-slice-read-if2 Inv-loop μ-loop
 shared-slice-read-if2 c = search needs
 
--- src/word.rt:100:20
 shared-slice-read-if2-2 : tie.Need-shared-slice-read-if2-2 Inv-loop μ-loop
 shared-slice-read-if2-2 c = search needs
 
--- src/word.rt:101:13
 returns-2 : tie.Need-returns-2 Inv-loop μ-loop
 returns-2 c = sym (prefix-stop _ _ _ _ (c .before .before .before .before .loop-test .taken) (c .before .before .before .if1 .left) (ne-eqb _ _ (c .if2 .taken))) ∙ c .before .before .before .before .before .loop .inv .2
 
--- src/word.rt:103:9
 add-i : tie.Need-add-i Inv-loop μ-loop
 add-i c = search needs
 
--- src/word.rt:104:9
 add-j : tie.Need-add-j Inv-loop μ-loop
 add-j c = search needs
 
--- src/word.rt:96:5
 loop-less : tie.Need-loop-less Inv-loop μ-loop
 loop-less c = search needs
 
--- src/word.rt:96:5
 loop-again : tie.Need-loop-again Inv-loop μ-loop
 loop-again c = (omega arith, omega arith, prefix-step _ _ _ _ (c .before .before .before .before .loop-test .taken) (c .before .before .before .if1 .left) (eq-eqb _ _ (c .if2 .left)) ∙ c .before .before .before .before .before .loop .inv .2)
 
--- src/word.rt:90:1
 returns-3 : tie.Need-returns-3 Inv-loop μ-loop
 returns-3 c = sym (prefix-end _ (c .before .before .args .src .now) _ (c .before .loop .i) (c .loop-test .left)) ∙ c .before .loop .inv .2
 

@@ -1,5 +1,6 @@
+-- `refal_spelling::words::is_number_from` meets its contract.
 use mathlib.Core.Path.{refl, ap}
-use lib.ListN.{length, drop}
+use lib.ListN.{length}
 use Rattle.refal_lexer.specs.Numbers.{wholeScan}
 use Rattle.refal_lexer.specs.NumberLaws.{number-point, number-e, number-whole, number-real}
 use Rattle.refal_spelling.specs.Spells.{tokenTo}
@@ -7,8 +8,6 @@ use Rattle.refal_spelling.specs.WordLaws.{whole-same, real-same}
 use borrow.Author.Needs.{needs}
 use Rattle.refal_spelling.proofs.words.is_number_from.Statement.{statement}
 use Rattle.refal_spelling.proofs.words.is_number_from.Tie as tie
-use Rattle.refal_spelling.proofs.words.is_number_from.Reads as reads
-use Rattle.refal_spelling.proofs.words.is_number_from.Lts as lts
 
 whole-end-requires : tie.Need-whole-end-requires
 whole-end-requires c κs = search needs
