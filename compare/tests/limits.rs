@@ -97,12 +97,21 @@ fn number(digits: usize) -> (Vec<u32>, Vec<u8>) {
 /// Reading gives no number that is longer than a source may be, so 41 comes before 42.
 #[test]
 fn number_length() {
-    for (digits, refusal, need) in [(MAX_SOURCE, 42, MAX_SOURCE as u64 + 11), (MAX_SOURCE + 1, 41, 0)] {
+    for (digits, refusal, need) in [
+        (MAX_SOURCE, 42, MAX_SOURCE as u64 + 11),
+        (MAX_SOURCE + 1, 41, 0),
+    ] {
         let (tree, src) = number(digits);
         let answer = [refusal, 0, 0, 0, 0, 0, need];
         let mut out = [7; 3];
-        assert_eq!((Library.write(&tree, &src, &mut out), out), (answer, [0; 3]));
+        assert_eq!(
+            (Library.write(&tree, &src, &mut out), out),
+            (answer, [0; 3])
+        );
         let mut out = [7; 3];
-        assert_eq!((reference::write::write(&tree, &src, &mut out), out), (answer, [0; 3]));
+        assert_eq!(
+            (reference::write::write(&tree, &src, &mut out), out),
+            (answer, [0; 3])
+        );
     }
 }

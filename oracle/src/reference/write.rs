@@ -2,7 +2,9 @@
 
 use super::spelling::{is_identifier, is_index, is_number};
 use super::utf8::{encode, is_scalar};
-use crate::terms::{Answer, MAX_DEPTH, MAX_NODES, MAX_SOURCE, MAX_TEXT, NodeRow, Refusal, node, put_bytes};
+use crate::terms::{
+    Answer, MAX_DEPTH, MAX_NODES, MAX_SOURCE, MAX_TEXT, NodeRow, Refusal, node, put_bytes,
+};
 
 pub fn write(tree: &[u32], src: &[u8], out: &mut [u8]) -> Answer {
     let result = text(tree, src).and_then(|text| {
