@@ -1,9 +1,8 @@
 // Sentences hold blocks and blocks hold sentences.
 ghost use mathlib.Core.Path.{_≡_};
-ghost use Prim.Native.Nat.{_+_, _≤_};
 ghost use lib.ListN.{getD};
 ghost use Rattle.refal_ast.specs.Kinds.{tokComma, tokLBrace};
-ghost use Rattle.refal_parser.specs.Ready.{Ready};
+ghost use Rattle.refal_parser.specs.Ready.{Few, Ready};
 ghost use Rattle.refal_parser.specs.PostBlock.{BlockPost, CondPost, EndingPost, SentencePost};
 use crate::answers::Got;
 use crate::answers::present;
@@ -19,7 +18,7 @@ use refal_ast::kinds::token;
 
 // The condition whose comma is at `at`, up to a comma or `=`; its row is row n.
 fn condition(tokens: &[u32], rows: &mut [u32], at: usize, n: usize, left: usize) -> Got
-    requires { ⌜ Ready (now tokens) at × (n ≤ at + 2) × (getD (now tokens) at 0 ≡ tokComma) ⌝ }
+    requires { ⌜ Ready (now tokens) at × Few n at 2 × (getD (now tokens) at 0 ≡ tokComma) ⌝ }
     ensures { λ r. ⌜ CondPost (now (tokens .entry)) (now (rows .entry)) (now (rows .exit)) at n left r ⌝ }
 {
     let start = at + 6;
@@ -51,7 +50,7 @@ fn condition(tokens: &[u32], rows: &mut [u32], at: usize, n: usize, left: usize)
 
 // The end of a sentence from after its `=` on: terms, or a comma and an ending block; then `;`.
 fn ending(tokens: &[u32], rows: &mut [u32], at: usize, n: usize, left: usize) -> Got
-    requires { ⌜ Ready (now tokens) at × (n ≤ at) ⌝ }
+    requires { ⌜ Ready (now tokens) at × Few n at 0 ⌝ }
     ensures { λ r. ⌜ EndingPost (now (tokens .entry)) (now (rows .entry)) (now (rows .exit)) at n left r ⌝ }
 {
     if kind(tokens, at) != token::COMMA {
@@ -82,7 +81,7 @@ fn ending(tokens: &[u32], rows: &mut [u32], at: usize, n: usize, left: usize) ->
 
 // The sentence that begins at `at`; its row is row n.
 fn sentence(tokens: &[u32], rows: &mut [u32], at: usize, n: usize, left: usize) -> Got
-    requires { ⌜ Ready (now tokens) at × (n ≤ at) ⌝ }
+    requires { ⌜ Ready (now tokens) at × Few n at 0 ⌝ }
     ensures { λ r. ⌜ SentencePost (now (tokens .entry)) (now (rows .entry)) (now (rows .exit)) at n left r ⌝ }
 {
     let first = n + 1;
@@ -113,7 +112,7 @@ fn sentence(tokens: &[u32], rows: &mut [u32], at: usize, n: usize, left: usize) 
 
 // The sentences in the block whose `{` is at `at`, with its `}`, where `left` levels are left, this one's among them; their rows begin at row n.
 pub fn block(tokens: &[u32], rows: &mut [u32], at: usize, n: usize, left: usize) -> Got
-    requires { ⌜ Ready (now tokens) at × (n ≤ at + 4) × (getD (now tokens) at 0 ≡ tokLBrace) ⌝ }
+    requires { ⌜ Ready (now tokens) at × Few n at 4 × (getD (now tokens) at 0 ≡ tokLBrace) ⌝ }
     ensures { λ r. ⌜ BlockPost (now (tokens .entry)) (now (rows .entry)) (now (rows .exit)) at n left r ⌝ }
 {
     if left == 0 {

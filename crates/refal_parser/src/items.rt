@@ -1,9 +1,8 @@
 // Items: declarations and functions; and the program.
 ghost use mathlib.Core.Path.{_≡_};
-ghost use Prim.Native.Nat.{_+_, _≤_};
 ghost use lib.ListN.{getD};
 ghost use Rattle.refal_ast.specs.Kinds.{tokEof, tokExtern, tokIdentifier, tokSemicolon};
-ghost use Rattle.refal_parser.specs.Ready.{Ready};
+ghost use Rattle.refal_parser.specs.Ready.{Few, Ready};
 ghost use Rattle.refal_parser.specs.PostItems.{FunctionPost, ItemPost, NamePost, ProgramPost};
 use crate::answers::Got;
 use crate::answers::present;
@@ -26,7 +25,7 @@ const BODY: usize = LEVELS + 1;
 
 // A name of a declaration, at `at`; its row is row n.
 fn name(tokens: &[u32], rows: &mut [u32], at: usize, n: usize) -> Got
-    requires { ⌜ Ready (now tokens) at × (n ≤ at) ⌝ }
+    requires { ⌜ Ready (now tokens) at × Few n at 0 ⌝ }
     ensures { λ r. ⌜ NamePost (now (tokens .entry)) (now (rows .entry)) (now (rows .exit)) at n r ⌝ }
 {
     if kind(tokens, at) != token::IDENTIFIER {
@@ -42,7 +41,7 @@ fn name(tokens: &[u32], rows: &mut [u32], at: usize, n: usize) -> Got
 
 // The declaration whose Extern is at `at`; its row is row n.
 fn declaration(tokens: &[u32], rows: &mut [u32], at: usize, n: usize) -> Got
-    requires { ⌜ Ready (now tokens) at × (n ≤ at) × (getD (now tokens) at 0 ≡ tokExtern) ⌝ }
+    requires { ⌜ Ready (now tokens) at × Few n at 0 × (getD (now tokens) at 0 ≡ tokExtern) ⌝ }
     ensures { λ r. ⌜ ItemPost (now (tokens .entry)) (now (rows .entry)) (now (rows .exit)) at n r ⌝ }
 {
     let first = at + 6;
@@ -74,7 +73,7 @@ fn declaration(tokens: &[u32], rows: &mut [u32], at: usize, n: usize) -> Got
 
 // The function that begins at `at`, whose name is at `name`; its row is row n.
 fn function(tokens: &[u32], rows: &mut [u32], at: usize, name: usize, n: usize, entry: u32) -> Got
-    requires { ⌜ Ready (now tokens) at × Ready (now tokens) name × (n ≤ name) × (getD (now tokens) name 0 ≡ tokIdentifier) ⌝ }
+    requires { ⌜ Ready (now tokens) at × Ready (now tokens) name × Few n name 0 × (getD (now tokens) name 0 ≡ tokIdentifier) ⌝ }
     ensures { λ r. ⌜ FunctionPost (now (tokens .entry)) (now (rows .entry)) (now (rows .exit)) at name n entry r ⌝ }
 {
     let open = name + 6;
@@ -96,7 +95,7 @@ fn function(tokens: &[u32], rows: &mut [u32], at: usize, name: usize, n: usize, 
 
 // The item that begins at `at`; its row is row n.
 fn item(tokens: &[u32], rows: &mut [u32], at: usize, n: usize) -> Got
-    requires { ⌜ Ready (now tokens) at × (n ≤ at) × (getD (now tokens) at 0 ≡ tokEof → ⊥) × (getD (now tokens) at 0 ≡ tokSemicolon → ⊥) ⌝ }
+    requires { ⌜ Ready (now tokens) at × Few n at 0 × (getD (now tokens) at 0 ≡ tokEof → ⊥) × (getD (now tokens) at 0 ≡ tokSemicolon → ⊥) ⌝ }
     ensures { λ r. ⌜ ItemPost (now (tokens .entry)) (now (rows .entry)) (now (rows .exit)) at n r ⌝ }
 {
     let k = kind(tokens, at);

@@ -1,9 +1,9 @@
 // Terms, brackets and calls; and what follows terms.
 ghost use mathlib.Core.Path.{_≡_};
-ghost use Prim.Native.Nat.{_+_, _≤_};
+ghost use Prim.Native.Nat.{_≤_};
 ghost use Rattle.refal_ast.specs.declared.tree.Term.the-variants.{Bracket, Call};
 ghost use Rattle.refal_parser.specs.Machine.{termOf, variableOf};
-ghost use Rattle.refal_parser.specs.Ready.{Ready, termAt};
+ghost use Rattle.refal_parser.specs.Ready.{Few, Ready, termAt};
 ghost use Rattle.refal_parser.specs.PostTerms.{ClausePost, ClosesPost, FollowsPost, PatternPost, TermPost, TermsPost, UntilPost};
 use crate::answers::Got;
 use crate::answers::present;
@@ -93,7 +93,7 @@ fn closes(tokens: &[u32], at: usize, m: usize, want: u32) -> Got
 
 // Terms from `at` on, whose rows begin at row n, up to a token that begins none.
 fn terms(tokens: &[u32], rows: &mut [u32], at: usize, n: usize, left: usize) -> Got
-    requires { ⌜ Ready (now tokens) at × (n ≤ at + 2) ⌝ }
+    requires { ⌜ Ready (now tokens) at × Few n at 2 ⌝ }
     ensures { λ r. ⌜ TermsPost (now (tokens .entry)) (now (rows .entry)) (now (rows .exit)) at n left r ⌝ }
 {
     let mut i = at;
@@ -144,7 +144,7 @@ fn terms(tokens: &[u32], rows: &mut [u32], at: usize, n: usize, left: usize) -> 
 
 // Terms and the kind that closes them.
 fn until(tokens: &[u32], rows: &mut [u32], at: usize, n: usize, left: usize, want: u32) -> Got
-    requires { ⌜ Ready (now tokens) at × (n ≤ at + 2) × (want ≤ 16) ⌝ }
+    requires { ⌜ Ready (now tokens) at × Few n at 2 × (want ≤ 16) ⌝ }
     ensures { λ r. ⌜ UntilPost (now (tokens .entry)) (now (rows .entry)) (now (rows .exit)) at n left want r ⌝ }
 {
     let r = terms(tokens, rows, at, n, left);
@@ -156,7 +156,7 @@ fn until(tokens: &[u32], rows: &mut [u32], at: usize, n: usize, left: usize, wan
 
 // The bracket that opens at `at`; its row is row n.
 fn bracket(tokens: &[u32], rows: &mut [u32], at: usize, n: usize, left: usize) -> Got
-    requires { ⌜ Ready (now tokens) at × (n ≤ at + 2) × (termAt (now tokens) at ≡ Bracket) ⌝ }
+    requires { ⌜ Ready (now tokens) at × Few n at 2 × (termAt (now tokens) at ≡ Bracket) ⌝ }
     ensures { λ r. ⌜ TermPost (now (tokens .entry)) (now (rows .entry)) (now (rows .exit)) at n left r ⌝ }
 {
     if left == 0 {
@@ -176,7 +176,7 @@ fn bracket(tokens: &[u32], rows: &mut [u32], at: usize, n: usize, left: usize) -
 
 // The call that opens at `at`; its row is row n.
 fn call(tokens: &[u32], rows: &mut [u32], at: usize, n: usize, left: usize) -> Got
-    requires { ⌜ Ready (now tokens) at × (n ≤ at + 2) × (termAt (now tokens) at ≡ Call) ⌝ }
+    requires { ⌜ Ready (now tokens) at × Few n at 2 × (termAt (now tokens) at ≡ Call) ⌝ }
     ensures { λ r. ⌜ TermPost (now (tokens .entry)) (now (rows .entry)) (now (rows .exit)) at n left r ⌝ }
 {
     if left == 0 {
@@ -202,7 +202,7 @@ fn call(tokens: &[u32], rows: &mut [u32], at: usize, n: usize, left: usize) -> G
 
 // A Terms row, row n, its terms and the kind that closes them.
 pub fn clause(tokens: &[u32], rows: &mut [u32], at: usize, n: usize, left: usize, want: u32) -> Got
-    requires { ⌜ Ready (now tokens) at × (n ≤ at + 1) × (want ≤ 16) ⌝ }
+    requires { ⌜ Ready (now tokens) at × Few n at 1 × (want ≤ 16) ⌝ }
     ensures { λ r. ⌜ ClausePost (now (tokens .entry)) (now (rows .entry)) (now (rows .exit)) at n left want r ⌝ }
 {
     let first = n + 1;
@@ -238,7 +238,7 @@ pub fn follows(tokens: &[u32], at: usize, m: usize, terms: bool) -> Got
 
 // A pattern: a Terms row, row n, and its terms, up to a comma or `=`.
 pub fn pattern(tokens: &[u32], rows: &mut [u32], at: usize, n: usize, left: usize) -> Got
-    requires { ⌜ Ready (now tokens) at × (n ≤ at + 1) ⌝ }
+    requires { ⌜ Ready (now tokens) at × Few n at 1 ⌝ }
     ensures { λ r. ⌜ PatternPost (now (tokens .entry)) (now (rows .entry)) (now (rows .exit)) at n left r ⌝ }
 {
     let first = n + 1;
