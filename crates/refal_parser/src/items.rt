@@ -8,6 +8,7 @@ use crate::answers::Got;
 use crate::answers::present;
 use crate::answers::taken;
 use crate::block::block;
+use crate::cursor::Cursor;
 use crate::nodes::put_node;
 use crate::nodes::put_span;
 use crate::tokens::end_before;
@@ -81,7 +82,12 @@ fn function(tokens: &[u32], rows: &mut [u32], at: usize, name: usize, n: usize, 
         return present(tokens, open, 35, token::LBRACE);
     }
     let first = n + 1;
-    let r = block(tokens, rows, open, first, BODY);
+    let body = Cursor {
+        at: open,
+        row: first,
+        left: BODY,
+    };
+    let r = block(tokens, rows, body);
     let Got::At(j, m) = r else {
         return r;
     };
