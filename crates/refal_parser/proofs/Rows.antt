@@ -186,3 +186,8 @@ terms-ending f n B r = r
 pub size-terms-ending : (f : Terms) (n : ℕ) {m : ℕ} → m ≡ n + 1 + sizeT f → m ≡ n + sizeEnd (eTerms f)
 unfolding sizeC
 size-terms-ending f n c = omega arith
+
+-- ---- a function: its sentences, then its row
+pub whole-function : (n m x : ℕ) (B : List ℕ) {start s len l from a to e : ℕ} {B₁ B₂ : List ℕ} (v : Sentences) → B₁ ≡ wS v (n + 1) B → start ≡ s → len ≡ l → from ≡ a → to ≡ e →
+    B₂ ≡ putNode B₁ n (node nodeFunction x start len from to m) → B₂ ≡ putNode (wS v (n + 1) B) n (node nodeFunction x s l a e m)
+whole-function n m x B v r e₁ e₂ e₃ e₄ put = cc

@@ -1,13 +1,13 @@
 -- Terms with one term more, whose rows are put behind theirs.
 use mathlib.Core.Path.{_≡_, refl, sym, ap, _∙_}
-use Prim.Native.Nat.{ℕ, _+_, _≤_}
+use Prim.Native.Nat.{ℕ, _+_}
 use mathlib.Core.List.{List}
 use native.Mathlib.Omega.{arith}
 use lib.ListN.{length, getD}
 use Rattle.refal_ast.specs.Tree.{Leaf, symbol, variable, leaf, Terms, tMore, Program, sizeTerm}
 use Rattle.refal_ast.specs.Encode.{leafRow}
 use Rattle.refal_parser.specs.Machine.{Place, within, inTerms, firstStart}
-use Rattle.refal_parser.specs.Ready.{tok, termAt, afterFrom, afterTo, Ready}
+use Rattle.refal_parser.specs.Ready.{tok, termAt, afterFrom, afterTo, Few, Ready}
 use Rattle.refal_ast.specs.declared.tree.Term.{Term}
 use Rattle.refal_ast.specs.declared.tree.Term.the-variants.{Symbol as theSymbol, Variable}
 use Rattle.refal_parser.specs.Writers.{putNode, wTerm}
@@ -67,7 +67,7 @@ leaf-size : (x : Leaf) (a b m : ℕ) → m + 1 ≡ m + sizeTerm (leaf x a b)
 unfolding sizeTerm
 leaf-size x a b m = refl
 
-pub leaf-got : {w B B' : List ℕ} {i m left a b : ℕ} (x : Leaf) → Ready w i → m ≤ i + 2 → termAt w i ≡ leafTerm x → a ≡ getD w (i + 4) 0 → b ≡ getD w (i + 5) 0 →
+pub leaf-got : {w B B' : List ℕ} {i m left a b : ℕ} (x : Leaf) → Ready w i → Few m i 2 → termAt w i ≡ leafTerm x → a ≡ getD w (i + 4) 0 → b ≡ getD w (i + 5) 0 →
     B' ≡ putNode B m (leafRow x a b (m + 1)) → TermGot w B B' i m left (i + 6) (m + 1)
 leaf-got {w} {B} {B'} {i} {m} {left} {a} {b} x r few e ea eb put = record {
   x = leaf x a b;

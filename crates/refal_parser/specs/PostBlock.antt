@@ -6,7 +6,7 @@ use mathlib.Core.List.{List}
 use lib.ListN.{length, getD}
 use Rattle.refal_ast.specs.Tree.{Terms, t0, Condition, Conditions, c0, End, Sentence, Sentences, s0, sMore, Program, sizeCondition, sizeC, sizeEnd, sizeSentence, sizeS}
 use Rattle.refal_parser.specs.Machine.{Begun, Block, pattern, within, between, conditioned, equated, Outcome, refuse, opens, begun, withCondition, finished, leave}
-use Rattle.refal_parser.specs.Ready.{tok, endBefore, Ready}
+use Rattle.refal_parser.specs.Ready.{tok, endBefore, Few, Ready}
 use Rattle.refal_parser.specs.Writers.{wCondition, wC, wEnd, wSentence, wS}
 use Rattle.refal_parser.specs.Post.{Cases, runs, Same, Refuses, leads, after, Joint}
 use Rattle.refal_parser.specs.declared.answers.Got.{Got}
@@ -19,7 +19,7 @@ pub record CondAt (w B B' : List ℕ) (at n left j m : ℕ) : Type 0 where
   pub x : Condition
   pub ready : Ready w j
   pub on : at < j
-  pub few : m ≤ j + 2
+  pub few : Few m j 2
   pub rows : B' ≡ wCondition x n B
   pub count : m ≡ n + sizeCondition x
   pub joint : Joint w j
@@ -34,7 +34,7 @@ pub record EndingAt (w B B' : List ℕ) (at n left j m : ℕ) : Type 0 where
   pub e : ℕ
   pub ready : Ready w j
   pub on : at < j
-  pub few : m ≤ j
+  pub few : Few m j 0
   pub rows : B' ≡ wEnd x n B
   pub count : m ≡ n + sizeEnd x
   pub last : e ≡ endBefore w j
@@ -50,7 +50,7 @@ pub record SentenceAt (w B B' : List ℕ) (at n left j m : ℕ) : Type 0 where
   pub x : Sentence
   pub ready : Ready w j
   pub on : at < j
-  pub few : m ≤ j
+  pub few : Few m j 0
   pub rows : B' ≡ wSentence x n B
   pub count : m ≡ n + sizeSentence x
   pub means : (b : Block) (s : Sentences) → Same w at (within left (pattern b s (getD w (at + 4) 0)) t0) j (between left b (sMore s x))
@@ -66,7 +66,7 @@ pub record CondsInv (w B B' : List ℕ) (j m left i k : ℕ) : Type 0 where
   pub ready : Ready w i
   pub joint : Joint w i
   pub on : j ≤ i
-  pub few : k ≤ i + 2
+  pub few : Few k i 2
   pub same : length B' ≡ length B
   pub rows : B' ≡ wC cs m B
   pub count : k ≡ m + sizeC cs
@@ -82,7 +82,7 @@ pub record BlockAt (w B B' : List ℕ) (at n left j m : ℕ) : Type 0 where
   pub some : left ≡ 0 → ⊥
   pub ready : Ready w j
   pub on : at < j
-  pub few : m ≤ j
+  pub few : Few m j 0
   pub rows : B' ≡ wS v n B
   pub count : m ≡ n + sizeS v
   pub last : e ≡ endBefore w j
@@ -96,7 +96,7 @@ pub record BlockInv (w B B' : List ℕ) (at n left i m : ℕ) : Type 0 where
   pub v : Sentences
   pub ready : Ready w i
   pub on : at < i
-  pub few : m ≤ i
+  pub few : Few m i 0
   pub same : length B' ≡ length B
   pub rows : B' ≡ wS v n B
   pub count : m ≡ n + sizeS v

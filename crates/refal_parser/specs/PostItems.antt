@@ -8,7 +8,7 @@ use Rattle.refal_ast.specs.Kinds.{nodeFunction}
 use Rattle.refal_ast.specs.Nodes.{node}
 use Rattle.refal_ast.specs.Tree.{Sentences, Names, nOne, nMore, Item, Program, p0, pMore, sizeS, sizeN, sizeItem, sizeP}
 use Rattle.refal_parser.specs.Machine.{Heading, functionOf, outside, wantsName, wantsMore, named, headed, tree, refuse}
-use Rattle.refal_parser.specs.Ready.{Ready}
+use Rattle.refal_parser.specs.Ready.{Few, Ready}
 use Rattle.refal_parser.specs.Writers.{putNode, nameRow, wItem, wN, wS, wP}
 use Rattle.refal_parser.specs.Post.{Cases, runs, Same, Refuses}
 use Rattle.refal_parser.specs.declared.answers.Got.{Got}
@@ -34,7 +34,7 @@ pub record NamesInv (w B₁ B' : List ℕ) (at n i k : ℕ) : Type 0 where
   pub ns : Names
   pub ready : Ready w i
   pub on : at < i
-  pub few : k ≤ i
+  pub few : Few k i 0
   pub same : length B' ≡ length B₁
   pub rows : (B : List ℕ) → B₁ ≡ putNode B (n + 1) (nameRow (getD w (at + 6 + 2) 0) (getD w (at + 6 + 3) 0) (n + 1 + 1)) → B' ≡ wN ns (n + 1) B
   pub count : k ≡ n + 1 + sizeN ns
@@ -49,7 +49,7 @@ pub record FunctionAt (w B B' : List ℕ) (at name n entry j m : ℕ) : Type 0 w
   pub e : ℕ
   pub ready : Ready w j
   pub on : name < j
-  pub few : m ≤ j
+  pub few : Few m j 0
   pub rows : B' ≡ putNode (wS v (n + 1) B) n (node nodeFunction entry (getD w (name + 2) 0) (getD w (name + 3) 0) (getD w (at + 4) 0) e m)
   pub count : m ≡ n + 1 + sizeS v
   pub means : (x : Bool) (p : Program) →
@@ -64,7 +64,7 @@ pub record ItemAt (w B B' : List ℕ) (at n j m : ℕ) : Type 0 where
   pub x : Item
   pub ready : Ready w j
   pub on : at < j
-  pub few : m ≤ j
+  pub few : Few m j 0
   pub rows : B' ≡ wItem x n B
   pub count : m ≡ n + sizeItem x
   pub means : (p : Program) → runs w at p outside ≡ runs w j (pMore p x) outside
@@ -87,7 +87,7 @@ ProgramPost w B B' r = Cases r (ProgramAt w B B') (λ a b c d e. runs w 0 p0 out
 pub record ProgramInv (w B B' : List ℕ) (i m : ℕ) : Type 0 where
   pub t : Program
   pub ready : Ready w i
-  pub few : m ≤ i
+  pub few : Few m i 0
   pub same : length B' ≡ length B
   pub rows : B' ≡ wP t 0 B
   pub count : m ≡ sizeP t

@@ -8,7 +8,7 @@ use Rattle.refal_ast.specs.Tokens.{Token}
 use Rattle.refal_ast.specs.Tree.{Term, Terms, t0, tMore, Program, sizeTerm, sizeT}
 use Rattle.refal_ast.specs.declared.tree.Term.the-variants.{NoTerm}
 use Rattle.refal_parser.specs.Machine.{Begun, Block, Place, State, within, conditioned, Outcome, refuse, closing, only, startTerm, endTerm, firstStart, lastEnd, afterTerms, endOf}
-use Rattle.refal_parser.specs.Ready.{tok, termAt, afterFrom, afterTo, endBefore, Ready}
+use Rattle.refal_parser.specs.Ready.{tok, termAt, afterFrom, afterTo, endBefore, Few, Ready}
 use Rattle.refal_parser.specs.Writers.{wTerm, wT, wTerms}
 use Rattle.refal_parser.specs.Post.{Cases, runs, Same, Refuses, after, Joint}
 use Rattle.refal_parser.specs.declared.answers.Got.{Got}
@@ -19,7 +19,7 @@ pub record TermsAt (w B B' : List ℕ) (at n left j m : ℕ) : Type 0 where
   pub ready : Ready w j
   pub none : termAt w j ≡ NoTerm
   pub on : at ≤ j
-  pub few : m ≤ j + 2
+  pub few : Few m j 2
   pub rows : B' ≡ wT g n B
   pub count : m ≡ n + sizeT g
   pub first : firstStart g (getD w (j + 4) 0) ≡ getD w (at + 4) 0
@@ -38,7 +38,7 @@ pub record TermsInv (w B B' : List ℕ) (at n left i m : ℕ) : Type 0 where
   pub g : Terms
   pub ready : Ready w i
   pub on : at ≤ i
-  pub few : m ≤ i + 2
+  pub few : Few m i 2
   pub same : length B' ≡ length B
   pub rows : B' ≡ wT g n B
   pub count : m ≡ n + sizeT g
@@ -80,7 +80,7 @@ ClosedNo w at left want a b c d e =
 pub record UntilAt (w B B' : List ℕ) (at n left want j m : ℕ) : Type 0 where
   pub g : Terms
   pub closed : Closed w at left want g j
-  pub few : m ≤ j
+  pub few : Few m j 0
   pub rows : B' ≡ wT g n B
   pub count : m ≡ n + sizeT g
 
@@ -91,7 +91,7 @@ UntilPost w B B' at n left want r = Cases r (UntilAt w B B' at n left want) (Clo
 pub record ClauseAt (w B B' : List ℕ) (at n left want j m : ℕ) : Type 0 where
   pub g : Terms
   pub closed : Closed w at left want g j
-  pub few : m ≤ j
+  pub few : Few m j 0
   pub rows : B' ≡ wTerms g n B
   pub count : m ≡ n + 1 + sizeT g
 
@@ -103,7 +103,7 @@ pub record TermGot (w B B' : List ℕ) (at n left j m : ℕ) : Type 0 where
   pub x : Term
   pub ready : Ready w j
   pub on : at < j
-  pub few : m ≤ j
+  pub few : Few m j 0
   pub rows : B' ≡ wTerm x n B
   pub count : m ≡ n + sizeTerm x
   pub first : startTerm x ≡ getD w (at + 4) 0
@@ -138,7 +138,7 @@ pub record PatternAt (w B B' : List ℕ) (at n left j m : ℕ) : Type 0 where
   pub g : Terms
   pub ready : Ready w j
   pub on : at ≤ j
-  pub few : m ≤ j + 2
+  pub few : Few m j 2
   pub rows : B' ≡ wTerms g n B
   pub count : m ≡ n + 1 + sizeT g
   pub last : lastEnd g (endBefore w at) ≡ endBefore w j

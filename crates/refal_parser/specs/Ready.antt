@@ -37,3 +37,8 @@ pub record Ready (w : List ℕ) (at : ℕ) : Type 0 where
   pub toks : okTokens (rest w at) ≡ true
   pub room : at + 5 < length w
   pub short : length w ≤ 100663302
+
+-- The next row is `row` and the next token stands at word `at`: no more rows are put than words of tokens stand before it, and `more` more. With Ready
+-- it bounds every row, so that sums and casts of rows are safe.
+abbrev pub Few : ℕ → ℕ → ℕ → Type 0
+Few row at more = row ≤ at + more

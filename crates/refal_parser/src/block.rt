@@ -1,12 +1,12 @@
 // Sentences hold blocks and blocks hold sentences.
 ghost use mathlib.Core.Path.{_≡_};
-ghost use Prim.Native.Nat.{_+_, _≤_};
 ghost use lib.ListN.{getD};
 ghost use Rattle.refal_ast.specs.Kinds.{tokComma, tokLBrace};
-ghost use Rattle.refal_parser.specs.Ready.{Ready};
+ghost use Rattle.refal_parser.specs.Ready.{Few, Ready};
 ghost use Rattle.refal_parser.specs.PostBlock.{BlockPost, CondPost, EndingPost, SentencePost};
 use crate::answers::Got;
 use crate::answers::present;
+use crate::cursor::Cursor;
 use crate::nodes::put_span;
 use crate::terms::clause;
 use crate::terms::follows;
@@ -17,21 +17,29 @@ use crate::tokens::span_from;
 use refal_ast::kinds::node;
 use refal_ast::kinds::token;
 
-// The condition whose comma is at `at`, up to a comma or `=`; its row is row n.
-fn condition(tokens: &[u32], rows: &mut [u32], at: usize, n: usize, left: usize) -> Got
-    requires { ⌜ Ready (now tokens) at × (n ≤ at + 2) × (getD (now tokens) at 0 ≡ tokComma) ⌝ }
-    ensures { λ r. ⌜ CondPost (now (tokens .entry)) (now (rows .entry)) (now (rows .exit)) at n left r ⌝ }
+// The condition whose comma is at the cursor, up to a comma or `=`; its row is the next one.
+fn condition(tokens: &[u32], rows: &mut [u32], cursor: Cursor) -> Got
+    requires { ⌜ Ready (now tokens) (cursor .at) × Few (cursor .row) (cursor .at) 2 × (getD (now tokens) (cursor .at) 0 ≡ tokComma) ⌝ }
+    ensures { λ r. ⌜ CondPost (now (tokens .entry)) (now (rows .entry)) (now (rows .exit)) (cursor .at) (cursor .row) (cursor .left) r ⌝ }
 {
+    let at = cursor.at;
+    let n = cursor.row;
+    let left = cursor.left;
     let start = at + 6;
     let from = span_from(tokens, start);
     let first = n + 1;
-    let r = clause(tokens, rows, start, first, left, token::COLON);
+    let argument = Cursor {
+        at: start,
+        row: first,
+        left,
+    };
+    let r = clause(tokens, rows, argument, token::COLON);
     let Got::At(j, m) = r else {
         return r;
     };
     if kind(tokens, j) == token::LBRACE {
         let row = m + 1;
-        let r2 = block(tokens, rows, j, row, left);
+        let r2 = block(tokens, rows, Cursor { at: j, row, left });
         let Got::At(i, m2) = r2 else {
             return r2;
         };
@@ -40,7 +48,12 @@ fn condition(tokens: &[u32], rows: &mut [u32], at: usize, n: usize, left: usize)
         put_span(rows, n, node::CONDITION, from, to, m2);
         return follows(tokens, i, m2, false);
     }
-    let r3 = pattern(tokens, rows, j, m, left);
+    let right = Cursor {
+        at: j,
+        row: m,
+        left,
+    };
+    let r3 = pattern(tokens, rows, right);
     let Got::At(i, m2) = r3 else {
         return r3;
     };
@@ -50,24 +63,37 @@ fn condition(tokens: &[u32], rows: &mut [u32], at: usize, n: usize, left: usize)
 }
 
 // The end of a sentence from after its `=` on: terms, or a comma and an ending block; then `;`.
-fn ending(tokens: &[u32], rows: &mut [u32], at: usize, n: usize, left: usize) -> Got
-    requires { ⌜ Ready (now tokens) at × (n ≤ at) ⌝ }
-    ensures { λ r. ⌜ EndingPost (now (tokens .entry)) (now (rows .entry)) (now (rows .exit)) at n left r ⌝ }
+fn ending(tokens: &[u32], rows: &mut [u32], cursor: Cursor) -> Got
+    requires { ⌜ Ready (now tokens) (cursor .at) × Few (cursor .row) (cursor .at) 0 ⌝ }
+    ensures { λ r. ⌜ EndingPost (now (tokens .entry)) (now (rows .entry)) (now (rows .exit)) (cursor .at) (cursor .row) (cursor .left) r ⌝ }
 {
+    let at = cursor.at;
+    let n = cursor.row;
+    let left = cursor.left;
     if kind(tokens, at) != token::COMMA {
-        return clause(tokens, rows, at, n, left, token::SEMICOLON);
+        return clause(tokens, rows, cursor, token::SEMICOLON);
     }
     let start = at + 6;
     let from = span_from(tokens, start);
     let first = n + 1;
-    let r = clause(tokens, rows, start, first, left, token::COLON);
+    let argument = Cursor {
+        at: start,
+        row: first,
+        left,
+    };
+    let r = clause(tokens, rows, argument, token::COLON);
     let Got::At(j, m) = r else {
         return r;
     };
     if kind(tokens, j) != token::LBRACE {
         return present(tokens, j, 35, token::LBRACE);
     }
-    let r2 = block(tokens, rows, j, m, left);
+    let inside = Cursor {
+        at: j,
+        row: m,
+        left,
+    };
+    let r2 = block(tokens, rows, inside);
     let Got::At(i, m2) = r2 else {
         return r2;
     };
@@ -80,20 +106,28 @@ fn ending(tokens: &[u32], rows: &mut [u32], at: usize, n: usize, left: usize) ->
     Got::At(next, m2)
 }
 
-// The sentence that begins at `at`; its row is row n.
-fn sentence(tokens: &[u32], rows: &mut [u32], at: usize, n: usize, left: usize) -> Got
-    requires { ⌜ Ready (now tokens) at × (n ≤ at) ⌝ }
-    ensures { λ r. ⌜ SentencePost (now (tokens .entry)) (now (rows .entry)) (now (rows .exit)) at n left r ⌝ }
+// The sentence that begins at the cursor; its row is the next one.
+fn sentence(tokens: &[u32], rows: &mut [u32], cursor: Cursor) -> Got
+    requires { ⌜ Ready (now tokens) (cursor .at) × Few (cursor .row) (cursor .at) 0 ⌝ }
+    ensures { λ r. ⌜ SentencePost (now (tokens .entry)) (now (rows .entry)) (now (rows .exit)) (cursor .at) (cursor .row) (cursor .left) r ⌝ }
 {
-    let first = n + 1;
-    let r = pattern(tokens, rows, at, first, left);
+    let at = cursor.at;
+    let n = cursor.row;
+    let left = cursor.left;
+    let row = n + 1;
+    let r = pattern(tokens, rows, Cursor { at, row, left });
     let Got::At(j, m) = r else {
         return r;
     };
     let mut i = j;
     let mut k = m;
     while kind(tokens, i) == token::COMMA {
-        let r2 = condition(tokens, rows, i, k, left);
+        let here = Cursor {
+            at: i,
+            row: k,
+            left,
+        };
+        let r2 = condition(tokens, rows, here);
         let Got::At(j2, m2) = r2 else {
             return r2;
         };
@@ -101,7 +135,12 @@ fn sentence(tokens: &[u32], rows: &mut [u32], at: usize, n: usize, left: usize) 
         k = m2;
     }
     let after = i + 6;
-    let r3 = ending(tokens, rows, after, k, left);
+    let end = Cursor {
+        at: after,
+        row: k,
+        left,
+    };
+    let r3 = ending(tokens, rows, end);
     let Got::At(next, m3) = r3 else {
         return r3;
     };
@@ -111,11 +150,14 @@ fn sentence(tokens: &[u32], rows: &mut [u32], at: usize, n: usize, left: usize) 
     Got::At(next, m3)
 }
 
-// The sentences in the block whose `{` is at `at`, with its `}`, where `left` levels are left, this one's among them; their rows begin at row n.
-pub fn block(tokens: &[u32], rows: &mut [u32], at: usize, n: usize, left: usize) -> Got
-    requires { ⌜ Ready (now tokens) at × (n ≤ at + 4) × (getD (now tokens) at 0 ≡ tokLBrace) ⌝ }
-    ensures { λ r. ⌜ BlockPost (now (tokens .entry)) (now (rows .entry)) (now (rows .exit)) at n left r ⌝ }
+// The sentences in the block whose `{` is at the cursor, with its `}`; this block's level is among those left.
+pub fn block(tokens: &[u32], rows: &mut [u32], cursor: Cursor) -> Got
+    requires { ⌜ Ready (now tokens) (cursor .at) × Few (cursor .row) (cursor .at) 4 × (getD (now tokens) (cursor .at) 0 ≡ tokLBrace) ⌝ }
+    ensures { λ r. ⌜ BlockPost (now (tokens .entry)) (now (rows .entry)) (now (rows .exit)) (cursor .at) (cursor .row) (cursor .left) r ⌝ }
 {
+    let at = cursor.at;
+    let n = cursor.row;
+    let left = cursor.left;
     if left == 0 {
         return present(tokens, at, 37, 0);
     }
@@ -126,7 +168,12 @@ pub fn block(tokens: &[u32], rows: &mut [u32], at: usize, n: usize, left: usize)
         if kind(tokens, i) == token::EOF {
             return present(tokens, i, 35, token::RBRACE);
         }
-        let r = sentence(tokens, rows, i, m, under);
+        let here = Cursor {
+            at: i,
+            row: m,
+            left: under,
+        };
+        let r = sentence(tokens, rows, here);
         let Got::At(j, m2) = r else {
             return r;
         };

@@ -1,14 +1,14 @@
 // Items: declarations and functions; and the program.
 ghost use mathlib.Core.Path.{_≡_};
-ghost use Prim.Native.Nat.{_+_, _≤_};
 ghost use lib.ListN.{getD};
 ghost use Rattle.refal_ast.specs.Kinds.{tokEof, tokExtern, tokIdentifier, tokSemicolon};
-ghost use Rattle.refal_parser.specs.Ready.{Ready};
+ghost use Rattle.refal_parser.specs.Ready.{Few, Ready};
 ghost use Rattle.refal_parser.specs.PostItems.{FunctionPost, ItemPost, NamePost, ProgramPost};
 use crate::answers::Got;
 use crate::answers::present;
 use crate::answers::taken;
 use crate::block::block;
+use crate::cursor::Cursor;
 use crate::nodes::put_node;
 use crate::nodes::put_span;
 use crate::tokens::end_before;
@@ -26,7 +26,7 @@ const BODY: usize = LEVELS + 1;
 
 // A name of a declaration, at `at`; its row is row n.
 fn name(tokens: &[u32], rows: &mut [u32], at: usize, n: usize) -> Got
-    requires { ⌜ Ready (now tokens) at × (n ≤ at) ⌝ }
+    requires { ⌜ Ready (now tokens) at × Few n at 0 ⌝ }
     ensures { λ r. ⌜ NamePost (now (tokens .entry)) (now (rows .entry)) (now (rows .exit)) at n r ⌝ }
 {
     if kind(tokens, at) != token::IDENTIFIER {
@@ -42,7 +42,7 @@ fn name(tokens: &[u32], rows: &mut [u32], at: usize, n: usize) -> Got
 
 // The declaration whose Extern is at `at`; its row is row n.
 fn declaration(tokens: &[u32], rows: &mut [u32], at: usize, n: usize) -> Got
-    requires { ⌜ Ready (now tokens) at × (n ≤ at) × (getD (now tokens) at 0 ≡ tokExtern) ⌝ }
+    requires { ⌜ Ready (now tokens) at × Few n at 0 × (getD (now tokens) at 0 ≡ tokExtern) ⌝ }
     ensures { λ r. ⌜ ItemPost (now (tokens .entry)) (now (rows .entry)) (now (rows .exit)) at n r ⌝ }
 {
     let first = at + 6;
@@ -74,7 +74,7 @@ fn declaration(tokens: &[u32], rows: &mut [u32], at: usize, n: usize) -> Got
 
 // The function that begins at `at`, whose name is at `name`; its row is row n.
 fn function(tokens: &[u32], rows: &mut [u32], at: usize, name: usize, n: usize, entry: u32) -> Got
-    requires { ⌜ Ready (now tokens) at × Ready (now tokens) name × (n ≤ name) × (getD (now tokens) name 0 ≡ tokIdentifier) ⌝ }
+    requires { ⌜ Ready (now tokens) at × Ready (now tokens) name × Few n name 0 × (getD (now tokens) name 0 ≡ tokIdentifier) ⌝ }
     ensures { λ r. ⌜ FunctionPost (now (tokens .entry)) (now (rows .entry)) (now (rows .exit)) at name n entry r ⌝ }
 {
     let open = name + 6;
@@ -82,7 +82,12 @@ fn function(tokens: &[u32], rows: &mut [u32], at: usize, name: usize, n: usize, 
         return present(tokens, open, 35, token::LBRACE);
     }
     let first = n + 1;
-    let r = block(tokens, rows, open, first, BODY);
+    let body = Cursor {
+        at: open,
+        row: first,
+        left: BODY,
+    };
+    let r = block(tokens, rows, body);
     let Got::At(j, m) = r else {
         return r;
     };
@@ -96,7 +101,7 @@ fn function(tokens: &[u32], rows: &mut [u32], at: usize, name: usize, n: usize, 
 
 // The item that begins at `at`; its row is row n.
 fn item(tokens: &[u32], rows: &mut [u32], at: usize, n: usize) -> Got
-    requires { ⌜ Ready (now tokens) at × (n ≤ at) × (getD (now tokens) at 0 ≡ tokEof → ⊥) × (getD (now tokens) at 0 ≡ tokSemicolon → ⊥) ⌝ }
+    requires { ⌜ Ready (now tokens) at × Few n at 0 × (getD (now tokens) at 0 ≡ tokEof → ⊥) × (getD (now tokens) at 0 ≡ tokSemicolon → ⊥) ⌝ }
     ensures { λ r. ⌜ ItemPost (now (tokens .entry)) (now (rows .entry)) (now (rows .exit)) at n r ⌝ }
 {
     let k = kind(tokens, at);

@@ -7,6 +7,7 @@ ghost use Rattle.refal_parser.specs.Parse.{parseAnswer, parseRows};
 mod answers;
 mod block;
 mod check;
+mod cursor;
 mod items;
 mod nodes;
 mod terms;

@@ -1,13 +1,14 @@
 // Terms, brackets and calls; and what follows terms.
 ghost use mathlib.Core.Path.{_≡_};
-ghost use Prim.Native.Nat.{_+_, _≤_};
+ghost use Prim.Native.Nat.{_≤_};
 ghost use Rattle.refal_ast.specs.declared.tree.Term.the-variants.{Bracket, Call};
 ghost use Rattle.refal_parser.specs.Machine.{termOf, variableOf};
-ghost use Rattle.refal_parser.specs.Ready.{Ready, termAt};
+ghost use Rattle.refal_parser.specs.Ready.{Few, Ready, termAt};
 ghost use Rattle.refal_parser.specs.PostTerms.{ClausePost, ClosesPost, FollowsPost, PatternPost, TermPost, TermsPost, UntilPost};
 use crate::answers::Got;
 use crate::answers::present;
 use crate::answers::taken;
+use crate::cursor::Cursor;
 use crate::nodes::put_node;
 use crate::nodes::put_span;
 use crate::nodes::put_symbol;
@@ -91,14 +92,22 @@ fn closes(tokens: &[u32], at: usize, m: usize, want: u32) -> Got
     taken(tokens, at, 34, 0)
 }
 
-// Terms from `at` on, whose rows begin at row n, up to a token that begins none.
-fn terms(tokens: &[u32], rows: &mut [u32], at: usize, n: usize, left: usize) -> Got
-    requires { ⌜ Ready (now tokens) at × (n ≤ at + 2) ⌝ }
-    ensures { λ r. ⌜ TermsPost (now (tokens .entry)) (now (rows .entry)) (now (rows .exit)) at n left r ⌝ }
+// Terms from the cursor on, up to a token that begins none.
+fn terms(tokens: &[u32], rows: &mut [u32], cursor: Cursor) -> Got
+    requires { ⌜ Ready (now tokens) (cursor .at) × Few (cursor .row) (cursor .at) 2 ⌝ }
+    ensures { λ r. ⌜ TermsPost (now (tokens .entry)) (now (rows .entry)) (now (rows .exit)) (cursor .at) (cursor .row) (cursor .left) r ⌝ }
 {
+    let at = cursor.at;
+    let n = cursor.row;
+    let left = cursor.left;
     let mut i = at;
     let mut m = n;
     loop {
+        let here = Cursor {
+            at: i,
+            row: m,
+            left,
+        };
         let t = term_at(tokens, i);
         match t {
             Term::Symbol(s) => {
@@ -116,7 +125,7 @@ fn terms(tokens: &[u32], rows: &mut [u32], at: usize, n: usize, left: usize) -> 
                 m += 1;
             }
             Term::Bracket => {
-                let r = bracket(tokens, rows, i, m, left);
+                let r = bracket(tokens, rows, here);
                 let Got::At(j, m2) = r else {
                     return r;
                 };
@@ -124,7 +133,7 @@ fn terms(tokens: &[u32], rows: &mut [u32], at: usize, n: usize, left: usize) -> 
                 m = m2;
             }
             Term::Call => {
-                let r2 = call(tokens, rows, i, m, left);
+                let r2 = call(tokens, rows, here);
                 let Got::At(j, m2) = r2 else {
                     return r2;
                 };
@@ -143,28 +152,37 @@ fn terms(tokens: &[u32], rows: &mut [u32], at: usize, n: usize, left: usize) -> 
 }
 
 // Terms and the kind that closes them.
-fn until(tokens: &[u32], rows: &mut [u32], at: usize, n: usize, left: usize, want: u32) -> Got
-    requires { ⌜ Ready (now tokens) at × (n ≤ at + 2) × (want ≤ 16) ⌝ }
-    ensures { λ r. ⌜ UntilPost (now (tokens .entry)) (now (rows .entry)) (now (rows .exit)) at n left want r ⌝ }
+fn until(tokens: &[u32], rows: &mut [u32], cursor: Cursor, want: u32) -> Got
+    requires { ⌜ Ready (now tokens) (cursor .at) × Few (cursor .row) (cursor .at) 2 × (want ≤ 16) ⌝ }
+    ensures { λ r. ⌜ UntilPost (now (tokens .entry)) (now (rows .entry)) (now (rows .exit)) (cursor .at) (cursor .row) (cursor .left) want r ⌝ }
 {
-    let r = terms(tokens, rows, at, n, left);
+    let r = terms(tokens, rows, cursor);
     let Got::At(j, m) = r else {
         return r;
     };
     closes(tokens, j, m, want)
 }
 
-// The bracket that opens at `at`; its row is row n.
-fn bracket(tokens: &[u32], rows: &mut [u32], at: usize, n: usize, left: usize) -> Got
-    requires { ⌜ Ready (now tokens) at × (n ≤ at + 2) × (termAt (now tokens) at ≡ Bracket) ⌝ }
-    ensures { λ r. ⌜ TermPost (now (tokens .entry)) (now (rows .entry)) (now (rows .exit)) at n left r ⌝ }
+// The bracket that opens at the cursor; its row is the next one.
+fn bracket(tokens: &[u32], rows: &mut [u32], cursor: Cursor) -> Got
+    requires { ⌜ Ready (now tokens) (cursor .at) × Few (cursor .row) (cursor .at) 2 × (termAt (now tokens) (cursor .at) ≡ Bracket) ⌝ }
+    ensures { λ r. ⌜ TermPost (now (tokens .entry)) (now (rows .entry)) (now (rows .exit)) (cursor .at) (cursor .row) (cursor .left) r ⌝ }
 {
+    let at = cursor.at;
+    let n = cursor.row;
+    let left = cursor.left;
     if left == 0 {
         return present(tokens, at, 37, 0);
     }
     let body = at + 6;
     let first = n + 1;
-    let r = until(tokens, rows, body, first, left - 1, token::RPAREN);
+    let under = left - 1;
+    let inside = Cursor {
+        at: body,
+        row: first,
+        left: under,
+    };
+    let r = until(tokens, rows, inside, token::RPAREN);
     let Got::At(j, m) = r else {
         return r;
     };
@@ -174,11 +192,14 @@ fn bracket(tokens: &[u32], rows: &mut [u32], at: usize, n: usize, left: usize) -
     Got::At(j, m)
 }
 
-// The call that opens at `at`; its row is row n.
-fn call(tokens: &[u32], rows: &mut [u32], at: usize, n: usize, left: usize) -> Got
-    requires { ⌜ Ready (now tokens) at × (n ≤ at + 2) × (termAt (now tokens) at ≡ Call) ⌝ }
-    ensures { λ r. ⌜ TermPost (now (tokens .entry)) (now (rows .entry)) (now (rows .exit)) at n left r ⌝ }
+// The call that opens at the cursor; its row is the next one.
+fn call(tokens: &[u32], rows: &mut [u32], cursor: Cursor) -> Got
+    requires { ⌜ Ready (now tokens) (cursor .at) × Few (cursor .row) (cursor .at) 2 × (termAt (now tokens) (cursor .at) ≡ Call) ⌝ }
+    ensures { λ r. ⌜ TermPost (now (tokens .entry)) (now (rows .entry)) (now (rows .exit)) (cursor .at) (cursor .row) (cursor .left) r ⌝ }
 {
+    let at = cursor.at;
+    let n = cursor.row;
+    let left = cursor.left;
     if left == 0 {
         return present(tokens, at, 37, 0);
     }
@@ -188,7 +209,13 @@ fn call(tokens: &[u32], rows: &mut [u32], at: usize, n: usize, left: usize) -> G
     }
     let body = name + 6;
     let first = n + 1;
-    let r = until(tokens, rows, body, first, left - 1, token::RANGLE);
+    let under = left - 1;
+    let inside = Cursor {
+        at: body,
+        row: first,
+        left: under,
+    };
+    let r = until(tokens, rows, inside, token::RANGLE);
     let Got::At(j, m) = r else {
         return r;
     };
@@ -200,13 +227,16 @@ fn call(tokens: &[u32], rows: &mut [u32], at: usize, n: usize, left: usize) -> G
     Got::At(j, m)
 }
 
-// A Terms row, row n, its terms and the kind that closes them.
-pub fn clause(tokens: &[u32], rows: &mut [u32], at: usize, n: usize, left: usize, want: u32) -> Got
-    requires { ⌜ Ready (now tokens) at × (n ≤ at + 1) × (want ≤ 16) ⌝ }
-    ensures { λ r. ⌜ ClausePost (now (tokens .entry)) (now (rows .entry)) (now (rows .exit)) at n left want r ⌝ }
+// A Terms row, its terms and the kind that closes them.
+pub fn clause(tokens: &[u32], rows: &mut [u32], cursor: Cursor, want: u32) -> Got
+    requires { ⌜ Ready (now tokens) (cursor .at) × Few (cursor .row) (cursor .at) 1 × (want ≤ 16) ⌝ }
+    ensures { λ r. ⌜ ClausePost (now (tokens .entry)) (now (rows .entry)) (now (rows .exit)) (cursor .at) (cursor .row) (cursor .left) want r ⌝ }
 {
-    let first = n + 1;
-    let r = until(tokens, rows, at, first, left, want);
+    let at = cursor.at;
+    let n = cursor.row;
+    let left = cursor.left;
+    let row = n + 1;
+    let r = until(tokens, rows, Cursor { at, row, left }, want);
     let Got::At(j, m) = r else {
         return r;
     };
@@ -236,13 +266,16 @@ pub fn follows(tokens: &[u32], at: usize, m: usize, terms: bool) -> Got
     taken(tokens, at, 34, 0)
 }
 
-// A pattern: a Terms row, row n, and its terms, up to a comma or `=`.
-pub fn pattern(tokens: &[u32], rows: &mut [u32], at: usize, n: usize, left: usize) -> Got
-    requires { ⌜ Ready (now tokens) at × (n ≤ at + 1) ⌝ }
-    ensures { λ r. ⌜ PatternPost (now (tokens .entry)) (now (rows .entry)) (now (rows .exit)) at n left r ⌝ }
+// A pattern: a Terms row and its terms, up to a comma or `=`.
+pub fn pattern(tokens: &[u32], rows: &mut [u32], cursor: Cursor) -> Got
+    requires { ⌜ Ready (now tokens) (cursor .at) × Few (cursor .row) (cursor .at) 1 ⌝ }
+    ensures { λ r. ⌜ PatternPost (now (tokens .entry)) (now (rows .entry)) (now (rows .exit)) (cursor .at) (cursor .row) (cursor .left) r ⌝ }
 {
-    let first = n + 1;
-    let r = terms(tokens, rows, at, first, left);
+    let at = cursor.at;
+    let n = cursor.row;
+    let left = cursor.left;
+    let row = n + 1;
+    let r = terms(tokens, rows, Cursor { at, row, left });
     let Got::At(j, m) = r else {
         return r;
     };

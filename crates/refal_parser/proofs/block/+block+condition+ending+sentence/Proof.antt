@@ -40,16 +40,16 @@ use Rattle.refal_parser.proofs.block.+block+condition+ending+sentence.{
 use Rattle.refal_parser.proofs.block.+block+condition+ending+sentence.Tie.{close}
 
 abbrev μ-block : Measures 2 block-kinds.ps ℕ
-μ-block κs a = a .1 .1 .1 .1 .0 + (length (a .0 .now) - a .1 .1 .0) + (a .1 .1 .1 .1 .0 + (length (a .0 .now) - a .1 .1 .0))
+μ-block κs a = a .1 .1 .0 .left + (length (a .0 .now) - a .1 .1 .0 .at) + (a .1 .1 .0 .left + (length (a .0 .now) - a .1 .1 .0 .at))
 
 abbrev μ-condition : Measures 2 condition-kinds.ps ℕ
-μ-condition κs a = a .1 .1 .1 .1 .0 + (length (a .0 .now) - a .1 .1 .0) + (a .1 .1 .1 .1 .0 + (length (a .0 .now) - a .1 .1 .0))
+μ-condition κs a = a .1 .1 .0 .left + (length (a .0 .now) - a .1 .1 .0 .at) + (a .1 .1 .0 .left + (length (a .0 .now) - a .1 .1 .0 .at))
 
 abbrev μ-ending : Measures 2 ending-kinds.ps ℕ
-μ-ending κs a = a .1 .1 .1 .1 .0 + (length (a .0 .now) - a .1 .1 .0) + (a .1 .1 .1 .1 .0 + (length (a .0 .now) - a .1 .1 .0))
+μ-ending κs a = a .1 .1 .0 .left + (length (a .0 .now) - a .1 .1 .0 .at) + (a .1 .1 .0 .left + (length (a .0 .now) - a .1 .1 .0 .at))
 
 abbrev μ-sentence : Measures 2 sentence-kinds.ps ℕ
-μ-sentence κs a = a .1 .1 .1 .1 .0 + (length (a .0 .now) - a .1 .1 .0) + (a .1 .1 .1 .1 .0 + (length (a .0 .now) - a .1 .1 .0)) + 1
+μ-sentence κs a = a .1 .1 .0 .left + (length (a .0 .now) - a .1 .1 .0 .at) + (a .1 .1 .0 .left + (length (a .0 .now) - a .1 .1 .0 .at)) + 1
 
 abbrev block-at : ℕ → In 2 block-kinds.ps
 block-at t = and 2 block-kinds.ps (is 2 block-kinds.ps μ-block t) block.Pre
@@ -97,8 +97,8 @@ block-μ-loop tokens rows₀ at n left under i₀ m₀ rows i m = length tokens 
 
 block-returns : (t : ℕ) → block-lts.Need-returns (block-claims t) (block-at t) block.Post block-Inv-loop block-μ-loop
 block-returns t c = let w = c .before .before .before .before .args .tokens .now in
-    let at₀ = c .before .before .before .before .args .at in
-    let left₀ = c .before .before .before .before .args .left in
+    let at₀ = c .before .before .before .before .args .cursor .at in
+    let left₀ = c .before .before .before .before .args .cursor .left in
     is-no (c .present .ensures) (λ b. open-none w at₀ left₀ (λ (d : ℕ). between d b s0) (c .before .if1 .taken))
 
 block-add-i : (t : ℕ) → block-lts.Need-add-i (block-claims t) (block-at t) block.Post block-Inv-loop block-μ-loop
@@ -108,8 +108,8 @@ block-add-i t c = let pre₀ = c .before .before .before .pre .1 in
 block-loop-holds : (t : ℕ) → block-lts.Need-loop-holds (block-claims t) (block-at t) block.Post block-Inv-loop block-μ-loop
 unfolding sizeS wS
 block-loop-holds t c = let w = c .before .before .before .args .tokens .now in
-    let at₀ = c .before .before .before .args .at in
-    let left₀ = c .before .before .before .args .left in
+    let at₀ = c .before .before .before .args .cursor .at in
+    let left₀ = c .before .before .before .args .cursor .left in
     let pre₀ = c .before .before .before .pre .1 in
     record { v = s0; ready = ready-next _ _ (pre₀ .0) (other _ _ _ (pre₀ .2) refl); on = omega arith; few = omega arith; same = refl; rows = refl; count = omega arith; means = λ b. open-some w at₀ left₀ (λ (d : ℕ). between d b s0) (c .if1 .left) }
 
@@ -200,8 +200,8 @@ condition-clause-requires t c κs = let pre₀ = c .before .before .before .befo
 
 condition-returns : (t : ℕ) → condition-lts.Need-returns (condition-claims t) (condition-at t) condition.Post
 condition-returns t c = let w = c .before .before .before .before .before .before .before .before .before .args .tokens .now in
-    let at₀ = c .before .before .before .before .before .before .before .before .before .args .at in
-    let left₀ = c .before .before .before .before .before .before .before .before .before .args .left in
+    let at₀ = c .before .before .before .before .before .before .before .before .before .args .cursor .at in
+    let left₀ = c .before .before .before .before .before .before .before .before .before .args .cursor .left in
     let pre₀ = c .before .before .before .before .before .before .before .before .before .pre .1 in
     is-no (c .enum-told .given .1) (λ b r p. cond-start _ _ (pre₀ .0) _ b r (ready-next _ _ (pre₀ .0) (other _ _ _ (pre₀ .2) refl)) (pre₀ .2) p
     ∙ c .before .before .before .before .clause .ensures .no _ _ _ _ _ (c .enum-told .given .1) (argument b r (getD w (at₀ + 6 + 4) 0)) (λ (g : Terms) (a e : ℕ). matched left₀ b r (getD w (at₀ + 6 + 4) 0) (asked g a e)) (λ h t y z. refl) p)
@@ -226,8 +226,8 @@ condition-block-requires t c κs = let w = c .before .before .before .before .be
 condition-returns-2 : (t : ℕ) → condition-lts.Need-returns-2 (condition-claims t) (condition-at t) condition.Post
 condition-returns-2 t c = let w = c .before .before .before .before .before .before .before .before .before .before .before .before .before .before .before .before .before .before .args .tokens .now in
     let j₁ = c .before .before .before .before .before .before .before .before .before .r .given .0 .0 in
-    let at₀ = c .before .before .before .before .before .before .before .before .before .before .before .before .before .before .before .before .before .before .args .at in
-    let left₀ = c .before .before .before .before .before .before .before .before .before .before .before .before .before .before .before .before .before .before .args .left in
+    let at₀ = c .before .before .before .before .before .before .before .before .before .before .before .before .before .before .before .before .before .before .args .cursor .at in
+    let left₀ = c .before .before .before .before .before .before .before .before .before .before .before .before .before .before .before .before .before .before .args .cursor .left in
     let pre₀ = c .before .before .before .before .before .before .before .before .before .before .before .before .before .before .before .before .before .before .pre .1 in
     let K = c .before .before .before .before .before .before .before .before .before .before .before .before .before .clause .ensures .at _ _ (c .before .before .before .before .before .before .before .before .before .r .given .1) in
     let k₇ : getD w j₁ 0 ≡ 7 = sym (c .before .before .before .before .before .before .before .kind .ensures) ∙ c .before .before .before .before .before .before .if1 .taken in
@@ -265,9 +265,9 @@ condition-returns-3 t c = let w = c .before .before .before .before .before .bef
     let b₀ = c .before .before .before .before .before .before .before .before .before .before .before .before .before .before .before .before .before .before .before .before .before .before .before .before .before .before .before .before .before .args .rows .now in
     let j₁ = c .before .before .before .before .before .before .before .before .before .before .before .before .before .before .before .before .before .before .before .before .r .given .0 .0 in
     let j₂ = c .before .before .before .before .before .before .before .before .before .before .before .r2 .given .0 .0 in
-    let at₀ = c .before .before .before .before .before .before .before .before .before .before .before .before .before .before .before .before .before .before .before .before .before .before .before .before .before .before .before .before .before .args .at in
-    let left₀ = c .before .before .before .before .before .before .before .before .before .before .before .before .before .before .before .before .before .before .before .before .before .before .before .before .before .before .before .before .before .args .left in
-    let n₀ = c .before .before .before .before .before .before .before .before .before .before .before .before .before .before .before .before .before .before .before .before .before .before .before .before .before .before .before .before .before .args .n in
+    let at₀ = c .before .before .before .before .before .before .before .before .before .before .before .before .before .before .before .before .before .before .before .before .before .before .before .before .before .before .before .before .before .args .cursor .at in
+    let left₀ = c .before .before .before .before .before .before .before .before .before .before .before .before .before .before .before .before .before .before .before .before .before .before .before .before .before .before .before .before .before .args .cursor .left in
+    let n₀ = c .before .before .before .before .before .before .before .before .before .before .before .before .before .before .before .before .before .before .before .before .before .before .before .before .before .before .before .before .before .args .cursor .row in
     let pre₀ = c .before .before .before .before .before .before .before .before .before .before .before .before .before .before .before .before .before .before .before .before .before .before .before .before .before .before .before .before .before .pre .1 in
     let K = c .before .before .before .before .before .before .before .before .before .before .before .before .before .before .before .before .before .before .before .before .before .before .before .before .clause .ensures .at _ _ (c .before .before .before .before .before .before .before .before .before .before .before .before .before .before .before .before .before .before .before .before .r .given .1) in
     let B = c .before .before .before .before .before .before .before .before .before .before .before .before .before .before .before .block .ensures .at _ _ (c .before .before .before .before .before .before .before .before .before .before .before .r2 .given .1) in
@@ -305,8 +305,8 @@ condition-pattern-requires t c κs = let K = c .before .before .before .before .
 
 condition-returns-4 : (t : ℕ) → condition-lts.Need-returns-4 (condition-claims t) (condition-at t) condition.Post
 condition-returns-4 t c = let w = c .before .before .before .before .before .before .before .before .before .before .before .before .before .before .before .before .before .before .args .tokens .now in
-    let at₀ = c .before .before .before .before .before .before .before .before .before .before .before .before .before .before .before .before .before .before .args .at in
-    let left₀ = c .before .before .before .before .before .before .before .before .before .before .before .before .before .before .before .before .before .before .args .left in
+    let at₀ = c .before .before .before .before .before .before .before .before .before .before .before .before .before .before .before .before .before .before .args .cursor .at in
+    let left₀ = c .before .before .before .before .before .before .before .before .before .before .before .before .before .before .before .before .before .before .args .cursor .left in
     let pre₀ = c .before .before .before .before .before .before .before .before .before .before .before .before .before .before .before .before .before .before .pre .1 in
     let K = c .before .before .before .before .before .before .before .before .before .before .before .before .before .clause .ensures .at _ _ (c .before .before .before .before .before .before .before .before .before .r .given .1) in
     is-no (c .enum-told3 .given .1) (λ b r p. cond-start _ _ (pre₀ .0) _ b r (ready-next _ _ (pre₀ .0) (other _ _ _ (pre₀ .2) refl)) (pre₀ .2) p
@@ -327,9 +327,9 @@ condition-put-span-requires-3 t c κs = let pre₀ = c .before .before .before .
 condition-returns-5 : (t : ℕ) → condition-lts.Need-returns-5 (condition-claims t) (condition-at t) condition.Post
 condition-returns-5 t c = let w = c .before .before .before .before .before .before .before .before .before .before .before .before .before .before .before .before .before .before .before .before .before .before .before .before .args .tokens .now in
     let b₀ = c .before .before .before .before .before .before .before .before .before .before .before .before .before .before .before .before .before .before .before .before .before .before .before .before .args .rows .now in
-    let at₀ = c .before .before .before .before .before .before .before .before .before .before .before .before .before .before .before .before .before .before .before .before .before .before .before .before .args .at in
-    let left₀ = c .before .before .before .before .before .before .before .before .before .before .before .before .before .before .before .before .before .before .before .before .before .before .before .before .args .left in
-    let n₀ = c .before .before .before .before .before .before .before .before .before .before .before .before .before .before .before .before .before .before .before .before .before .before .before .before .args .n in
+    let at₀ = c .before .before .before .before .before .before .before .before .before .before .before .before .before .before .before .before .before .before .before .before .before .before .before .before .args .cursor .at in
+    let left₀ = c .before .before .before .before .before .before .before .before .before .before .before .before .before .before .before .before .before .before .before .before .before .before .before .before .args .cursor .left in
+    let n₀ = c .before .before .before .before .before .before .before .before .before .before .before .before .before .before .before .before .before .before .before .before .before .before .before .before .args .cursor .row in
     let pre₀ = c .before .before .before .before .before .before .before .before .before .before .before .before .before .before .before .before .before .before .before .before .before .before .before .before .pre .1 in
     let K = c .before .before .before .before .before .before .before .before .before .before .before .before .before .before .before .before .before .before .before .clause .ensures .at _ _ (c .before .before .before .before .before .before .before .before .before .before .before .before .before .before .before .r .given .1) in
     let Q = c .before .before .before .before .before .before .before .before .before .before .pattern .ensures .at _ _ (c .before .before .before .before .before .before .r3 .given .1) in
@@ -359,7 +359,7 @@ ending-clause-requires t c κs = let pre₀ = c .before .before .before .before 
     let h = pre₀ .1 in (pre₀ .0, omega arith, omega arith)
 
 ending-returns : (t : ℕ) → ending-lts.Need-returns (ending-claims t) (ending-at t) ending.Post
-ending-returns t c = let left₀ = c .before .before .before .before .before .before .before .before .args .left in
+ending-returns t c = let left₀ = c .before .before .before .before .before .before .before .before .args .cursor .left in
     let pre₀ = c .before .before .before .before .before .before .before .before .pre .1 in
     record {
       at = λ j m e.
@@ -386,7 +386,7 @@ ending-add-start t c = let pre₀ = c .before .before .before .before .pre .1 in
 
 ending-span-from-requires : (t : ℕ) → ending-lts.Need-span-from-requires (ending-claims t) (ending-at t) ending.Post
 ending-span-from-requires t c κs = let w = c .before .before .before .before .args .tokens .now in
-    let at₀ = c .before .before .before .before .args .at in
+    let at₀ = c .before .before .before .before .args .cursor .at in
     let pre₀ = c .before .before .before .before .pre .1 in
     let k₁₃ : getD w at₀ 0 ≡ 13 = sym (c .before .kind .ensures) ∙ c .if1 .left in (ready-next _ _ (pre₀ .0) (other _ _ _ k₁₃ refl))
 
@@ -396,15 +396,15 @@ ending-add-first t c = let pre₀ = c .before .before .before .before .before .p
 
 ending-clause-requires-2 : (t : ℕ) → ending-lts.Need-clause-requires-2 (ending-claims t) (ending-at t) ending.Post
 ending-clause-requires-2 t c κs = let w = c .before .before .before .before .before .before .args .tokens .now in
-    let at₀ = c .before .before .before .before .before .before .args .at in
+    let at₀ = c .before .before .before .before .before .before .args .cursor .at in
     let pre₀ = c .before .before .before .before .before .before .pre .1 in
     let k₁₃ : getD w at₀ 0 ≡ 13 = sym (c .before .before .before .kind .ensures) ∙ c .before .before .if1 .left in
     let h = pre₀ .1 in ((ready-next _ _ (pre₀ .0) (other _ _ _ k₁₃ refl)), omega arith, omega arith)
 
 ending-returns-2 : (t : ℕ) → ending-lts.Need-returns-2 (ending-claims t) (ending-at t) ending.Post
 ending-returns-2 t c = let w = c .before .before .before .before .before .before .before .before .before .before .before .args .tokens .now in
-    let at₀ = c .before .before .before .before .before .before .before .before .before .before .before .args .at in
-    let left₀ = c .before .before .before .before .before .before .before .before .before .before .before .args .left in
+    let at₀ = c .before .before .before .before .before .before .before .before .before .before .before .args .cursor .at in
+    let left₀ = c .before .before .before .before .before .before .before .before .before .before .before .args .cursor .left in
     let pre₀ = c .before .before .before .before .before .before .before .before .before .before .before .pre .1 in
     let k₁₃ : getD w at₀ 0 ≡ 13 = sym (c .before .before .before .before .before .before .before .before .kind .ensures) ∙ c .before .before .before .before .before .before .before .if1 .left in
     is-no (c .enum-told .given .1) (λ b r p. end-start _ _ (pre₀ .0) _ b r k₁₃ p
@@ -418,8 +418,8 @@ ending-present-requires t c κs = let K = c .before .before .before .before .bef
 
 ending-returns-3 : (t : ℕ) → ending-lts.Need-returns-3 (ending-claims t) (ending-at t) ending.Post
 ending-returns-3 t c = let w = c .before .before .before .before .before .before .before .before .before .before .before .before .before .before .before .args .tokens .now in
-    let at₀ = c .before .before .before .before .before .before .before .before .before .before .before .before .before .before .before .args .at in
-    let left₀ = c .before .before .before .before .before .before .before .before .before .before .before .before .before .before .before .args .left in
+    let at₀ = c .before .before .before .before .before .before .before .before .before .before .before .before .before .before .before .args .cursor .at in
+    let left₀ = c .before .before .before .before .before .before .before .before .before .before .before .before .before .before .before .args .cursor .left in
     let pre₀ = c .before .before .before .before .before .before .before .before .before .before .before .before .before .before .before .pre .1 in
     let K = c .before .before .before .before .before .before .before .before .clause2 .ensures .at _ _ (c .before .before .before .before .r .given .1) in
     let k₁₃ : getD w at₀ 0 ≡ 13 = sym (c .before .before .before .before .before .before .before .before .before .before .before .before .kind .ensures) ∙ c .before .before .before .before .before .before .before .before .before .before .before .if1 .left in
@@ -441,8 +441,8 @@ ending-block-requires t c κs = let w = c .before .before .before .before .befor
 ending-returns-4 : (t : ℕ) → ending-lts.Need-returns-4 (ending-claims t) (ending-at t) ending.Post
 ending-returns-4 t c = let w = c .before .before .before .before .before .before .before .before .before .before .before .before .before .before .before .before .before .before .before .before .args .tokens .now in
     let j₁ = c .before .before .before .before .before .before .before .before .before .r .given .0 .0 in
-    let at₀ = c .before .before .before .before .before .before .before .before .before .before .before .before .before .before .before .before .before .before .before .before .args .at in
-    let left₀ = c .before .before .before .before .before .before .before .before .before .before .before .before .before .before .before .before .before .before .before .before .args .left in
+    let at₀ = c .before .before .before .before .before .before .before .before .before .before .before .before .before .before .before .before .before .before .before .before .args .cursor .at in
+    let left₀ = c .before .before .before .before .before .before .before .before .before .before .before .before .before .before .before .before .before .before .before .before .args .cursor .left in
     let pre₀ = c .before .before .before .before .before .before .before .before .before .before .before .before .before .before .before .before .before .before .before .before .pre .1 in
     let K = c .before .before .before .before .before .before .before .before .before .before .before .before .before .clause2 .ensures .at _ _ (c .before .before .before .before .before .before .before .before .before .r .given .1) in
     let k₁₃ : getD w at₀ 0 ≡ 13 = sym (c .before .before .before .before .before .before .before .before .before .before .before .before .before .before .before .before .before .kind .ensures) ∙ c .before .before .before .before .before .before .before .before .before .before .before .before .before .before .before .before .if1 .left in
@@ -462,8 +462,8 @@ ending-returns-5 : (t : ℕ) → ending-lts.Need-returns-5 (ending-claims t) (en
 ending-returns-5 t c = let w = c .before .before .before .before .before .before .before .before .before .before .before .before .before .before .before .before .before .before .before .before .before .before .before .before .args .tokens .now in
     let j₁ = c .before .before .before .before .before .before .before .before .before .before .before .before .before .r .given .0 .0 in
     let j₂ = c .before .before .before .before .r2 .given .0 .0 in
-    let at₀ = c .before .before .before .before .before .before .before .before .before .before .before .before .before .before .before .before .before .before .before .before .before .before .before .before .args .at in
-    let left₀ = c .before .before .before .before .before .before .before .before .before .before .before .before .before .before .before .before .before .before .before .before .before .before .before .before .args .left in
+    let at₀ = c .before .before .before .before .before .before .before .before .before .before .before .before .before .before .before .before .before .before .before .before .before .before .before .before .args .cursor .at in
+    let left₀ = c .before .before .before .before .before .before .before .before .before .before .before .before .before .before .before .before .before .before .before .before .before .before .before .before .args .cursor .left in
     let pre₀ = c .before .before .before .before .before .before .before .before .before .before .before .before .before .before .before .before .before .before .before .before .before .before .before .before .pre .1 in
     let K = c .before .before .before .before .before .before .before .before .before .before .before .before .before .before .before .before .before .clause2 .ensures .at _ _ (c .before .before .before .before .before .before .before .before .before .before .before .before .before .r .given .1) in
     let B = c .before .before .before .before .before .before .before .before .block .ensures .at _ _ (c .before .before .before .before .r2 .given .1) in
@@ -494,9 +494,9 @@ ending-returns-6 t c = let w = c .before .before .before .before .before .before
     let b₀ = c .before .before .before .before .before .before .before .before .before .before .before .before .before .before .before .before .before .before .before .before .before .before .before .before .before .before .before .before .args .rows .now in
     let j₁ = c .before .before .before .before .before .before .before .before .before .before .before .before .before .before .before .before .before .r .given .0 .0 in
     let j₂ = c .before .before .before .before .before .before .before .before .r2 .given .0 .0 in
-    let at₀ = c .before .before .before .before .before .before .before .before .before .before .before .before .before .before .before .before .before .before .before .before .before .before .before .before .before .before .before .before .args .at in
-    let left₀ = c .before .before .before .before .before .before .before .before .before .before .before .before .before .before .before .before .before .before .before .before .before .before .before .before .before .before .before .before .args .left in
-    let n₀ = c .before .before .before .before .before .before .before .before .before .before .before .before .before .before .before .before .before .before .before .before .before .before .before .before .before .before .before .before .args .n in
+    let at₀ = c .before .before .before .before .before .before .before .before .before .before .before .before .before .before .before .before .before .before .before .before .before .before .before .before .before .before .before .before .args .cursor .at in
+    let left₀ = c .before .before .before .before .before .before .before .before .before .before .before .before .before .before .before .before .before .before .before .before .before .before .before .before .before .before .before .before .args .cursor .left in
+    let n₀ = c .before .before .before .before .before .before .before .before .before .before .before .before .before .before .before .before .before .before .before .before .before .before .before .before .before .before .before .before .args .cursor .row in
     let pre₀ = c .before .before .before .before .before .before .before .before .before .before .before .before .before .before .before .before .before .before .before .before .before .before .before .before .before .before .before .before .pre .1 in
     let K = c .before .before .before .before .before .before .before .before .before .before .before .before .before .before .before .before .before .before .before .before .before .clause2 .ensures .at _ _ (c .before .before .before .before .before .before .before .before .before .before .before .before .before .before .before .before .before .r .given .1) in
     let B = c .before .before .before .before .before .before .before .before .before .before .before .before .block .ensures .at _ _ (c .before .before .before .before .before .before .before .before .r2 .given .1) in
@@ -522,13 +522,13 @@ ending-returns-6 t c = let w = c .before .before .before .before .before .before
     })
 
 abbrev sentence-Inv-loop : sentence-lts.InvT-loop
-sentence-Inv-loop tokens rows₀ at n left first j m i₀ k₀ rows i k = CondsInv tokens rows₀ rows j m left i k
+sentence-Inv-loop tokens rows₀ at n left row j m i₀ k₀ rows i k = CondsInv tokens rows₀ rows j m left i k
 
 abbrev sentence-μ-loop : sentence-lts.MeasureT-loop
-sentence-μ-loop tokens rows₀ at n left first j m i₀ k₀ rows i k = length tokens - i
+sentence-μ-loop tokens rows₀ at n left row j m i₀ k₀ rows i k = length tokens - i
 
-sentence-add-first : (t : ℕ) → sentence-lts.Need-add-first (sentence-claims t) (sentence-at t) sentence.Post sentence-Inv-loop sentence-μ-loop
-sentence-add-first t c = let pre₀ = c .before .before .pre .1 in
+sentence-add-row : (t : ℕ) → sentence-lts.Need-add-row (sentence-claims t) (sentence-at t) sentence.Post sentence-Inv-loop sentence-μ-loop
+sentence-add-row t c = let pre₀ = c .before .before .pre .1 in
     let R = pre₀ .0 in let h = pre₀ .1 in omega arith
 
 sentence-pattern-requires : (t : ℕ) → sentence-lts.Need-pattern-requires (sentence-claims t) (sentence-at t) sentence.Post sentence-Inv-loop sentence-μ-loop
@@ -537,7 +537,7 @@ sentence-pattern-requires t c κs = let pre₀ = c .before .before .before .pre 
 
 sentence-returns : (t : ℕ) → sentence-lts.Need-returns (sentence-claims t) (sentence-at t) sentence.Post sentence-Inv-loop sentence-μ-loop
 sentence-returns t c = let w = c .before .before .before .before .before .before .before .before .args .tokens .now in
-    let at₀ = c .before .before .before .before .before .before .before .before .args .at in
+    let at₀ = c .before .before .before .before .before .before .before .before .args .cursor .at in
     is-no (c .enum-told .given .1) (λ b s p. c .before .before .before .before .pattern .ensures .no _ _ _ _ _ (c .enum-told .given .1) (inPattern b s (getD w (at₀ + 4) 0)) b (λ (g : Terms). begun s (getD w (at₀ + 4) 0) g c0) (λ h t y z. refl) p)
 
 sentence-loop-holds : (t : ℕ) → sentence-lts.Need-loop-holds (sentence-claims t) (sentence-at t) sentence.Post sentence-Inv-loop sentence-μ-loop
@@ -565,7 +565,7 @@ sentence-same-length-2 t c = let I = c .before .before .before .before .before .
 
 sentence-returns-2 : (t : ℕ) → sentence-lts.Need-returns-2 (sentence-claims t) (sentence-at t) sentence.Post sentence-Inv-loop sentence-μ-loop
 sentence-returns-2 t c = let w = c .before .before .before .before .before .before .before .before .before .before .before .before .before .before .before .before .before .before .args .tokens .now in
-    let at₀ = c .before .before .before .before .before .before .before .before .before .before .before .before .before .before .before .before .before .before .args .at in
+    let at₀ = c .before .before .before .before .before .before .before .before .before .before .before .before .before .before .before .before .before .before .args .cursor .at in
     let Q = c .before .before .before .before .before .before .before .before .before .before .before .before .before .before .pattern .ensures .at _ _ (c .before .before .before .before .before .before .before .before .before .before .r .given .1) in
     let I = c .before .before .before .before .before .before .before .before .loop .inv in
     is-no (c .enum-told2 .given .1) (λ b s p. Q .means (inPattern b s (getD w (at₀ + 4) 0)) b (λ (g : Terms). begun s (getD w (at₀ + 4) 0) g c0) (λ h t y z. refl) p
@@ -613,7 +613,7 @@ sentence-same-length-3 t c = let I = c .before .before .before .before .before .
 
 sentence-returns-3 : (t : ℕ) → sentence-lts.Need-returns-3 (sentence-claims t) (sentence-at t) sentence.Post sentence-Inv-loop sentence-μ-loop
 sentence-returns-3 t c = let w = c .before .before .before .before .before .before .before .before .before .before .before .before .before .before .before .before .before .before .args .tokens .now in
-    let at₀ = c .before .before .before .before .before .before .before .before .before .before .before .before .before .before .before .before .before .before .args .at in
+    let at₀ = c .before .before .before .before .before .before .before .before .before .before .before .before .before .before .before .before .before .before .args .cursor .at in
     let i₀ = c .before .before .before .before .before .before .before .before .loop .i in
     let Q = c .before .before .before .before .before .before .before .before .before .before .before .before .before .before .pattern .ensures .at _ _ (c .before .before .before .before .before .before .before .before .before .before .r .given .1) in
     let I = c .before .before .before .before .before .before .before .before .loop .inv in
@@ -643,7 +643,7 @@ sentence-same-length-4 t c = let I = c .before .before .before .before .before .
 
 sentence-returns-4 : (t : ℕ) → sentence-lts.Need-returns-4 (sentence-claims t) (sentence-at t) sentence.Post sentence-Inv-loop sentence-μ-loop
 sentence-returns-4 t c = let w = c .before .before .before .before .before .before .before .before .before .before .before .before .before .before .before .before .before .before .before .before .before .before .before .before .before .args .tokens .now in
-    let at₀ = c .before .before .before .before .before .before .before .before .before .before .before .before .before .before .before .before .before .before .before .before .before .before .before .before .before .args .at in
+    let at₀ = c .before .before .before .before .before .before .before .before .before .before .before .before .before .before .before .before .before .before .before .before .before .before .before .before .before .args .cursor .at in
     let i₀ = c .before .before .before .before .before .before .before .before .before .before .before .before .before .before .before .loop .i in
     let Q = c .before .before .before .before .before .before .before .before .before .before .before .before .before .before .before .before .before .before .before .before .before .pattern .ensures .at _ _ (c .before .before .before .before .before .before .before .before .before .before .before .before .before .before .before .before .before .r .given .1) in
     let I = c .before .before .before .before .before .before .before .before .before .before .before .before .before .before .before .loop .inv in
@@ -688,7 +688,7 @@ pub +block+condition+ending+sentence-spec : {M : Type 1} → statement M
     λ t. sentence-lts.spec (sentence-claims t) (sentence-at t)
     sentence.Post
     sentence-Inv-loop
-    sentence-μ-loop (sentence-add-first t) (sentence-pattern-requires t) (λ c. search needs) (λ c. search needs) (λ c. search needs)
+    sentence-μ-loop (sentence-add-row t) (sentence-pattern-requires t) (λ c. search needs) (λ c. search needs) (λ c. search needs)
     (sentence-returns t) (sentence-loop-holds t) (sentence-kind-requires t) (sentence-condition-requires t) (λ c. search needs)
     (λ c. search needs) (sentence-same-length-2 t) (sentence-returns-2 t) (sentence-loop-less t) (sentence-loop-again t)
     (sentence-add-after t) (sentence-ending-requires t) (λ c. search needs) (λ c. search needs) (sentence-same-length-3 t)

@@ -7,6 +7,7 @@ use Rattle.refal_parser.proofs.TokenLaws.{ready-next}
 use Rattle.refal_parser.specs.Machine.{body}
 use Rattle.refal_parser.proofs.Steps.{is-at, is-no, other, head-open, head-none}
 use Rattle.refal_parser.specs.PostItems.{heading}
+use Rattle.refal_parser.proofs.Rows.{whole-function}
 use borrow.Author.Needs.{needs}
 use Rattle.refal_parser.proofs.items.function.Statement.{statement}
 use Rattle.refal_parser.proofs.items.function.Tie as tie
@@ -112,7 +113,7 @@ returns-3 c = let w = c .before .before .before .before .before .before .before 
       ready = B .ready;
       on = let q = B .on in omega arith;
       few = B .few;
-      rows = let h = B .rows in let l = B .last in cc;
+      rows = whole-function _ _ _ _ (B .v) (B .rows) (c .before .before .before .before .before .before .before .text-start .ensures) (c .before .before .before .before .before .before .text-len .ensures) (c .before .before .before .before .before .span-from .ensures) (c .before .before .before .before .end-before .ensures ∙ sym (B .last)) (c .before .before .put-node .ensures);
       count = B .count;
       means = λ x p. head-open _ _ (ready-next _ _ (pre₀ .1) (other _ _ _ (pre₀ .3) refl)) (heading w at₀ name₀ x) k₇ p
           ∙ B .means (body (heading w at₀ name₀ x)) p;

@@ -47,16 +47,16 @@ use Rattle.refal_parser.proofs.terms.+bracket+call+terms+until.{stateme
 use Rattle.refal_parser.proofs.terms.+bracket+call+terms+until.Tie.{close}
 
 abbrev μ-bracket : Measures 2 bracket-kinds.ps ℕ
-μ-bracket κs a = a .1 .1 .1 .1 .0 + a .1 .1 .1 .1 .0 + a .1 .1 .1 .1 .0
+μ-bracket κs a = a .1 .1 .0 .left + a .1 .1 .0 .left + a .1 .1 .0 .left
 
 abbrev μ-call : Measures 2 call-kinds.ps ℕ
-μ-call κs a = a .1 .1 .1 .1 .0 + a .1 .1 .1 .1 .0 + a .1 .1 .1 .1 .0
+μ-call κs a = a .1 .1 .0 .left + a .1 .1 .0 .left + a .1 .1 .0 .left
 
 abbrev μ-terms : Measures 2 terms-kinds.ps ℕ
-μ-terms κs a = a .1 .1 .1 .1 .0 + a .1 .1 .1 .1 .0 + a .1 .1 .1 .1 .0 + 1
+μ-terms κs a = a .1 .1 .0 .left + a .1 .1 .0 .left + a .1 .1 .0 .left + 1
 
 abbrev μ-until : Measures 2 until-kinds.ps ℕ
-μ-until κs a = a .1 .1 .1 .1 .0 + a .1 .1 .1 .1 .0 + a .1 .1 .1 .1 .0 + 2
+μ-until κs a = a .1 .1 .0 .left + a .1 .1 .0 .left + a .1 .1 .0 .left + 2
 
 abbrev bracket-at : ℕ → In 2 bracket-kinds.ps
 bracket-at t = and 2 bracket-kinds.ps (is 2 bracket-kinds.ps μ-bracket t) bracket.Pre
@@ -112,8 +112,8 @@ bracket-until-requires t c κs = let pre₀ = c .before .before .before .before 
 
 bracket-returns-2 : (t : ℕ) → bracket-lts.Need-returns-2 (bracket-claims t) (bracket-at t) bracket.Post
 bracket-returns-2 t c = let w = c .before .before .before .before .before .before .before .before .before .args .tokens .now in
-    let at₀ = c .before .before .before .before .before .before .before .before .before .args .at in
-    let left₀ = c .before .before .before .before .before .before .before .before .before .args .left in
+    let at₀ = c .before .before .before .before .before .before .before .before .before .args .cursor .at in
+    let left₀ = c .before .before .before .before .before .before .before .before .before .args .cursor .left in
     let pre₀ = c .before .before .before .before .before .before .before .before .before .pre .1 in
     is-no (c .enum-told .given .1) (λ x f p. bracket-open _ _ (pre₀ .0) _ x f (pre₀ .2) (c .before .before .before .before .before .before .if1 .left) p
     ∙ c .before .before .before .before .until .ensures .no _ _ _ _ _ (c .enum-told .given .1) (inBracket x f (getD w (at₀ + 4) 0)) (λ (g : Terms) (a e : ℕ). within (suc (left₀ - 1)) x (tMore f (theBracket (getD w (at₀ + 4) 0) g e))) (λ h t y z. refl) p)
@@ -133,8 +133,8 @@ bracket-put-span-requires t c κs = let pre₀ = c .before .before .before .befo
 bracket-returns-3 : (t : ℕ) → bracket-lts.Need-returns-3 (bracket-claims t) (bracket-at t) bracket.Post
 bracket-returns-3 t c = let w = c .before .before .before .before .before .before .before .before .before .before .before .before .before .before .before .before .args .tokens .now in
     let j₁ = c .before .before .before .before .before .before .before .r .given .0 .0 in
-    let at₀ = c .before .before .before .before .before .before .before .before .before .before .before .before .before .before .before .before .args .at in
-    let left₀ = c .before .before .before .before .before .before .before .before .before .before .before .before .before .before .before .before .args .left in
+    let at₀ = c .before .before .before .before .before .before .before .before .before .before .before .before .before .before .before .before .args .cursor .at in
+    let left₀ = c .before .before .before .before .before .before .before .before .before .before .before .before .before .before .before .before .args .cursor .left in
     let pre₀ = c .before .before .before .before .before .before .before .before .before .before .before .before .before .before .before .before .pre .1 in
     let U = c .before .before .before .before .before .before .before .before .before .before .before .until .ensures .at _ _ (c .before .before .before .before .before .before .before .r .given .1) in
     is-at refl (record {
@@ -182,7 +182,7 @@ call-add-first t c = let pre₀ = c .before .before .before .before .before .pre
 
 call-until-requires : (t : ℕ) → call-lts.Need-until-requires (call-claims t) (call-at t) call.Post
 call-until-requires t c κs = let w = c .before .before .before .before .before .before .args .tokens .now in
-    let at₀ = c .before .before .before .before .before .before .args .at in
+    let at₀ = c .before .before .before .before .before .before .args .cursor .at in
     let pre₀ = c .before .before .before .before .before .before .pre .1 in
     let k₃ : getD w (at₀ + 6) 0 ≡ 3 = sym (c .before .before .kind .ensures) ∙ c .before .if2 .left in
     let R = (ready-term _ _ _ (pre₀ .0) (pre₀ .2) refl) in
@@ -190,8 +190,8 @@ call-until-requires t c κs = let w = c .before .before .before .before .before 
 
 call-returns-3 : (t : ℕ) → call-lts.Need-returns-3 (call-claims t) (call-at t) call.Post
 call-returns-3 t c = let w = c .before .before .before .before .before .before .before .before .before .before .before .args .tokens .now in
-    let at₀ = c .before .before .before .before .before .before .before .before .before .before .before .args .at in
-    let left₀ = c .before .before .before .before .before .before .before .before .before .before .before .args .left in
+    let at₀ = c .before .before .before .before .before .before .before .before .before .before .before .args .cursor .at in
+    let left₀ = c .before .before .before .before .before .before .before .before .before .before .before .args .cursor .left in
     let pre₀ = c .before .before .before .before .before .before .before .before .before .before .before .pre .1 in
     let k₃ : getD w (at₀ + 6) 0 ≡ 3 = sym (c .before .before .before .before .before .before .before .kind .ensures) ∙ c .before .before .before .before .before .before .if2 .left in
     is-no (c .enum-told .given .1) (λ x f p. call-open _ _ (pre₀ .0) _ x f (pre₀ .2) (c .before .before .before .before .before .before .before .before .if1 .left) p
@@ -221,8 +221,8 @@ call-put-node-requires t c κs = let pre₀ = c .before .before .before .before 
 call-returns-4 : (t : ℕ) → call-lts.Need-returns-4 (call-claims t) (call-at t) call.Post
 call-returns-4 t c = let w = c .before .before .before .before .before .before .before .before .before .before .before .before .before .before .before .before .before .before .before .before .args .tokens .now in
     let j₁ = c .before .before .before .before .before .before .before .before .before .r .given .0 .0 in
-    let at₀ = c .before .before .before .before .before .before .before .before .before .before .before .before .before .before .before .before .before .before .before .before .args .at in
-    let left₀ = c .before .before .before .before .before .before .before .before .before .before .before .before .before .before .before .before .before .before .before .before .args .left in
+    let at₀ = c .before .before .before .before .before .before .before .before .before .before .before .before .before .before .before .before .before .before .before .before .args .cursor .at in
+    let left₀ = c .before .before .before .before .before .before .before .before .before .before .before .before .before .before .before .before .before .before .before .before .args .cursor .left in
     let pre₀ = c .before .before .before .before .before .before .before .before .before .before .before .before .before .before .before .before .before .before .before .before .pre .1 in
     let U = c .before .before .before .before .before .before .before .before .before .before .before .before .before .until .ensures .at _ _ (c .before .before .before .before .before .before .before .before .before .r .given .1) in
     let k₃ : getD w (at₀ + 6) 0 ≡ 3 = sym (c .before .before .before .before .before .before .before .before .before .before .before .before .before .before .before .before .kind .ensures) ∙ c .before .before .before .before .before .before .before .before .before .before .before .before .before .before .before .if2 .left in

@@ -7,8 +7,8 @@ use Rattle.refal_parser.proofs.terms.clause.Statement.{statement}
 use Rattle.refal_parser.proofs.terms.clause.Tie as tie
 
 -- src/terms.rt:177:17
-add-first : tie.Need-add-first
-add-first c = let pre₀ = c .before .before .pre in
+add-row : tie.Need-add-row
+add-row c = let pre₀ = c .before .before .pre in
     let R = pre₀ .0 in let h = pre₀ .1 in omega arith
 
 -- src/terms.rt:178:9
@@ -57,7 +57,7 @@ pub clause-spec : {M : Type 1} → statement M
 clause-spec =
     tie.close
     (tie.spec
-    add-first
+    add-row
     until-requires
     enum-known-r
     enum-told

@@ -12,8 +12,8 @@ use Rattle.refal_parser.proofs.terms.pattern.Statement.{statement}
 use Rattle.refal_parser.proofs.terms.pattern.Tie as tie
 
 -- src/terms.rt:209:17
-add-first : tie.Need-add-first
-add-first c = let pre₀ = c .before .before .pre in
+add-row : tie.Need-add-row
+add-row c = let pre₀ = c .before .before .pre in
     let R = pre₀ .0 in let h = pre₀ .1 in omega arith
 
 -- src/terms.rt:210:9
@@ -55,7 +55,7 @@ same-length-2 c = search needs
 returns-2 : tie.Need-returns-2
 returns-2 c = let w = c .before .before .before .before .before .before .before .before .before .before .before .before .before .before .args .tokens .now in
     let j₁ = c .before .before .before .before .before .before .r .given .0 .0 in
-    let left₀ = c .before .before .before .before .before .before .before .before .before .before .before .before .before .before .args .left in
+    let left₀ = c .before .before .before .before .before .before .before .before .before .before .before .before .before .before .args .cursor .left in
     let T = c .before .before .before .before .before .before .before .before .before .before .terms .ensures .at _ _ (c .before .before .before .before .before .before .r .given .1) in
     record {
       at = λ j m e.
@@ -82,7 +82,7 @@ pub pattern-spec : {M : Type 1} → statement M
 pattern-spec =
     tie.close
     (tie.spec
-    add-first
+    add-row
     terms-requires
     enum-known-r
     enum-told
