@@ -18,7 +18,7 @@ use Rattle.refal_ast.specs.declared.tree.VariableKind.the-variants.{Symbol as k
 use Rattle.refal_ast.specs.declared.tree.Term.{Term}
 use Rattle.refal_parser.specs.Machine.{pickTerm, Begun, Block, body, inCondition, inEnding, Place, pattern, argument, matching, result, ending, inBracket, inCall}
 use Rattle.refal_parser.specs.Machine.{State, outside, wantsName, wantsMore, named, entered, headed, between, within, calling, matched, conditioned, equated, blocked, ended}
-use Rattle.refal_parser.specs.Machine.{tree, refuse, Step, go, made, over, stop, pick, on, opens, closing, only, begun, withCondition, toTerms, functionOf}
+use Rattle.refal_parser.specs.Machine.{tree, refuse, Step, go, made, over, stop, pickStep, onKind, opens, closing, only, begun, withCondition, toTerms, functionOf}
 use Rattle.refal_parser.specs.Machine.{afterPattern, afterTerms, endOf, inTerms, atTerms, leave, step, follow, run}
 use Rattle.refal_demands.proofs.Flats.{flatT, flatC, flatS, flatN, flatS-is, flatN-is}
 use Rattle.refal_demands.proofs.Fields.{Fields, plain, texted, detailed, Ends}
@@ -38,10 +38,10 @@ never : {A : Type 0} (a b c d e : ℕ) (r : Program) → refuse a b c d e ≡ tr
 never a b c d e r q = let z : _≡_ {A = ℕ} 0 1 = cc in let y : ⊥ = omega arith in absurd y
 
 -- by cases on whether a token is of the kind n
-on-cases : (P : Step → Type 0) (k n : ℕ) (x y : Step) → (k ≡ n → P x) → ((k ≡ n → ⊥) → P y) → P (on k n x y)
+on-cases : (P : Step → Type 0) (k n : ℕ) (x y : Step) → (k ≡ n → P x) → ((k ≡ n → ⊥) → P y) → P (onKind k n x y)
 on-cases P k n x y f g = cases (eqb k n) refl
   where
-    cases : (b : Bool) → eqb k n ≡ b → P (pick b x y)
+    cases : (b : Bool) → eqb k n ≡ b → P (pickStep b x y)
     cases true e = f (eqb-true k n e)
     cases false e = g (eqb-false k n e)
 

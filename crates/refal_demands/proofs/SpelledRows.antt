@@ -12,7 +12,7 @@ use Rattle.refal_ast.specs.Kinds.{nodeDeclaration, nodeName, nodeFunction, node
 use Rattle.refal_ast.specs.Kinds.{nodeIdentifier, nodeNumber, nodeChar, nodeVariable, nodeBracket, nodeCall}
 use Rattle.refal_ast.specs.Limits.{mostBytes}
 use Rattle.refal_ast.specs.Nodes.{node, nodesOf}
-use Rattle.refal_ast.specs.Encode.{letterOf, entryWord, leafRow, encTerm, encT, encTerms, encRight, encCondition, encC, encEnd, encSentence, encS, encN, encItem, encP}
+use Rattle.refal_ast.specs.Encode.{letterOf, entryDetail, leafRow, encTerm, encT, encTerms, encRight, encCondition, encC, encEnd, encSentence, encS, encN, encItem, encP}
 use Rattle.refal_ast.specs.Tree.{Leaf, symbol, variable, Term, leaf, bracket, call, Terms, t0, tMore, Right, rTerms, rBlock, Condition, condition, Conditions, c0, cMore}
 use Rattle.refal_ast.specs.Tree.{End, eTerms, eBlock, Sentence, sentence, Sentences, s0, sMore, Names, nOne, nMore, Item, declaration, function, Program, p0, pMore}
 use Rattle.refal_ast.specs.Flatten.{Flat, mark, nameOf, flatLeaf, flatEntry, flattenP}
@@ -161,7 +161,7 @@ module _ (src : List ℕ) (short : length src ≤ mostBytes) where
   spelledItem (function a x s l v b) r h =
       let z = after-entry x (nameOf s l ∷ mark tokLBrace ∷ flatS v (mark tokRBrace ∷ r)) h in
       let p = spelledS v (mark tokRBrace ∷ r) (rest (rest z)) in
-      record { pass = λ n. both (row nodeFunction (entryWord x) s l a b _ (name s l (first z))) (p .pass _); behind = rest (p .behind) }
+      record { pass = λ n. both (row nodeFunction (entryDetail x) s l a b _ (name s l (first z))) (p .pass _); behind = rest (p .behind) }
 
   spelledP : (p : Program) (r : List Flat) → AllSound src (flatP p r) → Part (encP p) r
   unfolding flatP encP

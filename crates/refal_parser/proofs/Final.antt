@@ -9,6 +9,7 @@ use lib.Dec.{leb}
 use borrow.Author.Tests.{le-leb, lt-leb}
 use Rattle.refal_rows.specs.Rows.{pickList}
 use Rattle.refal_rows.specs.Writes.{whole}
+use Rattle.refal_ast.specs.Nodes.{nodeWidth}
 use Rattle.refal_ast.specs.Answers.{refusal, pickAnswer}
 use Rattle.refal_ast.specs.Tokens.{tokensOf}
 use Rattle.refal_ast.specs.Check.{wellFormed}
@@ -36,24 +37,24 @@ pub refused : (w B B' : List ℕ) (r : Answer) (a b c d e : ℕ) → parsed w �
 refused w B B' r a b c d e h q k = (q ∙ sym (ap (λ (o : Outcome). answerOf o B) h), k ∙ sym (ap (λ (o : Outcome). rowsLeft o B) h))
 
 -- the answer and the rows for a tree, by whether it fits
-fitted : (B : List ℕ) (t : Program) (b : Bool) → leb (7 * sizeP t) (length B) ≡ b →
+fitted : (B : List ℕ) (t : Program) (b : Bool) → leb (nodeWidth * sizeP t) (length B) ≡ b →
     (answerOf (tree t) B ≡ pickAnswer b (Done (sizeP t)) (Refused (refusal 38 0 0 0 0 (sizeP t)))) ×
-    (rowsLeft (tree t) B ≡ pickList b (encP t 0 ++ drop (7 * sizeP t) B) (replicate (length B) 0))
+    (rowsLeft (tree t) B ≡ pickList b (encP t 0 ++ drop (nodeWidth * sizeP t) B) (replicate (length B) 0))
 fitted B t b e = (
   ap (λ (x : Bool). pickAnswer x (Done (sizeP t)) (Refused (refusal 38 0 0 0 0 (sizeP t)))) e,
-  ap (λ (x : Bool). pickList x (encP t 0 ++ drop (7 * sizeP t) B) (replicate (length B) 0)) e,
+  ap (λ (x : Bool). pickList x (encP t 0 ++ drop (nodeWidth * sizeP t) B) (replicate (length B) 0)) e,
 )
 
-pub done : (w B B' : List ℕ) (t : Program) (m : ℕ) → parsed w ≡ tree t → m ≡ sizeP t → 7 * m ≤ length B' → length B' ≡ length B → B' ≡ wP t 0 B →
+pub done : (w B B' : List ℕ) (t : Program) (m : ℕ) → parsed w ≡ tree t → m ≡ sizeP t → nodeWidth * m ≤ length B' → length B' ≡ length B → B' ≡ wP t 0 B →
     (Done m ≡ parseAnswer w B) × (B' ≡ parseRows w B)
 done w B B' t m h e l k r =
-    let l' : 7 * sizeP t ≤ length B = omega arith in
-    let z = fitted B t true (le-leb (7 * sizeP t) (length B) l') in
+    let l' : nodeWidth * sizeP t ≤ length B = omega arith in
+    let z = fitted B t true (le-leb (nodeWidth * sizeP t) (length B) l') in
     (ap Done e ∙ sym (ap (λ (o : Outcome). answerOf o B) h ∙ z .0), r ∙ whole B (writesP t 0) l' ∙ sym (ap (λ (o : Outcome). rowsLeft o B) h ∙ z .1))
 
-pub full : (w B B' : List ℕ) (r : Answer) (t : Program) (m : ℕ) → parsed w ≡ tree t → m ≡ sizeP t → length B < 7 * m → r ≡ Refused (refusal 38 0 0 0 0 m) →
+pub full : (w B B' : List ℕ) (r : Answer) (t : Program) (m : ℕ) → parsed w ≡ tree t → m ≡ sizeP t → length B < nodeWidth * m → r ≡ Refused (refusal 38 0 0 0 0 m) →
     B' ≡ replicate (length B) 0 → (r ≡ parseAnswer w B) × (B' ≡ parseRows w B)
 full w B B' r t m h e l q k =
-    let l' : length B < 7 * sizeP t = omega arith in
-    let z = fitted B t false (lt-leb (7 * sizeP t) (length B) l') in
+    let l' : length B < nodeWidth * sizeP t = omega arith in
+    let z = fitted B t false (lt-leb (nodeWidth * sizeP t) (length B) l') in
     (q ∙ ap (λ (x : ℕ). Refused (refusal 38 0 0 0 0 x)) e ∙ sym (ap (λ (o : Outcome). answerOf o B) h ∙ z .0), k ∙ sym (ap (λ (o : Outcome). rowsLeft o B) h ∙ z .1))

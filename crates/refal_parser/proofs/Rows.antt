@@ -8,16 +8,16 @@ use Rattle.refal_ast.specs.Kinds.{nodeDeclaration, nodeFunction, nodeSentence, 
 use Rattle.refal_ast.specs.Tree.{Leaf, symbol, variable, Term, leaf, bracket, call, Terms, t0, tMore, Right, rTerms, rBlock, Condition, condition, Conditions, c0, cMore}
 use Rattle.refal_ast.specs.Tree.{End, eTerms, eBlock, Sentence, sentence, Sentences, s0, sMore, Names, nOne, nMore, Item, declaration, function, Program, p0, pMore}
 use Rattle.refal_ast.specs.Tree.{sizeTerm, sizeT, sizeRight, sizeCondition, sizeC, sizeEnd, sizeSentence, sizeS, sizeN, sizeItem, sizeP}
-use Rattle.refal_ast.specs.Nodes.{node}
-use Rattle.refal_ast.specs.Encode.{leafRow, entryWord, endTerms, encTerm, encT, encTerms, encRight, encCondition, encC, encEnd, encSentence, encS, encN, encItem, encP}
+use Rattle.refal_ast.specs.Nodes.{nodeWidth, node}
+use Rattle.refal_ast.specs.Encode.{leafRow, entryDetail, endTerms, encTerm, encT, encTerms, encRight, encCondition, encC, encEnd, encSentence, encS, encN, encItem, encP}
 use Rattle.refal_ast.specs.declared.tree.Symbol.the-variants.{Char, Identifier, Number}
 use Rattle.refal_parser.specs.Writers.{putNode, spanRow, termsRow, wTerm, wT, wTerms, wRight, wCondition, wC, wEnd, wSentence, wS, wN, wItem, wP}
 
 -- a row that is written alone
-alone : (n : ℕ) (kind detail start len a b next : ℕ) → Writes 7 (λ B. putNode B n (node kind detail start len a b next)) n 1 (node kind detail start len a b next)
-alone n kind detail start len a b next = row (node kind detail start len a b next) refl (none 7 (n + 1))
+alone : (n : ℕ) (kind detail start len a b next : ℕ) → Writes nodeWidth (λ B. putNode B n (node kind detail start len a b next)) n 1 (node kind detail start len a b next)
+alone n kind detail start len a b next = row (node kind detail start len a b next) refl (none nodeWidth (n + 1))
 
-alone-leaf : (x : Leaf) (n a b next : ℕ) → Writes 7 (λ B. putNode B n (leafRow x a b next)) n 1 (leafRow x a b next)
+alone-leaf : (x : Leaf) (n a b next : ℕ) → Writes nodeWidth (λ B. putNode B n (leafRow x a b next)) n 1 (leafRow x a b next)
 alone-leaf (symbol (Char x)) n a b next = alone n 11 x 0 0 a b next
 alone-leaf (symbol (Identifier s l)) n a b next = alone n 9 0 s l a b next
 alone-leaf (symbol (Number s l)) n a b next = alone n 10 0 s l a b next
@@ -26,65 +26,65 @@ alone-leaf (variable v s l) n a b next = alone n 12 _ s l a b next
 mutual
   unfolding wT encT sizeT
 
-  writesTerm : (x : Term) (n : ℕ) → Writes 7 (wTerm x n) n (sizeTerm x) (encTerm x n)
+  writesTerm : (x : Term) (n : ℕ) → Writes nodeWidth (wTerm x n) n (sizeTerm x) (encTerm x n)
   writesTerm (leaf x a b) n = alone-leaf x n a b (n + 1)
   writesTerm (bracket a f b) n = row (spanRow nodeBracket a b (n + 1 + sizeT f)) refl (writesT f (n + 1))
   writesTerm (call a s l f b) n = row (node nodeCall 0 s l a b (n + 1 + sizeT f)) refl (writesT f (n + 1))
 
-  pub writesT : (f : Terms) (n : ℕ) → Writes 7 (wT f n) n (sizeT f) (encT f n)
-  writesT t0 n = none 7 n
+  pub writesT : (f : Terms) (n : ℕ) → Writes nodeWidth (wT f n) n (sizeT f) (encT f n)
+  writesT t0 n = none nodeWidth n
   writesT (tMore f x) n = then (writesT f n) (writesTerm x (n + sizeT f))
 
-writesTerms : (f : Terms) (n : ℕ) → Writes 7 (wTerms f n) n (1 + sizeT f) (encTerms f n)
+writesTerms : (f : Terms) (n : ℕ) → Writes nodeWidth (wTerms f n) n (1 + sizeT f) (encTerms f n)
 writesTerms f n = row (termsRow (endTerms f n)) refl (writesT f (n + 1))
 
 mutual
   unfolding wC encC sizeC
 
-  writesRight : (r : Right) (n : ℕ) → Writes 7 (wRight r n) n (sizeRight r) (encRight r n)
+  writesRight : (r : Right) (n : ℕ) → Writes nodeWidth (wRight r n) n (sizeRight r) (encRight r n)
   writesRight (rTerms f) n = writesTerms f n
   writesRight (rBlock a v b) n = row (spanRow nodeConditionBlock a b (n + 1 + sizeS v)) refl (writesS v (n + 1))
 
-  writesCondition : (x : Condition) (n : ℕ) → Writes 7 (wCondition x n) n (sizeCondition x) (encCondition x n)
+  writesCondition : (x : Condition) (n : ℕ) → Writes nodeWidth (wCondition x n) n (sizeCondition x) (encCondition x n)
   writesCondition (condition a f r b) n =
       sized (omega arith)
       (row (spanRow nodeCondition a b (endTerms f (n + 1) + sizeRight r)) refl
       (then (writesTerms f (n + 1)) (placed (omega arith) (writesRight r (endTerms f (n + 1))))))
 
-  pub writesC : (cs : Conditions) (n : ℕ) → Writes 7 (wC cs n) n (sizeC cs) (encC cs n)
-  writesC c0 n = none 7 n
+  pub writesC : (cs : Conditions) (n : ℕ) → Writes nodeWidth (wC cs n) n (sizeC cs) (encC cs n)
+  writesC c0 n = none nodeWidth n
   writesC (cMore cs x) n = then (writesC cs n) (writesCondition x (n + sizeC cs))
 
-  writesEnd : (x : End) (n : ℕ) → Writes 7 (wEnd x n) n (sizeEnd x) (encEnd x n)
+  writesEnd : (x : End) (n : ℕ) → Writes nodeWidth (wEnd x n) n (sizeEnd x) (encEnd x n)
   writesEnd (eTerms f) n = writesTerms f n
   writesEnd (eBlock a f v b) n =
       sized (omega arith)
       (row (spanRow nodeEndingBlock a b (endTerms f (n + 1) + sizeS v)) refl
       (then (writesTerms f (n + 1)) (placed (omega arith) (writesS v (endTerms f (n + 1))))))
 
-  writesSentence : (x : Sentence) (n : ℕ) → Writes 7 (wSentence x n) n (sizeSentence x) (encSentence x n)
+  writesSentence : (x : Sentence) (n : ℕ) → Writes nodeWidth (wSentence x n) n (sizeSentence x) (encSentence x n)
   writesSentence (sentence a f cs x b) n =
       sized (omega arith)
       (row (spanRow nodeSentence a b (endTerms f (n + 1) + sizeC cs + sizeEnd x)) refl
       (then (writesTerms f (n + 1))
       (placed (omega arith) (then (writesC cs (endTerms f (n + 1))) (writesEnd x (endTerms f (n + 1) + sizeC cs))))))
 
-  pub writesS : (s : Sentences) (n : ℕ) → Writes 7 (wS s n) n (sizeS s) (encS s n)
-  writesS s0 n = none 7 n
+  pub writesS : (s : Sentences) (n : ℕ) → Writes nodeWidth (wS s n) n (sizeS s) (encS s n)
+  writesS s0 n = none nodeWidth n
   writesS (sMore s x) n = then (writesS s n) (writesSentence x (n + sizeS s))
 
-writesN : (ns : Names) (n : ℕ) → Writes 7 (wN ns n) n (sizeN ns) (encN ns n)
+writesN : (ns : Names) (n : ℕ) → Writes nodeWidth (wN ns n) n (sizeN ns) (encN ns n)
 unfolding wN encN sizeN
 writesN (nOne s l) n = alone n 2 0 s l 0 0 (n + 1)
 writesN (nMore ns s l) n = then (writesN ns n) (alone (n + sizeN ns) 2 0 s l 0 0 (n + sizeN ns + 1))
 
-writesItem : (x : Item) (n : ℕ) → Writes 7 (wItem x n) n (sizeItem x) (encItem x n)
+writesItem : (x : Item) (n : ℕ) → Writes nodeWidth (wItem x n) n (sizeItem x) (encItem x n)
 writesItem (declaration a ns b) n = row (spanRow nodeDeclaration a b (n + 1 + sizeN ns)) refl (writesN ns (n + 1))
-writesItem (function a x s l v b) n = row (node nodeFunction (entryWord x) s l a b (n + 1 + sizeS v)) refl (writesS v (n + 1))
+writesItem (function a x s l v b) n = row (node nodeFunction (entryDetail x) s l a b (n + 1 + sizeS v)) refl (writesS v (n + 1))
 
-pub writesP : (p : Program) (n : ℕ) → Writes 7 (wP p n) n (sizeP p) (encP p n)
+pub writesP : (p : Program) (n : ℕ) → Writes nodeWidth (wP p n) n (sizeP p) (encP p n)
 unfolding wP encP sizeP
-writesP p0 n = none 7 n
+writesP p0 n = none nodeWidth n
 writesP (pMore p x) n = then (writesP p n) (writesItem x (n + sizeP p))
 
 -- ---- one more: its rows are put behind the rows B' that those before left

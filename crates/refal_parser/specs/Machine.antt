@@ -127,13 +127,13 @@ pub data Step : Type 0 where
   over : Step
   stop : ℕ → ℕ → ℕ → ℕ → ℕ → Step
 
-abbrev pub pick : Bool → Step → Step → Step
-pick true x y = x
-pick false x y = y
+abbrev pub pickStep : Bool → Step → Step → Step
+pickStep true x y = x
+pickStep false x y = y
 
 -- x at a token of the kind n, else y
-abbrev pub on : ℕ → ℕ → Step → Step → Step
-on k n x y = pick (eqb k n) x y
+abbrev pub onKind : ℕ → ℕ → Step → Step → Step
+onKind k n x y = pickStep (eqb k n) x y
 
 -- ---- refusals. Those of 31 to 34 and 36 find the token taken and show the span x, y of the token after it, or of Eof, which isn't passed;
 -- 35 and 37 find and show the present token
@@ -160,8 +160,8 @@ pub record Closer : Type 0 where
   pub next : Step
 
 abbrev pub closing : ℕ → List Closer → Token → ℕ → ℕ → Step
-closing want [] t x y = on (t .kind) tokEof (expected want t) (noTerm t x y)
-closing want (k ∷ ks) t x y = on (t .kind) (k .kind) (k .next) (closing want ks t x y)
+closing want [] t x y = onKind (t .kind) tokEof (expected want t) (noTerm t x y)
+closing want (k ∷ ks) t x y = onKind (t .kind) (k .kind) (k .next) (closing want ks t x y)
 
 -- the kind wanted, and no other
 abbrev pub only : ℕ → State → List Closer
@@ -220,8 +220,8 @@ functionOf h v e = function (h .from) (h .entry) (h .start) (h .len) v e
 -- ---- after a pattern and conditions: another condition, which "starts at the token after its comma"; or `=`
 abbrev pub afterPattern : ℕ → Block → Begun → Token → ℕ → ℕ → Step → Step
 afterPattern d b r t x y other =
-    on (t .kind) tokComma (go (within d (argument b r x) t0))
-    (on (t .kind) tokEquals (go (equated d b r))
+    onKind (t .kind) tokComma (go (within d (argument b r x) t0))
+    (onKind (t .kind) tokEquals (go (equated d b r))
     other)
 
 -- after pattern terms, Eof is 35 and another kind 34
@@ -259,39 +259,39 @@ leave d (inEnding b r g) v e = go (ended (suc d) b r g v e)
 -- ---- a token t, with the span x, y of the token after it; for each state the kinds in document 01's order
 abbrev pub step : ℕ → State → Token → ℕ → ℕ → Step
 step L outside t x y =
-    on (t .kind) tokEntry (go (entered (t .from)))
-    (on (t .kind) tokExtern (go (wantsName (t .from)))
-    (on (t .kind) tokIdentifier (go (headed (record { from = t .from; entry = false; start = t .start; len = t .len })))
-    (on (t .kind) tokSemicolon (go outside)
-    (on (t .kind) tokEof over
+    onKind (t .kind) tokEntry (go (entered (t .from)))
+    (onKind (t .kind) tokExtern (go (wantsName (t .from)))
+    (onKind (t .kind) tokIdentifier (go (headed (record { from = t .from; entry = false; start = t .start; len = t .len })))
+    (onKind (t .kind) tokSemicolon (go outside)
+    (onKind (t .kind) tokEof over
     (wants 32 t x y)))))
-step L (wantsName a) t x y = on (t .kind) tokIdentifier (go (named a (nOne (t .start) (t .len)))) (wants 31 t x y)
-step L (wantsMore a ns) t x y = on (t .kind) tokIdentifier (go (named a (nMore ns (t .start) (t .len)))) (wants 31 t x y)
+step L (wantsName a) t x y = onKind (t .kind) tokIdentifier (go (named a (nOne (t .start) (t .len)))) (wants 31 t x y)
+step L (wantsMore a ns) t x y = onKind (t .kind) tokIdentifier (go (named a (nMore ns (t .start) (t .len)))) (wants 31 t x y)
 step L (named a ns) t x y =
-    on (t .kind) tokComma (go (wantsMore a ns))
-    (on (t .kind) tokSemicolon (made (declaration a ns (t .to)))
+    onKind (t .kind) tokComma (go (wantsMore a ns))
+    (onKind (t .kind) tokSemicolon (made (declaration a ns (t .to)))
     (expected tokSemicolon t))
 step L (entered a) t x y =
-    on (t .kind) tokIdentifier (go (headed (record { from = a; entry = true; start = t .start; len = t .len }))) (wants 32 t x y)
-step L (headed h) t x y = on (t .kind) tokLBrace (go (between L (body h) s0)) (expected tokLBrace t)
+    onKind (t .kind) tokIdentifier (go (headed (record { from = a; entry = true; start = t .start; len = t .len }))) (wants 32 t x y)
+step L (headed h) t x y = onKind (t .kind) tokLBrace (go (between L (body h) s0)) (expected tokLBrace t)
 step L (between d b s) t x y =
-    on (t .kind) tokRBrace (leave d b s (t .to))
-    (on (t .kind) tokEof (expected tokRBrace t)
+    onKind (t .kind) tokRBrace (leave d b s (t .to))
+    (onKind (t .kind) tokEof (expected tokRBrace t)
     (atTerms d (pattern b s (t .from)) t0 t x y))
 step L (within d c f) t x y = atTerms d c f t x y
 step L (calling d c f a) t x y =
-    on (t .kind) tokIdentifier (go (within d (inCall c f a (t .start) (t .len)) t0)) (wants 33 t x y)
+    onKind (t .kind) tokIdentifier (go (within d (inCall c f a (t .start) (t .len)) t0)) (wants 33 t x y)
 step L (matched d b r o g) t x y =
-    on (t .kind) tokLBrace (opens d t (λ d'. between d' (inCondition b r o g) s0))
+    onKind (t .kind) tokLBrace (opens d t (λ d'. between d' (inCondition b r o g) s0))
     (atTerms d (matching b r o g) t0 t x y)
 step L (conditioned d b r) t x y = afterPattern d b r t x y (expected tokEquals t)
 step L (equated d b r) t x y =
-    on (t .kind) tokComma (go (within d (ending b r) t0))
+    onKind (t .kind) tokComma (go (within d (ending b r) t0))
     (atTerms d (result b r) t0 t x y)
 step L (blocked d b r g) t x y =
-    on (t .kind) tokLBrace (opens d t (λ d'. between d' (inEnding b r g) s0)) (expected tokLBrace t)
+    onKind (t .kind) tokLBrace (opens d t (λ d'. between d' (inEnding b r g) s0)) (expected tokLBrace t)
 step L (ended d b r g v e) t x y =
-    on (t .kind) tokSemicolon (go (between d b (finished r (endBlock g v e) (t .to)))) (expected tokSemicolon t)
+    onKind (t .kind) tokSemicolon (go (between d b (finished r (endBlock g v e) (t .to)))) (expected tokSemicolon t)
 
 -- what a step leads to, after the items p
 abbrev pub follow : Program → Step → (Program → State → Outcome) → Outcome

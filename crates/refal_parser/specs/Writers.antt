@@ -7,7 +7,7 @@ use Rattle.refal_ast.specs.Tree.{Term, leaf, bracket, call, Terms, t0, tMore, R
 use Rattle.refal_ast.specs.Tree.{End, eTerms, eBlock, Sentence, sentence, Sentences, s0, sMore, Names, nOne, nMore, Item, declaration, function, Program, p0, pMore}
 use Rattle.refal_ast.specs.Tree.{sizeT, sizeRight, sizeC, sizeEnd, sizeS, sizeN, sizeP}
 use Rattle.refal_ast.specs.Nodes.{nodeWidth, node}
-use Rattle.refal_ast.specs.Encode.{leafRow, entryWord, endTerms}
+use Rattle.refal_ast.specs.Encode.{leafRow, entryDetail, endTerms}
 
 -- row m put in, where it fits whole
 abbrev pub putNode : List ℕ → ℕ → List ℕ → List ℕ
@@ -71,7 +71,7 @@ wN (nMore ns s l) n B = putNode (wN ns n B) (n + sizeN ns) (nameRow s l (n + siz
 
 abbrev pub wItem : Item → ℕ → List ℕ → List ℕ
 wItem (declaration a ns b) n B = putNode (wN ns (n + 1) B) n (spanRow nodeDeclaration a b (n + 1 + sizeN ns))
-wItem (function a x s l v b) n B = putNode (wS v (n + 1) B) n (node nodeFunction (entryWord x) s l a b (n + 1 + sizeS v))
+wItem (function a x s l v b) n B = putNode (wS v (n + 1) B) n (node nodeFunction (entryDetail x) s l a b (n + 1 + sizeS v))
 
 unfoldable pub wP : Program → ℕ → List ℕ → List ℕ
 wP p0 n B = B

@@ -18,11 +18,10 @@ use crate::tokens::text_len;
 use crate::tokens::text_start;
 use refal_ast::kinds::node;
 use refal_ast::kinds::token;
+use refal_ast::limits;
 
-// The most brackets, calls and blocks that may be open at once; a function's own braces stand outside them.
-const LEVELS: usize = 64;
-
-const BODY: usize = LEVELS + 1;
+// The levels of a function's own braces, which stand outside all that may be open at once.
+const BODY: usize = limits::MOST_LEVELS + 1;
 
 // A name of a declaration, at `at`; its row is row n.
 fn name(tokens: &[u32], rows: &mut [u32], at: usize, n: usize) -> Got

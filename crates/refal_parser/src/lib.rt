@@ -45,7 +45,7 @@ pub fn parse(tokens: &[u32], rows: &mut [u32]) -> Answer
             refused(number, expected, found, start, end, 0)
         }
         Got::At(_, m) => {
-            let words = 7 * m;
+            let words = refal_ast::nodes::WIDTH * m;
             if words <= rows.len() {
                 return Answer::Done(m);
             }

@@ -10,7 +10,7 @@ use Rattle.refal_ast.specs.Kinds.{nodeDeclaration, nodeFunction, nodeSentence, 
 use Rattle.refal_ast.specs.Tree.{Leaf, symbol, variable, Term, leaf, bracket, call, Terms, t0, tMore, Conditions, c0, cMore}
 use Rattle.refal_ast.specs.Tree.{Sentences, s0, sMore, Names, nOne, nMore, declaration, function, Program, p0, pMore}
 use Rattle.refal_ast.specs.Tree.{depthT, depthRight, depthCondition, depthC, depthEnd, depthSentence, depthS, depthP}
-use Rattle.refal_ast.specs.Encode.{entryWord}
+use Rattle.refal_ast.specs.Encode.{entryDetail}
 use Rattle.refal_ast.specs.declared.tree.Symbol.the-variants.{Char, Identifier, Number}
 use Rattle.refal_tree.specs.Forest.{Row, row, Forest, empty, tree}
 use Rattle.refal_tree.specs.States.{atItems, atName, atNames, atSentences, atPattern, atConditions, atCondition, atColon, atTerms, atArgument, closed, stateInside, stateAfter, below, lower}
@@ -322,12 +322,12 @@ item-step _ f g left p (isDeclaration a b) q rest =
 item-step _ f g left p (isFunction x s l a b) q rest =
     let k = sound-S f left s0 (q .kids) in
     let n = rest (pMore p (function a x s l (getS s0 f) b)) (q .rest) in
-    let e : eqb (entryWord x) 1 ≡ x = entry-back x in
+    let e : eqb (entryDetail x) 1 ≡ x = entry-back x in
     record {
       forest =
           ap (λ (y : Bool). forP (getP (pMore p (function a y s l (getS s0 f) b)) g) empty) e
           ∙ n .forest
-          ∙ ap (λ (y : Forest). forP p (tree (row nodeFunction (entryWord x) s l a b) y g)) (k .forest);
+          ∙ ap (λ (y : Forest). forP p (tree (row nodeFunction (entryDetail x) s l a b) y g)) (k .forest);
       deep = λ d. subst (λ (y : Bool). depthP (getP (pMore p (function a y s l (getS s0 f) b)) g) ≤ left) (sym e)
           (let i = k .deep (omega arith) in n .deep (omega arith));
     }

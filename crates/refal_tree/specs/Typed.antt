@@ -6,7 +6,7 @@ use Rattle.refal_ast.specs.Kinds.{nodeDeclaration, nodeName, nodeFunction, node
 use Rattle.refal_ast.specs.Kinds.{nodeNumber, nodeChar, nodeVariable, nodeBracket, nodeCall}
 use Rattle.refal_ast.specs.Tree.{Leaf, symbol, variable, Term, leaf, bracket, call, Terms, t0, tMore, Right, rTerms, rBlock, Condition, condition, Conditions, c0, cMore}
 use Rattle.refal_ast.specs.Tree.{End, eTerms, eBlock, Sentence, sentence, Sentences, s0, sMore, Names, nOne, nMore, Item, declaration, function, Program, p0, pMore}
-use Rattle.refal_ast.specs.Encode.{letterOf, entryWord}
+use Rattle.refal_ast.specs.Encode.{letterOf, entryDetail}
 use Rattle.refal_ast.specs.declared.tree.Symbol.the-variants.{Char, Identifier, Number}
 use Rattle.refal_ast.specs.declared.tree.VariableKind.{VariableKind}
 use Rattle.refal_ast.specs.declared.tree.VariableKind.the-variants.{Symbol as kindS, Term as kindT, Expression as kindE}
@@ -71,7 +71,7 @@ forN (nMore ns s l) g = forN ns (tree (nameR s l) empty g)
 
 abbrev pub forItem : Item → Forest → Forest
 forItem (declaration a ns b) g = tree (plain nodeDeclaration a b) (forN ns empty) g
-forItem (function a x s l v b) g = tree (row nodeFunction (entryWord x) s l a b) (forS v empty) g
+forItem (function a x s l v b) g = tree (row nodeFunction (entryDetail x) s l a b) (forS v empty) g
 
 unfoldable pub forP : Program → Forest → Forest
 forP p0 g = g

@@ -10,7 +10,7 @@ use Rattle.refal_ast.specs.Kinds.{nodeSentence}
 use Rattle.refal_ast.specs.Tree.{Leaf, symbol, variable, Term, leaf, bracket, call, Terms, t0, tMore, Right, rTerms, rBlock, Condition, condition, Conditions, c0, cMore}
 use Rattle.refal_ast.specs.Tree.{End, eTerms, eBlock, Sentence, sentence, Sentences, s0, sMore, Names, nOne, nMore, Item, declaration, function, Program, p0, pMore}
 use Rattle.refal_ast.specs.Tree.{depthTerm, depthT, depthRight, depthCondition, depthC, depthEnd, depthSentence, depthS, depthItem, depthP}
-use Rattle.refal_ast.specs.Encode.{entryWord}
+use Rattle.refal_ast.specs.Encode.{entryDetail}
 use Rattle.refal_ast.specs.declared.tree.Symbol.the-variants.{Char, Identifier, Number}
 use Rattle.refal_ast.specs.declared.tree.VariableKind.the-variants.{Symbol as kindS, Term as kindT, Expression as kindE}
 use Rattle.refal_tree.specs.Forest.{Row, row, Forest, empty, tree}
@@ -117,7 +117,7 @@ unfolding forN okG
 ok-Ns (nOne s l) left g = refl
 ok-Ns (nMore ns s l) left g = ok-Ns ns left (tree (nameR s l) empty g)
 
-ok-function : (x : Bool) (left s l a b : ℕ) → rowOk atItems left (row nodeFunction (entryWord x) s l a b) ≡ true
+ok-function : (x : Bool) (left s l a b : ℕ) → rowOk atItems left (row nodeFunction (entryDetail x) s l a b) ≡ true
 ok-function true left s l a b = refl
 ok-function false left s l a b = refl
 
@@ -125,7 +125,7 @@ ok-item : (x : Item) (left : ℕ) (g : Forest) → depthItem x ≤ left → okG 
 unfolding okG
 ok-item (declaration a ns b) left g h = ok-tree atItems left (plain nodeDeclaration a b) (forN ns empty) g refl (ok-Ns ns left empty)
 ok-item (function a x s l v b) left g h =
-    ok-tree atItems left (row nodeFunction (entryWord x) s l a b) (forS v empty) g (ok-function x left s l a b) (ok-S v left empty h)
+    ok-tree atItems left (row nodeFunction (entryDetail x) s l a b) (forS v empty) g (ok-function x left s l a b) (ok-S v left empty h)
 
 ok-P : (p : Program) (left : ℕ) (g : Forest) → depthP p ≤ left → okG atItems left (forP p g) ≡ okG atItems left g
 unfolding forP depthP
@@ -195,7 +195,7 @@ unfolding forN getN getNs
 back-N (nOne s l) g = refl
 back-N (nMore ns s l) g = back-N ns (tree (nameR s l) empty g)
 
-pub entry-back : (x : Bool) → eqb (entryWord x) 1 ≡ x
+pub entry-back : (x : Bool) → eqb (entryDetail x) 1 ≡ x
 entry-back true = refl
 entry-back false = refl
 

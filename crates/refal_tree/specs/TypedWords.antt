@@ -7,7 +7,7 @@ use Rattle.refal_ast.specs.Kinds.{nodeDeclaration, nodeFunction, nodeSentence, 
 use Rattle.refal_ast.specs.Tree.{Leaf, symbol, variable, Term, leaf, bracket, call, Terms, t0, tMore, Right, rTerms, rBlock, Condition, condition, Conditions, c0, cMore}
 use Rattle.refal_ast.specs.Tree.{End, eTerms, eBlock, Sentence, sentence, Sentences, s0, sMore, Names, nOne, nMore, Item, declaration, function, Program, p0, pMore}
 use Rattle.refal_ast.specs.Tree.{sizeTerm, sizeT, sizeRight, sizeCondition, sizeC, sizeEnd, sizeSentence, sizeS, sizeN, sizeItem, sizeP}
-use Rattle.refal_ast.specs.Encode.{entryWord, leafRow, endTerms, encTerm, encT, encTerms, encRight, encCondition, encC, encEnd, encSentence, encS, encN, encItem, encP}
+use Rattle.refal_ast.specs.Encode.{entryDetail, leafRow, endTerms, encTerm, encT, encTerms, encRight, encCondition, encC, encEnd, encSentence, encS, encN, encItem, encP}
 use Rattle.refal_ast.specs.declared.tree.Symbol.the-variants.{Char, Identifier, Number}
 use Rattle.refal_tree.specs.Forest.{Row, row, Forest, empty, tree, sizeG, rowWords, encG}
 use Rattle.refal_tree.specs.Typed.{leafR, plain, forTerm, forT, forTerms, forRight, forCondition, forC, forEnd, forSentence, forS, nameR, forN, forItem, forP, toForest}
@@ -116,7 +116,7 @@ part-N (nMore ns s l) n = part-then (part-N ns n) refl (part-leaf (nameR s l) (n
 
 part-item : (x : Item) (n : ℕ) → Part (forItem x) n (sizeItem x) (encItem x n)
 part-item (declaration a ns b) n = part-row (plain nodeDeclaration a b) refl refl (part-N ns (n + 1))
-part-item (function a x s l v b) n = part-row (row nodeFunction (entryWord x) s l a b) refl refl (part-S v (n + 1))
+part-item (function a x s l v b) n = part-row (row nodeFunction (entryDetail x) s l a b) refl refl (part-S v (n + 1))
 
 pub part-P : (p : Program) (n : ℕ) → Part (forP p) n (sizeP p) (encP p n)
 unfolding forP sizeP encP

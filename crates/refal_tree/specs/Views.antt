@@ -8,7 +8,7 @@ use borrow.Author.Tests.{eqb-true, eqb-false, leb-true}
 use Rattle.refal_rows.specs.Tests.{and-left, and-right}
 use Rattle.refal_ast.specs.Kinds.{nodeDeclaration, nodeName, nodeFunction, nodeSentence, nodeCondition, nodeTerms, nodeEndingBlock, nodeConditionBlock, nodeIdentifier, nodeNumber, nodeChar, nodeVariable, nodeBracket, nodeCall}
 use Rattle.refal_ast.specs.Tree.{Leaf, symbol, variable}
-use Rattle.refal_ast.specs.Encode.{entryWord, letterOf}
+use Rattle.refal_ast.specs.Encode.{entryDetail, letterOf}
 use Rattle.refal_ast.specs.declared.tree.Symbol.the-variants.{Char, Identifier, Number}
 use Rattle.refal_ast.specs.declared.tree.VariableKind.{VariableKind}
 use Rattle.refal_ast.specs.declared.tree.VariableKind.the-variants.{Symbol as kindS, Term as kindT, Expression as kindE}
@@ -28,7 +28,7 @@ pub data TermRow : Row → Type 0 where
 
 pub data ItemRow : Row → Type 0 where
   isDeclaration : (a b : ℕ) → ItemRow (plain nodeDeclaration a b)
-  isFunction : (x : Bool) (s l a b : ℕ) → ItemRow (row nodeFunction (entryWord x) s l a b)
+  isFunction : (x : Bool) (s l a b : ℕ) → ItemRow (row nodeFunction (entryDetail x) s l a b)
 
 pub data NameRow : Row → Type 0 where
   isName : (s l : ℕ) → NameRow (nameR s l)
@@ -88,10 +88,10 @@ letter-is d h = go (eqb d 115) (eqb d 116) (eqb d 101) refl refl refl h
     go false false true ex ey ez h = (kindE, eqb-true d 101 ez)
     go false false false ex ey ez h = never h
 
-entry-is : (d : ℕ) → d ≤ 1 → (x : Bool) × (d ≡ entryWord x)
+entry-is : (d : ℕ) → d ≤ 1 → (x : Bool) × (d ≡ entryDetail x)
 entry-is d h = go (eqb d 1) refl
   where
-    go : (b : Bool) → eqb d 1 ≡ b → (x : Bool) × (d ≡ entryWord x)
+    go : (b : Bool) → eqb d 1 ≡ b → (x : Bool) × (d ≡ entryDetail x)
     go true e = (true, eqb-true d 1 e)
     go false e = let n : (d ≡ 1 → ⊥) = eqb-false d 1 e in (false, (let z : d ≡ 0 = omega arith in z))
 
@@ -125,7 +125,7 @@ module _ (r : Row) where
   function-is : r .kind ≡ 3 → Fields 3 → ItemRow r
   function-is e h =
       let q = entry-is (r .detail) (leb-true (r .detail) 1 (and-left (leb (r .detail) 1) true h)) in
-      subst ItemRow (sym (row-is r 3 (entryWord (q .0)) (r .start) (r .len) (r .from) (r .to) e (q .1) refl refl refl refl)) (isFunction (q .0) (r .start) (r .len) (r .from) (r .to))
+      subst ItemRow (sym (row-is r 3 (entryDetail (q .0)) (r .start) (r .len) (r .from) (r .to) e (q .1) refl refl refl refl)) (isFunction (q .0) (r .start) (r .len) (r .from) (r .to))
 
   -- a row of the kind k, with a text and a span
   texted-is : (k : ℕ) → r .kind ≡ k → eqb (r .detail) 0 && true ≡ true → r ≡ row k 0 (r .start) (r .len) (r .from) (r .to)
@@ -172,7 +172,7 @@ only k n x h = on-cases k n x wrong h (λ e. e) never
 module _ {left : ℕ} {r : Row} where
   pub item-row : Kept atItems left r → ItemRow r
   item-row p =
-      on-cases (r .kind) 1 atItems (onState (r .kind) 3 atItems wrong) (p .fit)
+      on-cases (r .kind) nodeDeclaration atItems (onState (r .kind) nodeFunction atItems wrong) (p .fit)
       (λ e. go r (plain-is r nodeDeclaration e (at r (p .good) nodeDeclaration e)))
       (λ h. let e = only (r .kind) nodeFunction atItems h in function-is r e (at r (p .good) nodeFunction e))
     where
@@ -199,9 +199,9 @@ module _ {left : ℕ} {r : Row} where
 
   pub tail-row : Kept atConditions left r → TailRow r
   tail-row p =
-      on-cases (r .kind) 5 atConditions (onState (r .kind) 6 closed (onState (r .kind) 7 closed wrong)) (p .fit)
+      on-cases (r .kind) nodeCondition atConditions (onState (r .kind) nodeTerms closed (onState (r .kind) nodeEndingBlock closed wrong)) (p .fit)
       (λ e. five r (plain-is r nodeCondition e (at r (p .good) nodeCondition e)))
-      (λ h. on-cases (r .kind) 6 closed (onState (r .kind) 7 closed wrong) h
+      (λ h. on-cases (r .kind) nodeTerms closed (onState (r .kind) nodeEndingBlock closed wrong) h
       (λ e. six r (terms-is r e (at r (p .good) nodeTerms e)))
       (λ h. let e = only (r .kind) nodeEndingBlock closed h in seven r (plain-is r nodeEndingBlock e (at r (p .good) nodeEndingBlock e))))
     where
@@ -216,7 +216,7 @@ module _ {left : ℕ} {r : Row} where
 
   pub right-row : Kept atColon left r → RightRow r
   right-row p =
-      on-cases (r .kind) 6 closed (onState (r .kind) 8 closed wrong) (p .fit)
+      on-cases (r .kind) nodeTerms closed (onState (r .kind) nodeConditionBlock closed wrong) (p .fit)
       (λ e. six r (terms-is r e (at r (p .good) nodeTerms e)))
       (λ h. let e = only (r .kind) nodeConditionBlock closed h in eight r (plain-is r nodeConditionBlock e (at r (p .good) nodeConditionBlock e)))
     where
@@ -234,11 +234,11 @@ module _ {left : ℕ} {r : Row} where
       let c12 : ℕ = onState k nodeVariable atTerms c13 in
       let c11 : ℕ = onState k nodeChar atTerms c12 in
       let c10 : ℕ = onState k nodeNumber atTerms c11 in
-      on-cases k 9 atTerms c10 (term-on k ∙ p .fit)
-      (λ e. subst TermRow (sym (texted-is r 9 e (at r (p .good) nodeIdentifier e))) (isLeaf (symbol (Identifier (r .start) (r .len))) (r .from) (r .to)))
-      (λ h. on-cases k 10 atTerms c11 h
-      (λ e. subst TermRow (sym (texted-is r 10 e (at r (p .good) nodeNumber e))) (isLeaf (symbol (Number (r .start) (r .len))) (r .from) (r .to)))
-      (λ h. on-cases k 11 atTerms c12 h (λ e. char-is r e (at r (p .good) nodeChar e))
-      (λ h. on-cases k 12 atTerms c13 h (λ e. variable-is r e (at r (p .good) nodeVariable e))
-      (λ h. on-cases k 13 atTerms c14 h (λ e. plain-term r (plain-is r nodeBracket e (at r (p .good) nodeBracket e)))
-      (λ h. let e = only k 14 atTerms h in subst TermRow (sym (texted-is r 14 e (at r (p .good) nodeCall e))) (isCall (r .start) (r .len) (r .from) (r .to)))))))
+      on-cases k nodeIdentifier atTerms c10 (term-on k ∙ p .fit)
+      (λ e. subst TermRow (sym (texted-is r nodeIdentifier e (at r (p .good) nodeIdentifier e))) (isLeaf (symbol (Identifier (r .start) (r .len))) (r .from) (r .to)))
+      (λ h. on-cases k nodeNumber atTerms c11 h
+      (λ e. subst TermRow (sym (texted-is r nodeNumber e (at r (p .good) nodeNumber e))) (isLeaf (symbol (Number (r .start) (r .len))) (r .from) (r .to)))
+      (λ h. on-cases k nodeChar atTerms c12 h (λ e. char-is r e (at r (p .good) nodeChar e))
+      (λ h. on-cases k nodeVariable atTerms c13 h (λ e. variable-is r e (at r (p .good) nodeVariable e))
+      (λ h. on-cases k nodeBracket atTerms c14 h (λ e. plain-term r (plain-is r nodeBracket e (at r (p .good) nodeBracket e)))
+      (λ h. let e = only k nodeCall atTerms h in subst TermRow (sym (texted-is r nodeCall e (at r (p .good) nodeCall e))) (isCall (r .start) (r .len) (r .from) (r .to)))))))
