@@ -10,57 +10,44 @@ use borrow.Author.Needs.{needs}
 use Rattle.refal_parser.proofs.parse.Statement.{statement}
 use Rattle.refal_parser.proofs.parse.Tie as tie
 
--- src/lib.rt:36:9
 check-requires : tie.Need-check-requires
 check-requires c κs = search needs
 
--- src/lib.rt:37:9
 clear-requires : tie.Need-clear-requires
 clear-requires c κs = search needs
 
--- src/lib.rt:38:9
 refused-requires : tie.Need-refused-requires
 refused-requires c κs = search needs
 
--- src/lib.rt:38:9
 same-length : tie.Need-same-length
 same-length c = search needs
 
--- src/lib.rt:38:9
 returns : tie.Need-returns
 returns c = let w = c .before .before .before .before .before .before .before .before .before .args .tokens .now in
     let b₀ = c .before .before .before .before .before .before .before .before .before .args .rows .now in
     refused w b₀ _ _ _ _ _ _ _ (parsed-bad _ (sym (c .before .before .before .before .before .before .check .ensures) ∙ not-true _ (c .before .before .before .before .before .if1 .taken))) (c .refused .ensures) (c .before .before .before .clear .ensures)
 
--- src/lib.rt:40:11
 program-requires : tie.Need-program-requires
 program-requires c κs = well-ready _ (sym (c .before .before .check .ensures) ∙ not-false _ (c .before .if1 .left))
 
--- src/lib.rt:41:26
 enum-known-number : tie.Need-enum-known-number
 enum-known-number c = search needs
 
--- src/lib.rt:42:13
 clear-requires-2 : tie.Need-clear-requires-2
 clear-requires-2 c κs = search needs
 
--- src/lib.rt:43:13
 refused-requires-2 : tie.Need-refused-requires-2
 refused-requires-2 c κs = search needs
 
--- src/lib.rt:45:29
 enum-known-m : tie.Need-enum-known-m
 enum-known-m c = search needs
 
--- src/lib.rt:46:25
 mul-words : tie.Need-mul-words
 mul-words c = let p = c .before .before .before .before .before .program .ensures .at _ _ (c .before .m .given .1) in let v = p .few in omega arith
 
--- src/lib.rt:48:17
 same-length-2 : tie.Need-same-length-2
 same-length-2 c = search needs
 
--- src/lib.rt:48:17
 returns-2 : tie.Need-returns-2
 returns-2 c = let w = c .before .before .before .before .before .before .before .before .before .before .before .before .args .tokens .now in
     let b₀ = c .before .before .before .before .before .before .before .before .before .before .before .before .args .rows .now in
@@ -68,19 +55,15 @@ returns-2 c = let w = c .before .before .before .before .before .before .before 
     done w b₀ _ (p .t) _ (parsed-good _ (sym (c .before .before .before .before .before .before .before .before .before .check .ensures) ∙ not-false _ (c .before .before .before .before .before .before .before .before .if1 .left))
     ∙ p .means) (p .count) (c .if2 .taken) (c .before .before .before .before .before .before .program .kept .1 .0) (p .rows)
 
--- src/lib.rt:50:13
 clear-requires-3 : tie.Need-clear-requires-3
 clear-requires-3 c κs = search needs
 
--- src/lib.rt:51:13
 refused-requires-3 : tie.Need-refused-requires-3
 refused-requires-3 c κs = search needs
 
--- src/lib.rt:32:1
 same-length-3 : tie.Need-same-length-3
 same-length-3 c = search needs
 
--- src/lib.rt:32:1
 returns-3 : tie.Need-returns-3
 returns-3 c = let w = c .before .before .before .before .before .before .before .before .before .before .before .before .before .before .before .before .args .tokens .now in
     let b₀ = c .before .before .before .before .before .before .before .before .before .before .before .before .before .before .before .before .args .rows .now in
@@ -88,11 +71,9 @@ returns-3 c = let w = c .before .before .before .before .before .before .before 
     ∙ c .before .before .before .before .before .before .before .before .before .before .program .ensures .no _ _ _ _ _ (c .before .before .before .before .before .before .number .given .1)) (c .refused2 .ensures) (c .before .before .before .clear2 .ensures
     ∙ ap (λ (n : ℕ). replicate n 0) (c .before .before .before .before .before .before .before .before .before .before .program .kept .1 .0))
 
--- src/lib.rt:32:1
 same-length-4 : tie.Need-same-length-4
 same-length-4 c = search needs
 
--- src/lib.rt:32:1
 returns-4 : tie.Need-returns-4
 returns-4 c = let w = c .before .before .before .before .before .before .before .before .before .before .before .before .before .before .before .before .before .args .tokens .now in
     let b₀ = c .before .before .before .before .before .before .before .before .before .before .before .before .before .before .before .before .before .args .rows .now in

@@ -5,35 +5,27 @@ use borrow.Author.Needs.{needs}
 use Rattle.refal_parser.proofs.answers.taken.Statement.{statement}
 use Rattle.refal_parser.proofs.answers.taken.Tie as tie
 
--- src/answers.rt:20:9
 kind-requires : tie.Need-kind-requires
 kind-requires c κs = search needs
 
--- src/answers.rt:22:41
 span-from-requires : tie.Need-span-from-requires
 span-from-requires c κs = search needs
 
--- src/answers.rt:22:64
 span-to-requires : tie.Need-span-to-requires
 span-to-requires c κs = search needs
 
--- src/answers.rt:22:9
 returns : tie.Need-returns
 returns c = let k = sym (c .before .before .before .kind .ensures) ∙ c .before .before .if1 .taken in let f = from-eof _ _ (c .before .before .before .before .before .pre) k in let t = to-eof _ _ (c .before .before .before .before .before .pre) k in cc
 
--- src/answers.rt:24:16
 add-next : tie.Need-add-next
 add-next c = search needs
 
--- src/answers.rt:25:30
 span-from-requires-2 : tie.Need-span-from-requires-2
 span-from-requires-2 c κs = ready-next _ _ (c .before .before .before .pre) (λ e. c .if1 .left (c .before .kind .ensures ∙ e))
 
--- src/answers.rt:25:55
 span-to-requires-2 : tie.Need-span-to-requires-2
 span-to-requires-2 c κs = ready-next _ _ (c .before .before .before .before .pre) (λ e. c .before .if1 .left (c .before .before .kind .ensures ∙ e))
 
--- src/answers.rt:16:1
 returns-2 : tie.Need-returns-2
 returns-2 c = let r = ready-next _ _ (c .before .before .before .before .before .pre) (λ e. c .before .before .if1 .left (c .before .before .before .kind .ensures ∙ e)) in let f = from-next _ _ r in let t = to-next _ _ r in cc
 

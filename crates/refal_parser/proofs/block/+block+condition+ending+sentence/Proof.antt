@@ -1,18 +1,18 @@
 -- `refal_parser::block::block`, `refal_parser::block::condition`, `refal_parser::block::ending`, `refal_parser::block::sentence` meet their contracts: conditions, sentences and blocks as the machine reads them; the falling number is the depth left with the tokens left.
-use mathlib.Core.Path.{_≡_, refl, sym, ap, _∙_}
+use mathlib.Core.Path.{_≡_, refl, sym, _∙_}
 use Prim.Native.Nat.{ℕ, _+_, _-_, _<_}
 use native.Mathlib.Omega.{arith}
 use lib.ListN.{length, getD}
-use Rattle.refal_ast.specs.Tree.{Terms, c0, cMore, eTerms, sentence as theSentence, s0, sMore, sizeC, sizeS}
-use Rattle.refal_parser.specs.Machine.{pattern as inPattern, argument, matching, result, ending as inArgument, inCondition, inEnding, between, matched, conditioned, blocked, ended, lastEnd}
-use Rattle.refal_parser.specs.Machine.{asked, begun, withCondition, toTerms, toBlock, endBlock, finished}
+use Rattle.refal_ast.specs.Tree.{Terms, c0, s0, sizeC, sizeS}
+use Rattle.refal_parser.specs.Machine.{pattern as inPattern, between}
+use Rattle.refal_parser.specs.Machine.{begun}
 use Rattle.refal_parser.specs.Writers.{wC, wS}
 use Rattle.refal_parser.specs.PostBlock.{CondsInv, BlockInv}
 use Rattle.refal_parser.proofs.TokenLaws.{ready-next, end-before}
-use Rattle.refal_parser.proofs.Rows.{block-condition, terms-condition, block-ending, terms-ending, whole-sentence, more-conditions, more-sentences}
-use Rattle.refal_parser.proofs.Rows.{size-block-condition, size-terms-condition, size-block-ending, size-terms-ending, size-sentence, size-conditions, size-sentences}
-use Rattle.refal_parser.proofs.Steps.{is-at, is-no, other, leveled, moved, open-none, open-some, cond-start, cond-equals, match-block, match-terms}
-use Rattle.refal_parser.proofs.Steps.{end-terms, end-start, end-block, end-unopened, end-closed, end-unclosed, block-close, block-eof, block-more}
+use Rattle.refal_parser.proofs.Steps.{is-at, is-no, other, open-none, open-some}
+use Rattle.refal_parser.proofs.BlockLaws.{theArgument, argument-no, block-no, follow-no, condition-of-block, pattern-no, condition-of-terms, condition-no, ending-no, sentence-of-parts, one-condition, sentence-no, one-sentence, block-of-sentences}
+use Rattle.refal_parser.proofs.BlockLaws.{end-argument-no, end-argued, end-block-no, end-blocked, ending-of-block, end-terms-no, ending-of-terms}
+use Rattle.refal_parser.proofs.Steps.{end-unopened, end-unclosed, block-eof}
 use borrow.Author.Needs.{needs}
 use borrow.Fn.Kinds.{In}
 use borrow.Fn.PlainCycle.{Measures, is, falls, and}
@@ -138,49 +138,22 @@ block-sentence-requires t c κs = let pre₀ = c .before .before .before .before
 
 block-returns-3 : (t : ℕ) → block-lts.Need-returns-3 (block-claims t) (block-at t) block.Post block-Inv-loop block-μ-loop
 block-returns-3 t c = let I = c .before .before .before .before .before .before .before .before .before .before .loop .inv in
-    is-no (c .enum-told .given .1) (λ b p. I .means b p ∙ block-more _ _ (I .ready) _ b (I .v) (λ e. c .before .before .before .before .before .before .before .before .if2 .taken (c .before .before .before .before .before .before .before .before .before .kind .ensures
-    ∙ e)) (λ e. c .before .before .before .before .before .before .if3 .left (c .before .before .before .before .before .before .before .kind2 .ensures ∙ e)) p ∙ c .before .before .before .before .sentence .ensures .no _ _ _ _ _ (c .enum-told .given .1) b (I .v) p)
+    is-no (c .enum-told .given .1) (sentence-no I (λ e. c .before .before .before .before .before .before .before .before .if2 .taken (c .before .before .before .before .before .before .before .before .before .kind .ensures ∙ e)) (λ e. c .before .before .before .before .before .before .if3 .left (c .before .before .before .before .before .before .before .kind2 .ensures ∙ e))
+    (c .before .before .before .before .sentence .ensures .no _ _ _ _ _ (c .enum-told .given .1)))
 
 block-loop-less : (t : ℕ) → block-lts.Need-loop-less (block-claims t) (block-at t) block.Post block-Inv-loop block-μ-loop
 block-loop-less t c = let S = c .before .before .before .before .before .sentence .ensures .at _ _ (c .before .r .given .1) in let R = S .ready in let q = S .on in omega arith
 
 block-loop-again : (t : ℕ) → block-lts.Need-loop-again (block-claims t) (block-at t) block.Post block-Inv-loop block-μ-loop
-block-loop-again t c = let w = c .before .before .before .before .before .before .before .before .before .before .before .before .before .before .before .args .tokens .now in
-    let i₀ = c .before .before .before .before .before .before .before .before .before .before .before .loop .i in
-    let I = c .before .before .before .before .before .before .before .before .before .before .before .loop .inv in
+block-loop-again t c = let I = c .before .before .before .before .before .before .before .before .before .before .before .loop .inv in
     let S = c .before .before .before .before .before .sentence .ensures .at _ _ (c .before .r .given .1) in
-    record {
-      v = sMore (I .v) (S .x);
-      ready = S .ready;
-      on = let h = S .on in let g = I .on in omega arith;
-      few = S .few;
-      same = c .before .before .before .before .before .sentence .kept .1 .0 ∙ I .same;
-      rows = more-sentences _ _ (I .v) (S .x) (I .count) (I .rows) (S .rows);
-      count = size-sentences _ (I .v) (S .x) (I .count) (S .count);
-      means = λ b p. I .means b p ∙ block-more _ _ (I .ready) _ b (I .v) (λ e. c .before .before .before .before .before .before .before .before .before .if2 .taken (c .before .before .before .before .before .before .before .before .before .before .kind .ensures
-          ∙ e)) (λ e. c .before .before .before .before .before .before .before .if3 .left (c .before .before .before .before .before .before .before .before .kind2 .ensures ∙ e)) p ∙ S .means b (I .v) p;
-    }
+    one-sentence I (λ e. c .before .before .before .before .before .before .before .before .before .if2 .taken (c .before .before .before .before .before .before .before .before .before .before .kind .ensures ∙ e)) (λ e. c .before .before .before .before .before .before .before .if3 .left (c .before .before .before .before .before .before .before .before .kind2 .ensures ∙ e)) (c .before .before .before .before .before .sentence .kept .1 .0) S
 
 block-add-next : (t : ℕ) → block-lts.Need-add-next (block-claims t) (block-at t) block.Post block-Inv-loop block-μ-loop
 block-add-next t c = let I = c .before .before .loop .inv in let R = I .ready in omega arith
 
 block-returns-4 : (t : ℕ) → block-lts.Need-returns-4 (block-claims t) (block-at t) block.Post block-Inv-loop block-μ-loop
-block-returns-4 t c = let w = c .before .before .before .before .before .before .args .tokens .now in
-    let i₀ = c .before .before .loop .i in
-    let I = c .before .before .loop .inv in
-    let k₈ : getD w i₀ 0 ≡ 8 = sym (c .before .kind .ensures) ∙ c .if2 .left in
-    is-at refl (record {
-      v = I .v;
-      e = getD w (i₀ + 5) 0;
-      some = c .before .before .before .if1 .left;
-      ready = ready-next _ _ (I .ready) (other _ _ _ k₈ refl);
-      on = let g = I .on in omega arith;
-      few = let v = I .few in omega arith;
-      rows = I .rows;
-      count = I .count;
-      last = end-before w i₀;
-      means = λ b p. I .means b p ∙ block-close _ _ (I .ready) _ b (I .v) k₈ p;
-    })
+block-returns-4 t c = is-at refl (block-of-sentences (c .before .before .before .if1 .left) (c .before .before .loop .inv) (sym (c .before .kind .ensures) ∙ c .if2 .left))
 
 condition-add-start : (t : ℕ) → condition-lts.Need-add-start (condition-claims t) (condition-at t) condition.Post
 condition-add-start t c = let pre₀ = c .before .before .pre .1 in
@@ -199,12 +172,8 @@ condition-clause-requires t c κs = let pre₀ = c .before .before .before .befo
     let h = pre₀ .1 in ((ready-next _ _ (pre₀ .0) (other _ _ _ (pre₀ .2) refl)), omega arith, omega arith)
 
 condition-returns : (t : ℕ) → condition-lts.Need-returns (condition-claims t) (condition-at t) condition.Post
-condition-returns t c = let w = c .before .before .before .before .before .before .before .before .before .args .tokens .now in
-    let at₀ = c .before .before .before .before .before .before .before .before .before .args .cursor .at in
-    let left₀ = c .before .before .before .before .before .before .before .before .before .args .cursor .left in
-    let pre₀ = c .before .before .before .before .before .before .before .before .before .pre .1 in
-    is-no (c .enum-told .given .1) (λ b r p. cond-start _ _ (pre₀ .0) _ b r (ready-next _ _ (pre₀ .0) (other _ _ _ (pre₀ .2) refl)) (pre₀ .2) p
-    ∙ c .before .before .before .before .clause .ensures .no _ _ _ _ _ (c .enum-told .given .1) (argument b r (getD w (at₀ + 6 + 4) 0)) (λ (g : Terms) (a e : ℕ). matched left₀ b r (getD w (at₀ + 6 + 4) 0) (asked g a e)) (λ h t y z. refl) p)
+condition-returns t c = let pre₀ = c .before .before .before .before .before .before .before .before .before .pre .1 in
+    is-no (c .enum-told .given .1) (argument-no (pre₀ .0) (pre₀ .2) (c .before .before .before .before .clause .ensures .no _ _ _ _ _ (c .enum-told .given .1)))
 
 condition-kind-requires : (t : ℕ) → condition-lts.Need-kind-requires (condition-claims t) (condition-at t) condition.Post
 condition-kind-requires t c κs = let K = c .before .before .before .before .before .clause .ensures .at _ _ (c .before .r .given .1) in K .closed .ready
@@ -224,17 +193,9 @@ condition-block-requires t c κs = let w = c .before .before .before .before .be
     let k₇ : getD w j₁ 0 ≡ 7 = sym (c .before .before .kind .ensures) ∙ c .before .if1 .taken in let g = pre₀ .0 in (omega arith, (R, omega arith, k₇))
 
 condition-returns-2 : (t : ℕ) → condition-lts.Need-returns-2 (condition-claims t) (condition-at t) condition.Post
-condition-returns-2 t c = let w = c .before .before .before .before .before .before .before .before .before .before .before .before .before .before .before .before .before .before .args .tokens .now in
-    let j₁ = c .before .before .before .before .before .before .before .before .before .r .given .0 .0 in
-    let at₀ = c .before .before .before .before .before .before .before .before .before .before .before .before .before .before .before .before .before .before .args .cursor .at in
-    let left₀ = c .before .before .before .before .before .before .before .before .before .before .before .before .before .before .before .before .before .before .args .cursor .left in
-    let pre₀ = c .before .before .before .before .before .before .before .before .before .before .before .before .before .before .before .before .before .before .pre .1 in
+condition-returns-2 t c = let pre₀ = c .before .before .before .before .before .before .before .before .before .before .before .before .before .before .before .before .before .before .pre .1 in
     let K = c .before .before .before .before .before .before .before .before .before .before .before .before .before .clause .ensures .at _ _ (c .before .before .before .before .before .before .before .before .before .r .given .1) in
-    let k₇ : getD w j₁ 0 ≡ 7 = sym (c .before .before .before .before .before .before .before .kind .ensures) ∙ c .before .before .before .before .before .before .if1 .taken in
-    is-no (c .enum-told2 .given .1) (λ b r p. cond-start _ _ (pre₀ .0) _ b r (ready-next _ _ (pre₀ .0) (other _ _ _ (pre₀ .2) refl)) (pre₀ .2) p
-    ∙ K .closed .means (argument b r (getD w (at₀ + 6 + 4) 0)) (λ (g : Terms) (a e : ℕ). matched left₀ b r (getD w (at₀ + 6 + 4) 0) (asked g a e)) (λ h t y z. refl) p
-    ∙ match-block _ _ (K .closed .ready) _ b r (getD w (at₀ + 6 + 4) 0) (asked (K .g) (K .closed .a) (K .closed .e)) k₇ p
-    ∙ c .before .before .before .before .block .ensures .no _ _ _ _ _ (c .enum-told2 .given .1) (inCondition b r (getD w (at₀ + 6 + 4) 0) (asked (K .g) (K .closed .a) (K .closed .e))) p)
+    is-no (c .enum-told2 .given .1) (block-no (pre₀ .0) (pre₀ .2) _ K (sym (c .before .before .before .before .before .before .before .kind .ensures) ∙ c .before .before .before .before .before .before .if1 .taken) (c .before .before .before .before .block .ensures .no _ _ _ _ _ (c .enum-told2 .given .1)))
 
 condition-end-before-requires : (t : ℕ) → condition-lts.Need-end-before-requires (condition-claims t) (condition-at t) condition.Post
 condition-end-before-requires t c κs = let B = c .before .before .before .before .before .block .ensures .at _ _ (c .before .r2 .given .1) in
@@ -261,42 +222,13 @@ condition-same-length-3 t c = c .before .before .before .put-span2 .kept .0
     ∙ c .before .before .before .before .before .before .before .before .before .before .before .before .before .before .before .before .before .before .before .before .before .before .before .before .clause .kept .1 .0
 
 condition-returns-3 : (t : ℕ) → condition-lts.Need-returns-3 (condition-claims t) (condition-at t) condition.Post
-condition-returns-3 t c = let w = c .before .before .before .before .before .before .before .before .before .before .before .before .before .before .before .before .before .before .before .before .before .before .before .before .before .before .before .before .before .args .tokens .now in
-    let b₀ = c .before .before .before .before .before .before .before .before .before .before .before .before .before .before .before .before .before .before .before .before .before .before .before .before .before .before .before .before .before .args .rows .now in
-    let j₁ = c .before .before .before .before .before .before .before .before .before .before .before .before .before .before .before .before .before .before .before .before .r .given .0 .0 in
-    let j₂ = c .before .before .before .before .before .before .before .before .before .before .before .r2 .given .0 .0 in
-    let at₀ = c .before .before .before .before .before .before .before .before .before .before .before .before .before .before .before .before .before .before .before .before .before .before .before .before .before .before .before .before .before .args .cursor .at in
-    let left₀ = c .before .before .before .before .before .before .before .before .before .before .before .before .before .before .before .before .before .before .before .before .before .before .before .before .before .before .before .before .before .args .cursor .left in
-    let n₀ = c .before .before .before .before .before .before .before .before .before .before .before .before .before .before .before .before .before .before .before .before .before .before .before .before .before .before .before .before .before .args .cursor .row in
-    let pre₀ = c .before .before .before .before .before .before .before .before .before .before .before .before .before .before .before .before .before .before .before .before .before .before .before .before .before .before .before .before .before .pre .1 in
+condition-returns-3 t c = let pre₀ = c .before .before .before .before .before .before .before .before .before .before .before .before .before .before .before .before .before .before .before .before .before .before .before .before .before .before .before .before .before .pre .1 in
     let K = c .before .before .before .before .before .before .before .before .before .before .before .before .before .before .before .before .before .before .before .before .before .before .before .before .clause .ensures .at _ _ (c .before .before .before .before .before .before .before .before .before .before .before .before .before .before .before .before .before .before .before .before .r .given .1) in
-    let B = c .before .before .before .before .before .before .before .before .before .before .before .before .before .before .before .block .ensures .at _ _ (c .before .before .before .before .before .before .before .before .before .before .before .r2 .given .1) in
-    let k₇ : getD w j₁ 0 ≡ 7 = sym (c .before .before .before .before .before .before .before .before .before .before .before .before .before .before .before .before .before .before .kind .ensures) ∙ c .before .before .before .before .before .before .before .before .before .before .before .before .before .before .before .before .before .if1 .taken in
+    let X = c .before .before .before .before .before .before .before .before .before .before .before .before .before .before .before .block .ensures .at _ _ (c .before .before .before .before .before .before .before .before .before .before .before .r2 .given .1) in
+    let k₇ = sym (c .before .before .before .before .before .before .before .before .before .before .before .before .before .before .before .before .before .before .kind .ensures) ∙ c .before .before .before .before .before .before .before .before .before .before .before .before .before .before .before .before .before .if1 .taken in
     record {
-      at = λ j m e.
-          let N = c .follows .ensures .at j m e in
-          record {
-            x = toBlock (getD w (at₀ + 6 + 4) 0) (asked (K .g) (K .closed .a) (K .closed .e)) (B .v) (B .e);
-            ready = N .ready;
-            on = let o = K .closed .on in let q = B .on in let y = N .stays in omega arith;
-            few = let v = B .few in let y = N .stays in let z = N .rows in omega arith;
-            rows = block-condition _ _ (K .g) (c .before .before .before .before .before .before .before .before .before .before .before .before .before .before .before .before .before .before .before .before .before .before .before .before .before .before .span-from .ensures) ((c .before .before .before .before .before .before .before .before .before .before .before .before .before .before .before .before .before .before .before .before .before .before .before .before .before .before .span-from .ensures) ∙ sym (K .closed .first)) (c .before .before .before .before .before .before .before .before .before .end-before .ensures
-                ∙ sym (B .last)) (K .rows) (K .count) (B .v) (B .rows) (B .count) (c .before .before .before .before .before .before .before .put-span .ensures) (c .before .before .before .put-span2 .ensures);
-            count = N .rows ∙ size-block-condition _ _ _ (K .g) (K .count) _ (B .v) (B .count);
-            joint = N .joint;
-            means = λ b r p. cond-start _ _ (pre₀ .0) _ b r (ready-next _ _ (pre₀ .0) (other _ _ _ (pre₀ .2) refl)) (pre₀ .2) p
-                ∙ K .closed .means (argument b r (getD w (at₀ + 6 + 4) 0)) (λ (g : Terms) (a e : ℕ). matched left₀ b r (getD w (at₀ + 6 + 4) 0) (asked g a e)) (λ h t y z. refl) p
-                ∙ match-block _ _ (K .closed .ready) _ b r (getD w (at₀ + 6 + 4) 0) (asked (K .g) (K .closed .a) (K .closed .e)) k₇ p
-                ∙ B .means (inCondition b r (getD w (at₀ + 6 + 4) 0) (asked (K .g) (K .closed .a) (K .closed .e))) p
-                ∙ leveled w j₂ left₀ (λ (d : ℕ). conditioned d b (withCondition r (toBlock (getD w (at₀ + 6 + 4) 0) (asked (K .g) (K .closed .a) (K .closed .e)) (B .v) (B .e)))) (B .some) p
-                ∙ moved w j₂ j (conditioned left₀ b (withCondition r (toBlock (getD w (at₀ + 6 + 4) 0) (asked (K .g) (K .closed .a) (K .closed .e)) (B .v) (B .e)))) (N .stays) p;
-          };
-      no = λ a z k d e q. λ b r p. cond-start _ _ (pre₀ .0) _ b r (ready-next _ _ (pre₀ .0) (other _ _ _ (pre₀ .2) refl)) (pre₀ .2) p
-          ∙ K .closed .means (argument b r (getD w (at₀ + 6 + 4) 0)) (λ (g : Terms) (a e : ℕ). matched left₀ b r (getD w (at₀ + 6 + 4) 0) (asked g a e)) (λ h t y z. refl) p
-          ∙ match-block _ _ (K .closed .ready) _ b r (getD w (at₀ + 6 + 4) 0) (asked (K .g) (K .closed .a) (K .closed .e)) k₇ p
-          ∙ B .means (inCondition b r (getD w (at₀ + 6 + 4) 0) (asked (K .g) (K .closed .a) (K .closed .e))) p
-          ∙ leveled w j₂ left₀ (λ (d : ℕ). conditioned d b (withCondition r (toBlock (getD w (at₀ + 6 + 4) 0) (asked (K .g) (K .closed .a) (K .closed .e)) (B .v) (B .e)))) (B .some) p
-          ∙ c .follows .ensures .no a z k d e q .ofBlock refl left₀ b (withCondition r (toBlock (getD w (at₀ + 6 + 4) 0) (asked (K .g) (K .closed .a) (K .closed .e)) (B .v) (B .e))) p;
+      at = λ j m e. condition-of-block (pre₀ .0) (pre₀ .2) _ K k₇ X (c .before .before .before .before .before .before .before .before .before .before .before .before .before .before .before .before .before .before .before .before .before .before .before .before .before .before .span-from .ensures) (c .before .before .before .before .before .before .before .before .before .end-before .ensures) (c .before .before .before .before .before .before .before .put-span .ensures) (c .before .before .before .put-span2 .ensures) (c .follows .ensures .at j m e);
+      no = λ a z k d e q. follow-no (pre₀ .0) (pre₀ .2) _ K k₇ X (c .follows .ensures .no a z k d e q .ofBlock refl);
     }
 
 condition-pattern-requires : (t : ℕ) → condition-lts.Need-pattern-requires (condition-claims t) (condition-at t) condition.Post
@@ -304,16 +236,9 @@ condition-pattern-requires t c κs = let K = c .before .before .before .before .
     let R = K .closed .ready in let o = K .closed .on in let v₁ = K .few in (R, omega arith)
 
 condition-returns-4 : (t : ℕ) → condition-lts.Need-returns-4 (condition-claims t) (condition-at t) condition.Post
-condition-returns-4 t c = let w = c .before .before .before .before .before .before .before .before .before .before .before .before .before .before .before .before .before .before .args .tokens .now in
-    let at₀ = c .before .before .before .before .before .before .before .before .before .before .before .before .before .before .before .before .before .before .args .cursor .at in
-    let left₀ = c .before .before .before .before .before .before .before .before .before .before .before .before .before .before .before .before .before .before .args .cursor .left in
-    let pre₀ = c .before .before .before .before .before .before .before .before .before .before .before .before .before .before .before .before .before .before .pre .1 in
+condition-returns-4 t c = let pre₀ = c .before .before .before .before .before .before .before .before .before .before .before .before .before .before .before .before .before .before .pre .1 in
     let K = c .before .before .before .before .before .before .before .before .before .before .before .before .before .clause .ensures .at _ _ (c .before .before .before .before .before .before .before .before .before .r .given .1) in
-    is-no (c .enum-told3 .given .1) (λ b r p. cond-start _ _ (pre₀ .0) _ b r (ready-next _ _ (pre₀ .0) (other _ _ _ (pre₀ .2) refl)) (pre₀ .2) p
-    ∙ K .closed .means (argument b r (getD w (at₀ + 6 + 4) 0)) (λ (g : Terms) (a e : ℕ). matched left₀ b r (getD w (at₀ + 6 + 4) 0) (asked g a e)) (λ h t y z. refl) p
-    ∙ match-terms _ _ (K .closed .ready) _ b r (getD w (at₀ + 6 + 4) 0) (asked (K .g) (K .closed .a) (K .closed .e)) (λ e. c .before .before .before .before .before .before .if1 .left (c .before .before .before .before .before .before .before .kind .ensures
-    ∙ e)) p
-    ∙ c .before .before .before .before .pattern .ensures .no _ _ _ _ _ (c .enum-told3 .given .1) (matching b r (getD w (at₀ + 6 + 4) 0) (asked (K .g) (K .closed .a) (K .closed .e))) b (λ (h : Terms). withCondition r (toTerms (getD w (at₀ + 6 + 4) 0) (asked (K .g) (K .closed .a) (K .closed .e)) h)) (λ h t y z. refl) p)
+    is-no (c .enum-told3 .given .1) (pattern-no (pre₀ .0) (pre₀ .2) _ K (λ e. c .before .before .before .before .before .before .if1 .left (c .before .before .before .before .before .before .before .kind .ensures ∙ e)) (c .before .before .before .before .pattern .ensures .no _ _ _ _ _ (c .enum-told3 .given .1)))
 
 condition-end-before-requires-2 : (t : ℕ) → condition-lts.Need-end-before-requires-2 (condition-claims t) (condition-at t) condition.Post
 condition-end-before-requires-2 t c κs = let K = c .before .before .before .before .before .before .before .before .before .before .before .before .before .before .clause .ensures .at _ _ (c .before .before .before .before .before .before .before .before .before .before .r .given .1) in
@@ -325,30 +250,10 @@ condition-put-span-requires-3 t c κs = let pre₀ = c .before .before .before .
     let Z = Q .ready in let v = Q .few in let h = pre₀ .1 in let g = pre₀ .0 in (omega arith, omega arith)
 
 condition-returns-5 : (t : ℕ) → condition-lts.Need-returns-5 (condition-claims t) (condition-at t) condition.Post
-condition-returns-5 t c = let w = c .before .before .before .before .before .before .before .before .before .before .before .before .before .before .before .before .before .before .before .before .before .before .before .before .args .tokens .now in
-    let b₀ = c .before .before .before .before .before .before .before .before .before .before .before .before .before .before .before .before .before .before .before .before .before .before .before .before .args .rows .now in
-    let at₀ = c .before .before .before .before .before .before .before .before .before .before .before .before .before .before .before .before .before .before .before .before .before .before .before .before .args .cursor .at in
-    let left₀ = c .before .before .before .before .before .before .before .before .before .before .before .before .before .before .before .before .before .before .before .before .before .before .before .before .args .cursor .left in
-    let n₀ = c .before .before .before .before .before .before .before .before .before .before .before .before .before .before .before .before .before .before .before .before .before .before .before .before .args .cursor .row in
-    let pre₀ = c .before .before .before .before .before .before .before .before .before .before .before .before .before .before .before .before .before .before .before .before .before .before .before .before .pre .1 in
+condition-returns-5 t c = let pre₀ = c .before .before .before .before .before .before .before .before .before .before .before .before .before .before .before .before .before .before .before .before .before .before .before .before .pre .1 in
     let K = c .before .before .before .before .before .before .before .before .before .before .before .before .before .before .before .before .before .before .before .clause .ensures .at _ _ (c .before .before .before .before .before .before .before .before .before .before .before .before .before .before .before .r .given .1) in
     let Q = c .before .before .before .before .before .before .before .before .before .before .pattern .ensures .at _ _ (c .before .before .before .before .before .before .r3 .given .1) in
-    is-at refl (record {
-      x = toTerms (getD w (at₀ + 6 + 4) 0) (asked (K .g) (K .closed .a) (K .closed .e)) (Q .g);
-      ready = Q .ready;
-      on = let o = K .closed .on in let q = Q .on in omega arith;
-      few = Q .few;
-      rows = let l = ap (λ (z : ℕ). lastEnd (Q .g) z) (K .closed .last) ∙ Q .last in
-          terms-condition _ _ (K .g) (c .before .before .before .before .before .before .before .before .before .before .before .before .before .before .before .before .before .before .before .before .before .span-from .ensures) (c .before .before .before .before .end-before2 .ensures
-          ∙ sym l) (K .rows) (K .count) (Q .g) (Q .rows) (Q .count) (c .before .before .put-span3 .ensures);
-      count = size-terms-condition _ _ _ (K .g) (K .count) (Q .g) (Q .count);
-      joint = Q .joint;
-      means = λ b r p. cond-start _ _ (pre₀ .0) _ b r (ready-next _ _ (pre₀ .0) (other _ _ _ (pre₀ .2) refl)) (pre₀ .2) p
-          ∙ K .closed .means (argument b r (getD w (at₀ + 6 + 4) 0)) (λ (g : Terms) (a e : ℕ). matched left₀ b r (getD w (at₀ + 6 + 4) 0) (asked g a e)) (λ h t y z. refl) p
-          ∙ match-terms _ _ (K .closed .ready) _ b r (getD w (at₀ + 6 + 4) 0) (asked (K .g) (K .closed .a) (K .closed .e)) (λ e. c .before .before .before .before .before .before .before .before .before .before .before .before .if1 .left (c .before .before .before .before .before .before .before .before .before .before .before .before .before .kind .ensures
-          ∙ e)) p
-          ∙ Q .means (matching b r (getD w (at₀ + 6 + 4) 0) (asked (K .g) (K .closed .a) (K .closed .e))) b (λ (h : Terms). withCondition r (toTerms (getD w (at₀ + 6 + 4) 0) (asked (K .g) (K .closed .a) (K .closed .e)) h)) (λ h t y z. refl) p;
-    })
+    is-at refl (condition-of-terms (pre₀ .0) (pre₀ .2) _ K (λ e. c .before .before .before .before .before .before .before .before .before .before .before .before .if1 .left (c .before .before .before .before .before .before .before .before .before .before .before .before .before .kind .ensures ∙ e)) Q (c .before .before .before .before .before .before .before .before .before .before .before .before .before .before .before .before .before .before .before .before .before .span-from .ensures) (c .before .before .before .before .end-before2 .ensures) (c .before .before .put-span3 .ensures))
 
 ending-kind-requires : (t : ℕ) → ending-lts.Need-kind-requires (ending-claims t) (ending-at t) ending.Post
 ending-kind-requires t c κs = let pre₀ = c .before .before .pre .1 in
@@ -359,25 +264,10 @@ ending-clause-requires t c κs = let pre₀ = c .before .before .before .before 
     let h = pre₀ .1 in (pre₀ .0, omega arith, omega arith)
 
 ending-returns : (t : ℕ) → ending-lts.Need-returns (ending-claims t) (ending-at t) ending.Post
-ending-returns t c = let left₀ = c .before .before .before .before .before .before .before .before .args .cursor .left in
-    let pre₀ = c .before .before .before .before .before .before .before .before .pre .1 in
+ending-returns t c = let pre₀ = c .before .before .before .before .before .before .before .before .pre .1 in
     record {
-      at = λ j m e.
-          let K = c .before .before .clause .ensures .at j m e in
-          record {
-            x = eTerms (K .g);
-            e = K .closed .e;
-            ready = K .closed .ready;
-            on = K .closed .on;
-            few = K .few;
-            rows = terms-ending (K .g) _ _ (K .rows);
-            count = size-terms-ending (K .g) _ (K .count);
-            last = K .closed .last;
-            means = λ b r p. end-terms _ _ (pre₀ .0) _ b r (λ e. c .before .before .before .before .if1 .taken (c .before .before .before .before .before .kind .ensures ∙ e)) p
-                ∙ K .closed .means (result b r) (λ (g : Terms) (a e : ℕ). between left₀ b (finished r (eTerms g) e)) (λ h t y z. refl) p;
-          };
-      no = λ a z k d e q. λ b r p. end-terms _ _ (pre₀ .0) _ b r (λ e. c .before .before .before .before .if1 .taken (c .before .before .before .before .before .kind .ensures ∙ e)) p
-          ∙ c .before .before .clause .ensures .no a z k d e q (result b r) (λ (g : Terms) (a e : ℕ). between left₀ b (finished r (eTerms g) e)) (λ h t y z. refl) p;
+      at = λ j m e. ending-of-terms (pre₀ .0) (λ e. c .before .before .before .before .if1 .taken (c .before .before .before .before .before .kind .ensures ∙ e)) (c .before .before .clause .ensures .at j m e);
+      no = λ a z k d e q. end-terms-no (pre₀ .0) (λ e. c .before .before .before .before .if1 .taken (c .before .before .before .before .before .kind .ensures ∙ e)) (c .before .before .clause .ensures .no a z k d e q);
     }
 
 ending-add-start : (t : ℕ) → ending-lts.Need-add-start (ending-claims t) (ending-at t) ending.Post
@@ -402,13 +292,8 @@ ending-clause-requires-2 t c κs = let w = c .before .before .before .before .be
     let h = pre₀ .1 in ((ready-next _ _ (pre₀ .0) (other _ _ _ k₁₃ refl)), omega arith, omega arith)
 
 ending-returns-2 : (t : ℕ) → ending-lts.Need-returns-2 (ending-claims t) (ending-at t) ending.Post
-ending-returns-2 t c = let w = c .before .before .before .before .before .before .before .before .before .before .before .args .tokens .now in
-    let at₀ = c .before .before .before .before .before .before .before .before .before .before .before .args .cursor .at in
-    let left₀ = c .before .before .before .before .before .before .before .before .before .before .before .args .cursor .left in
-    let pre₀ = c .before .before .before .before .before .before .before .before .before .before .before .pre .1 in
-    let k₁₃ : getD w at₀ 0 ≡ 13 = sym (c .before .before .before .before .before .before .before .before .kind .ensures) ∙ c .before .before .before .before .before .before .before .if1 .left in
-    is-no (c .enum-told .given .1) (λ b r p. end-start _ _ (pre₀ .0) _ b r k₁₃ p
-    ∙ c .before .before .before .before .clause2 .ensures .no _ _ _ _ _ (c .enum-told .given .1) (inArgument b r) (λ (g : Terms) (a e : ℕ). blocked left₀ b r (asked g a e)) (λ h t y z. refl) p)
+ending-returns-2 t c = let pre₀ = c .before .before .before .before .before .before .before .before .before .before .before .pre .1 in
+    is-no (c .enum-told .given .1) (end-argument-no (pre₀ .0) (sym (c .before .before .before .before .before .before .before .before .kind .ensures) ∙ c .before .before .before .before .before .before .before .if1 .left) (c .before .before .before .before .clause2 .ensures .no _ _ _ _ _ (c .enum-told .given .1)))
 
 ending-kind-requires-2 : (t : ℕ) → ending-lts.Need-kind-requires-2 (ending-claims t) (ending-at t) ending.Post
 ending-kind-requires-2 t c κs = let K = c .before .before .before .before .before .clause2 .ensures .at _ _ (c .before .r .given .1) in K .closed .ready
@@ -417,16 +302,10 @@ ending-present-requires : (t : ℕ) → ending-lts.Need-present-requires (ending
 ending-present-requires t c κs = let K = c .before .before .before .before .before .before .before .clause2 .ensures .at _ _ (c .before .before .before .r .given .1) in K .closed .ready
 
 ending-returns-3 : (t : ℕ) → ending-lts.Need-returns-3 (ending-claims t) (ending-at t) ending.Post
-ending-returns-3 t c = let w = c .before .before .before .before .before .before .before .before .before .before .before .before .before .before .before .args .tokens .now in
-    let at₀ = c .before .before .before .before .before .before .before .before .before .before .before .before .before .before .before .args .cursor .at in
-    let left₀ = c .before .before .before .before .before .before .before .before .before .before .before .before .before .before .before .args .cursor .left in
-    let pre₀ = c .before .before .before .before .before .before .before .before .before .before .before .before .before .before .before .pre .1 in
+ending-returns-3 t c = let pre₀ = c .before .before .before .before .before .before .before .before .before .before .before .before .before .before .before .pre .1 in
     let K = c .before .before .before .before .before .before .before .before .clause2 .ensures .at _ _ (c .before .before .before .before .r .given .1) in
-    let k₁₃ : getD w at₀ 0 ≡ 13 = sym (c .before .before .before .before .before .before .before .before .before .before .before .before .kind .ensures) ∙ c .before .before .before .before .before .before .before .before .before .before .before .if1 .left in
-    is-no (c .present .ensures) (λ b r p. end-start _ _ (pre₀ .0) _ b r k₁₃ p
-    ∙ K .closed .means (inArgument b r) (λ (g : Terms) (a e : ℕ). blocked left₀ b r (asked g a e)) (λ h t y z. refl) p
-    ∙ end-unopened _ _ (K .closed .ready) _ b r (asked (K .g) (K .closed .a) (K .closed .e)) (λ e. c .before .if2 .taken (c .before .before .kind2 .ensures
-    ∙ e)) p)
+    let k₁₃ = sym (c .before .before .before .before .before .before .before .before .before .before .before .before .kind .ensures) ∙ c .before .before .before .before .before .before .before .before .before .before .before .if1 .left in
+    is-no (c .present .ensures) (λ b r p. end-argued (pre₀ .0) k₁₃ _ K b r p ∙ end-unopened _ _ (K .closed .ready) _ b r (theArgument K) (λ e. c .before .if2 .taken (c .before .before .kind2 .ensures ∙ e)) p)
 
 ending-block-requires : (t : ℕ) → ending-lts.Need-block-requires (ending-claims t) (ending-at t) ending.Post
 ending-block-requires t c κs = let w = c .before .before .before .before .before .before .before .before .before .before .before .before .before .before .before .args .tokens .now in
@@ -439,18 +318,9 @@ ending-block-requires t c κs = let w = c .before .before .before .before .befor
     let k₇ : getD w j₁ 0 ≡ 7 = sym (c .before .before .kind2 .ensures) ∙ c .before .if2 .left in let g = pre₀ .0 in (omega arith, (R, omega arith, k₇))
 
 ending-returns-4 : (t : ℕ) → ending-lts.Need-returns-4 (ending-claims t) (ending-at t) ending.Post
-ending-returns-4 t c = let w = c .before .before .before .before .before .before .before .before .before .before .before .before .before .before .before .before .before .before .before .before .args .tokens .now in
-    let j₁ = c .before .before .before .before .before .before .before .before .before .r .given .0 .0 in
-    let at₀ = c .before .before .before .before .before .before .before .before .before .before .before .before .before .before .before .before .before .before .before .before .args .cursor .at in
-    let left₀ = c .before .before .before .before .before .before .before .before .before .before .before .before .before .before .before .before .before .before .before .before .args .cursor .left in
-    let pre₀ = c .before .before .before .before .before .before .before .before .before .before .before .before .before .before .before .before .before .before .before .before .pre .1 in
+ending-returns-4 t c = let pre₀ = c .before .before .before .before .before .before .before .before .before .before .before .before .before .before .before .before .before .before .before .before .pre .1 in
     let K = c .before .before .before .before .before .before .before .before .before .before .before .before .before .clause2 .ensures .at _ _ (c .before .before .before .before .before .before .before .before .before .r .given .1) in
-    let k₁₃ : getD w at₀ 0 ≡ 13 = sym (c .before .before .before .before .before .before .before .before .before .before .before .before .before .before .before .before .before .kind .ensures) ∙ c .before .before .before .before .before .before .before .before .before .before .before .before .before .before .before .before .if1 .left in
-    let k₇ : getD w j₁ 0 ≡ 7 = sym (c .before .before .before .before .before .before .before .kind2 .ensures) ∙ c .before .before .before .before .before .before .if2 .left in
-    is-no (c .enum-told2 .given .1) (λ b r p. end-start _ _ (pre₀ .0) _ b r k₁₃ p
-    ∙ K .closed .means (inArgument b r) (λ (g : Terms) (a e : ℕ). blocked left₀ b r (asked g a e)) (λ h t y z. refl) p
-    ∙ end-block _ _ (K .closed .ready) _ b r (asked (K .g) (K .closed .a) (K .closed .e)) k₇ p
-    ∙ c .before .before .before .before .block .ensures .no _ _ _ _ _ (c .enum-told2 .given .1) (inEnding b r (asked (K .g) (K .closed .a) (K .closed .e))) p)
+    is-no (c .enum-told2 .given .1) (end-block-no (pre₀ .0) (sym (c .before .before .before .before .before .before .before .before .before .before .before .before .before .before .before .before .before .kind .ensures) ∙ c .before .before .before .before .before .before .before .before .before .before .before .before .before .before .before .before .if1 .left) _ K (sym (c .before .before .before .before .before .before .before .kind2 .ensures) ∙ c .before .before .before .before .before .before .if2 .left) (c .before .before .before .before .block .ensures .no _ _ _ _ _ (c .enum-told2 .given .1)))
 
 ending-kind-requires-3 : (t : ℕ) → ending-lts.Need-kind-requires-3 (ending-claims t) (ending-at t) ending.Post
 ending-kind-requires-3 t c κs = let B = c .before .before .before .before .before .block .ensures .at _ _ (c .before .r2 .given .1) in B .ready
@@ -459,23 +329,12 @@ ending-present-requires-2 : (t : ℕ) → ending-lts.Need-present-requires-2 (en
 ending-present-requires-2 t c κs = let B = c .before .before .before .before .before .before .before .block .ensures .at _ _ (c .before .before .before .r2 .given .1) in B .ready
 
 ending-returns-5 : (t : ℕ) → ending-lts.Need-returns-5 (ending-claims t) (ending-at t) ending.Post
-ending-returns-5 t c = let w = c .before .before .before .before .before .before .before .before .before .before .before .before .before .before .before .before .before .before .before .before .before .before .before .before .args .tokens .now in
-    let j₁ = c .before .before .before .before .before .before .before .before .before .before .before .before .before .r .given .0 .0 in
-    let j₂ = c .before .before .before .before .r2 .given .0 .0 in
-    let at₀ = c .before .before .before .before .before .before .before .before .before .before .before .before .before .before .before .before .before .before .before .before .before .before .before .before .args .cursor .at in
-    let left₀ = c .before .before .before .before .before .before .before .before .before .before .before .before .before .before .before .before .before .before .before .before .before .before .before .before .args .cursor .left in
-    let pre₀ = c .before .before .before .before .before .before .before .before .before .before .before .before .before .before .before .before .before .before .before .before .before .before .before .before .pre .1 in
+ending-returns-5 t c = let pre₀ = c .before .before .before .before .before .before .before .before .before .before .before .before .before .before .before .before .before .before .before .before .before .before .before .before .pre .1 in
     let K = c .before .before .before .before .before .before .before .before .before .before .before .before .before .before .before .before .before .clause2 .ensures .at _ _ (c .before .before .before .before .before .before .before .before .before .before .before .before .before .r .given .1) in
-    let B = c .before .before .before .before .before .before .before .before .block .ensures .at _ _ (c .before .before .before .before .r2 .given .1) in
-    let k₁₃ : getD w at₀ 0 ≡ 13 = sym (c .before .before .before .before .before .before .before .before .before .before .before .before .before .before .before .before .before .before .before .before .before .kind .ensures) ∙ c .before .before .before .before .before .before .before .before .before .before .before .before .before .before .before .before .before .before .before .before .if1 .left in
-    let k₇ : getD w j₁ 0 ≡ 7 = sym (c .before .before .before .before .before .before .before .before .before .before .before .kind2 .ensures) ∙ c .before .before .before .before .before .before .before .before .before .before .if2 .left in
-    is-no (c .present2 .ensures) (λ b r p. end-start _ _ (pre₀ .0) _ b r k₁₃ p
-    ∙ K .closed .means (inArgument b r) (λ (g : Terms) (a e : ℕ). blocked left₀ b r (asked g a e)) (λ h t y z. refl) p
-    ∙ end-block _ _ (K .closed .ready) _ b r (asked (K .g) (K .closed .a) (K .closed .e)) k₇ p
-    ∙ B .means (inEnding b r (asked (K .g) (K .closed .a) (K .closed .e))) p
-    ∙ leveled w j₂ left₀ (λ (d : ℕ). ended d b r (asked (K .g) (K .closed .a) (K .closed .e)) (B .v) (B .e)) (B .some) p
-    ∙ end-unclosed _ _ (B .ready) _ b r (asked (K .g) (K .closed .a) (K .closed .e)) (B .v) (B .e) (λ e. c .before .if3 .taken (c .before .before .kind3 .ensures
-    ∙ e)) p)
+    let X = c .before .before .before .before .before .before .before .before .block .ensures .at _ _ (c .before .before .before .before .r2 .given .1) in
+    let k₁₃ = sym (c .before .before .before .before .before .before .before .before .before .before .before .before .before .before .before .before .before .before .before .before .before .kind .ensures) ∙ c .before .before .before .before .before .before .before .before .before .before .before .before .before .before .before .before .before .before .before .before .if1 .left in
+    let k₇ = sym (c .before .before .before .before .before .before .before .before .before .before .before .kind2 .ensures) ∙ c .before .before .before .before .before .before .before .before .before .before .if2 .left in
+    is-no (c .present2 .ensures) (λ b r p. end-blocked (pre₀ .0) k₁₃ _ K k₇ X b r p ∙ end-unclosed _ _ (X .ready) _ b r (theArgument K) (X .v) (X .e) (λ e. c .before .if3 .taken (c .before .before .kind3 .ensures ∙ e)) p)
 
 ending-end-before-requires : (t : ℕ) → ending-lts.Need-end-before-requires (ending-claims t) (ending-at t) ending.Post
 ending-end-before-requires t c κs = let B = c .before .before .before .before .before .before .before .block .ensures .at _ _ (c .before .before .before .r2 .given .1) in
@@ -490,36 +349,12 @@ ending-add-next : (t : ℕ) → ending-lts.Need-add-next (ending-claims t) (endi
 ending-add-next t c = let B = c .before .before .before .before .before .before .before .before .before .before .before .before .block .ensures .at _ _ (c .before .before .before .before .before .before .before .before .r2 .given .1) in let Z = B .ready in let q = B .on in let v = B .few in omega arith
 
 ending-returns-6 : (t : ℕ) → ending-lts.Need-returns-6 (ending-claims t) (ending-at t) ending.Post
-ending-returns-6 t c = let w = c .before .before .before .before .before .before .before .before .before .before .before .before .before .before .before .before .before .before .before .before .before .before .before .before .before .before .before .before .args .tokens .now in
-    let b₀ = c .before .before .before .before .before .before .before .before .before .before .before .before .before .before .before .before .before .before .before .before .before .before .before .before .before .before .before .before .args .rows .now in
-    let j₁ = c .before .before .before .before .before .before .before .before .before .before .before .before .before .before .before .before .before .r .given .0 .0 in
-    let j₂ = c .before .before .before .before .before .before .before .before .r2 .given .0 .0 in
-    let at₀ = c .before .before .before .before .before .before .before .before .before .before .before .before .before .before .before .before .before .before .before .before .before .before .before .before .before .before .before .before .args .cursor .at in
-    let left₀ = c .before .before .before .before .before .before .before .before .before .before .before .before .before .before .before .before .before .before .before .before .before .before .before .before .before .before .before .before .args .cursor .left in
-    let n₀ = c .before .before .before .before .before .before .before .before .before .before .before .before .before .before .before .before .before .before .before .before .before .before .before .before .before .before .before .before .args .cursor .row in
-    let pre₀ = c .before .before .before .before .before .before .before .before .before .before .before .before .before .before .before .before .before .before .before .before .before .before .before .before .before .before .before .before .pre .1 in
+ending-returns-6 t c = let pre₀ = c .before .before .before .before .before .before .before .before .before .before .before .before .before .before .before .before .before .before .before .before .before .before .before .before .before .before .before .before .pre .1 in
     let K = c .before .before .before .before .before .before .before .before .before .before .before .before .before .before .before .before .before .before .before .before .before .clause2 .ensures .at _ _ (c .before .before .before .before .before .before .before .before .before .before .before .before .before .before .before .before .before .r .given .1) in
-    let B = c .before .before .before .before .before .before .before .before .before .before .before .before .block .ensures .at _ _ (c .before .before .before .before .before .before .before .before .r2 .given .1) in
-    let k₁₃ : getD w at₀ 0 ≡ 13 = sym (c .before .before .before .before .before .before .before .before .before .before .before .before .before .before .before .before .before .before .before .before .before .before .before .before .before .kind .ensures) ∙ c .before .before .before .before .before .before .before .before .before .before .before .before .before .before .before .before .before .before .before .before .before .before .before .before .if1 .left in
-    let k₇ : getD w j₁ 0 ≡ 7 = sym (c .before .before .before .before .before .before .before .before .before .before .before .before .before .before .before .kind2 .ensures) ∙ c .before .before .before .before .before .before .before .before .before .before .before .before .before .before .if2 .left in
-    let k₁₆ : getD w j₂ 0 ≡ 16 = sym (c .before .before .before .before .before .before .kind3 .ensures) ∙ c .before .before .before .before .before .if3 .left in
-    is-at refl (record {
-      x = endBlock (asked (K .g) (K .closed .a) (K .closed .e)) (B .v) (B .e);
-      e = getD w (j₂ + 5) 0;
-      ready = ready-next _ _ (B .ready) (other _ _ _ k₁₆ refl);
-      on = let o = K .closed .on in let q = B .on in omega arith;
-      few = let v = B .few in omega arith;
-      rows = block-ending _ _ (K .g) (c .before .before .before .before .before .before .before .before .before .before .before .before .before .before .before .before .before .before .before .before .before .before .before .span-from .ensures ∙ sym (K .closed .first)) (c .before .before .before .before .end-before .ensures
-          ∙ sym (B .last)) (K .rows) (K .count) (B .v) (B .rows) (B .count) (c .before .before .put-span .ensures);
-      count = size-block-ending _ _ _ (K .g) (K .count) (B .v) (B .count);
-      last = end-before w j₂;
-      means = λ b r p. end-start _ _ (pre₀ .0) _ b r k₁₃ p
-          ∙ K .closed .means (inArgument b r) (λ (g : Terms) (a e : ℕ). blocked left₀ b r (asked g a e)) (λ h t y z. refl) p
-          ∙ end-block _ _ (K .closed .ready) _ b r (asked (K .g) (K .closed .a) (K .closed .e)) k₇ p
-          ∙ B .means (inEnding b r (asked (K .g) (K .closed .a) (K .closed .e))) p
-          ∙ leveled w j₂ left₀ (λ (d : ℕ). ended d b r (asked (K .g) (K .closed .a) (K .closed .e)) (B .v) (B .e)) (B .some) p
-          ∙ end-closed _ _ (B .ready) _ b r (asked (K .g) (K .closed .a) (K .closed .e)) (B .v) (B .e) k₁₆ p;
-    })
+    let X = c .before .before .before .before .before .before .before .before .before .before .before .before .block .ensures .at _ _ (c .before .before .before .before .before .before .before .before .r2 .given .1) in
+    is-at refl (ending-of-block (pre₀ .0) (sym (c .before .before .before .before .before .before .before .before .before .before .before .before .before .before .before .before .before .before .before .before .before .before .before .before .before .kind .ensures) ∙ c .before .before .before .before .before .before .before .before .before .before .before .before .before .before .before .before .before .before .before .before .before .before .before .before .if1 .left) _ K
+    (sym (c .before .before .before .before .before .before .before .before .before .before .before .before .before .before .before .kind2 .ensures) ∙ c .before .before .before .before .before .before .before .before .before .before .before .before .before .before .if2 .left) X
+    (sym (c .before .before .before .before .before .before .kind3 .ensures) ∙ c .before .before .before .before .before .if3 .left) (c .before .before .before .before .before .before .before .before .before .before .before .before .before .before .before .before .before .before .before .before .before .before .before .span-from .ensures) (c .before .before .before .before .end-before .ensures) (c .before .before .put-span .ensures))
 
 abbrev sentence-Inv-loop : sentence-lts.InvT-loop
 sentence-Inv-loop tokens rows₀ at n left row j m i₀ k₀ rows i k = CondsInv tokens rows₀ rows j m left i k
@@ -564,31 +399,15 @@ sentence-same-length-2 t c = let I = c .before .before .before .before .before .
     ∙ c .before .before .before .before .before .before .before .before .before .before .before .before .before .before .pattern .kept .1 .0
 
 sentence-returns-2 : (t : ℕ) → sentence-lts.Need-returns-2 (sentence-claims t) (sentence-at t) sentence.Post sentence-Inv-loop sentence-μ-loop
-sentence-returns-2 t c = let w = c .before .before .before .before .before .before .before .before .before .before .before .before .before .before .before .before .before .before .args .tokens .now in
-    let at₀ = c .before .before .before .before .before .before .before .before .before .before .before .before .before .before .before .before .before .before .args .cursor .at in
-    let Q = c .before .before .before .before .before .before .before .before .before .before .before .before .before .before .pattern .ensures .at _ _ (c .before .before .before .before .before .before .before .before .before .before .r .given .1) in
+sentence-returns-2 t c = let Q = c .before .before .before .before .before .before .before .before .before .before .before .before .before .before .pattern .ensures .at _ _ (c .before .before .before .before .before .before .before .before .before .before .r .given .1) in
     let I = c .before .before .before .before .before .before .before .before .loop .inv in
-    is-no (c .enum-told2 .given .1) (λ b s p. Q .means (inPattern b s (getD w (at₀ + 4) 0)) b (λ (g : Terms). begun s (getD w (at₀ + 4) 0) g c0) (λ h t y z. refl) p
-    ∙ I .means b s (getD w (at₀ + 4) 0) (Q .g) p
-    ∙ c .before .before .before .before .condition .ensures .no _ _ _ _ _ (c .enum-told2 .given .1) b (begun s (getD w (at₀ + 4) 0) (Q .g) (I .cs)) p)
+    is-no (c .enum-told2 .given .1) (condition-no _ Q I (c .before .before .before .before .condition .ensures .no _ _ _ _ _ (c .enum-told2 .given .1)))
 
 sentence-loop-less : (t : ℕ) → sentence-lts.Need-loop-less (sentence-claims t) (sentence-at t) sentence.Post sentence-Inv-loop sentence-μ-loop
 sentence-loop-less t c = let X = c .before .before .before .before .before .condition .ensures .at _ _ (c .before .r2 .given .1) in let R = X .ready in let q = X .on in omega arith
 
 sentence-loop-again : (t : ℕ) → sentence-lts.Need-loop-again (sentence-claims t) (sentence-at t) sentence.Post sentence-Inv-loop sentence-μ-loop
-sentence-loop-again t c = let I = c .before .before .before .before .before .before .before .before .before .loop .inv in
-    let X = c .before .before .before .before .before .condition .ensures .at _ _ (c .before .r2 .given .1) in
-    record {
-      cs = cMore (I .cs) (X .x);
-      ready = X .ready;
-      joint = X .joint;
-      on = let h = X .on in let g = I .on in omega arith;
-      few = X .few;
-      same = c .before .before .before .before .before .condition .kept .1 .0 ∙ I .same;
-      rows = more-conditions _ _ (I .cs) (X .x) (I .count) (I .rows) (X .rows);
-      count = size-conditions _ (I .cs) (X .x) (I .count) (X .count);
-      means = λ b s a f p. I .means b s a f p ∙ X .means b (begun s a f (I .cs)) p;
-    }
+sentence-loop-again t c = one-condition (c .before .before .before .before .before .condition .kept .1 .0) (c .before .before .before .before .before .condition .ensures .at _ _ (c .before .r2 .given .1)) (c .before .before .before .before .before .before .before .before .before .loop .inv)
 
 sentence-add-after : (t : ℕ) → sentence-lts.Need-add-after (sentence-claims t) (sentence-at t) sentence.Post sentence-Inv-loop sentence-μ-loop
 sentence-add-after t c = let I = c .before .before .loop .inv in let R = I .ready in omega arith
@@ -612,15 +431,9 @@ sentence-same-length-3 t c = let I = c .before .before .before .before .before .
     ∙ c .before .before .before .before .before .before .before .before .before .before .before .before .before .before .pattern .kept .1 .0
 
 sentence-returns-3 : (t : ℕ) → sentence-lts.Need-returns-3 (sentence-claims t) (sentence-at t) sentence.Post sentence-Inv-loop sentence-μ-loop
-sentence-returns-3 t c = let w = c .before .before .before .before .before .before .before .before .before .before .before .before .before .before .before .before .before .before .args .tokens .now in
-    let at₀ = c .before .before .before .before .before .before .before .before .before .before .before .before .before .before .before .before .before .before .args .cursor .at in
-    let i₀ = c .before .before .before .before .before .before .before .before .loop .i in
-    let Q = c .before .before .before .before .before .before .before .before .before .before .before .before .before .before .pattern .ensures .at _ _ (c .before .before .before .before .before .before .before .before .before .before .r .given .1) in
+sentence-returns-3 t c = let Q = c .before .before .before .before .before .before .before .before .before .before .before .before .before .before .pattern .ensures .at _ _ (c .before .before .before .before .before .before .before .before .before .before .r .given .1) in
     let I = c .before .before .before .before .before .before .before .before .loop .inv in
-    let k₁₅ : getD w i₀ 0 ≡ 15 = c .before .before .before .before .before .before .before .before .loop .inv .joint (λ e. c .before .before .before .before .before .before .if1 .left (c .before .before .before .before .before .before .before .kind .ensures ∙ e)) in
-    is-no (c .enum-told3 .given .1) (λ b s p. Q .means (inPattern b s (getD w (at₀ + 4) 0)) b (λ (g : Terms). begun s (getD w (at₀ + 4) 0) g c0) (λ h t y z. refl) p
-    ∙ I .means b s (getD w (at₀ + 4) 0) (Q .g) p ∙ cond-equals _ _ (I .ready) _ b (begun s (getD w (at₀ + 4) 0) (Q .g) (I .cs)) k₁₅ p
-    ∙ c .before .before .before .before .ending .ensures .no _ _ _ _ _ (c .enum-told3 .given .1) b (begun s (getD w (at₀ + 4) 0) (Q .g) (I .cs)) p)
+    is-no (c .enum-told3 .given .1) (ending-no _ Q I (I .joint (λ e. c .before .before .before .before .before .before .if1 .left (c .before .before .before .before .before .before .before .kind .ensures ∙ e))) (c .before .before .before .before .ending .ensures .no _ _ _ _ _ (c .enum-told3 .given .1)))
 
 sentence-span-from-requires : (t : ℕ) → sentence-lts.Need-span-from-requires (sentence-claims t) (sentence-at t) sentence.Post sentence-Inv-loop sentence-μ-loop
 sentence-span-from-requires t c κs = let pre₀ = c .before .before .before .before .before .before .before .before .before .before .before .before .before .before .before .before .before .before .before .pre .1 in
@@ -642,24 +455,10 @@ sentence-same-length-4 t c = let I = c .before .before .before .before .before .
     ∙ c .before .before .before .before .before .before .before .before .before .before .before .before .before .before .before .before .before .before .before .before .before .pattern .kept .1 .0
 
 sentence-returns-4 : (t : ℕ) → sentence-lts.Need-returns-4 (sentence-claims t) (sentence-at t) sentence.Post sentence-Inv-loop sentence-μ-loop
-sentence-returns-4 t c = let w = c .before .before .before .before .before .before .before .before .before .before .before .before .before .before .before .before .before .before .before .before .before .before .before .before .before .args .tokens .now in
-    let at₀ = c .before .before .before .before .before .before .before .before .before .before .before .before .before .before .before .before .before .before .before .before .before .before .before .before .before .args .cursor .at in
-    let i₀ = c .before .before .before .before .before .before .before .before .before .before .before .before .before .before .before .loop .i in
-    let Q = c .before .before .before .before .before .before .before .before .before .before .before .before .before .before .before .before .before .before .before .before .before .pattern .ensures .at _ _ (c .before .before .before .before .before .before .before .before .before .before .before .before .before .before .before .before .before .r .given .1) in
+sentence-returns-4 t c = let Q = c .before .before .before .before .before .before .before .before .before .before .before .before .before .before .before .before .before .before .before .before .before .pattern .ensures .at _ _ (c .before .before .before .before .before .before .before .before .before .before .before .before .before .before .before .before .before .r .given .1) in
     let I = c .before .before .before .before .before .before .before .before .before .before .before .before .before .before .before .loop .inv in
     let N = c .before .before .before .before .before .before .before .before .before .before .before .ending .ensures .at _ _ (c .before .before .before .before .before .before .before .r3 .given .1) in
-    let k₁₅ : getD w i₀ 0 ≡ 15 = c .before .before .before .before .before .before .before .before .before .before .before .before .before .before .before .loop .inv .joint (λ e. c .before .before .before .before .before .before .before .before .before .before .before .before .before .if1 .left (c .before .before .before .before .before .before .before .before .before .before .before .before .before .before .kind .ensures ∙ e)) in
-    is-at refl (record {
-      x = theSentence (getD w (at₀ + 4) 0) (Q .g) (I .cs) (N .x) (N .e);
-      ready = N .ready;
-      on = let h₁ = Q .on in let h₂ = I .on in let h₃ = N .on in omega arith;
-      few = N .few;
-      rows = whole-sentence _ _ _ (Q .g) (Q .count) _ (I .cs) (N .x) (I .count) (N .count) (let h₁ = Q .rows in let h₂ = I .rows in let h₃ = N .rows in let h₇ = N .last in cc);
-      count = size-sentence _ _ _ (Q .g) (Q .count) (I .cs) (N .x) (I .count) (N .count);
-      means = λ b s p. Q .means (inPattern b s (getD w (at₀ + 4) 0)) b (λ (g : Terms). begun s (getD w (at₀ + 4) 0) g c0) (λ h t y z. refl) p
-          ∙ I .means b s (getD w (at₀ + 4) 0) (Q .g) p ∙ cond-equals _ _ (I .ready) _ b (begun s (getD w (at₀ + 4) 0) (Q .g) (I .cs)) k₁₅ p
-          ∙ N .means b (begun s (getD w (at₀ + 4) 0) (Q .g) (I .cs)) p;
-    })
+    is-at refl (sentence-of-parts _ Q I (I .joint (λ e. c .before .before .before .before .before .before .before .before .before .before .before .before .before .if1 .left (c .before .before .before .before .before .before .before .before .before .before .before .before .before .before .kind .ensures ∙ e))) N (c .before .before .before .before .before .span-from .ensures) (c .before .before .before .before .end-before .ensures) (c .before .before .put-span .ensures))
 
 pub +block+condition+ending+sentence-spec : {M : Type 1} → statement M
 +block+condition+ending+sentence-spec =

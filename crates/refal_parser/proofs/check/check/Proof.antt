@@ -17,54 +17,42 @@ Inv-loop tokens n i₀ good₀ i good = (i ≤ length tokens) × ((length tokens
 abbrev μ-loop : tie.MeasureT-loop
 μ-loop tokens n i₀ good₀ i good = length tokens - i
 
--- src/check.rt:66:9
 returns : tie.Need-returns Inv-loop μ-loop
 returns c = sym (ragged _ (c .if1 .taken))
 
--- src/check.rt:69:9
 returns-2 : tie.Need-returns-2 Inv-loop μ-loop
 returns-2 c = sym (too-long _ (c .before .if1 .left) (c .if2 .taken))
 
--- src/check.rt:73:5
 loop-holds : tie.Need-loop-holds Inv-loop μ-loop
 loop-holds c = let h = c .before .if1 .left in (omega arith, omega arith, refl)
 
--- src/check.rt:73:11
 add-loop : tie.Need-add-loop Inv-loop μ-loop
 add-loop c = search needs
 
--- src/check.rt:74:23
 good-token-requires : tie.Need-good-token-requires Inv-loop μ-loop
 good-token-requires c κs = search needs
 
--- src/check.rt:75:9
 add-i : tie.Need-add-i Inv-loop μ-loop
 add-i c = search needs
 
--- src/check.rt:73:5
 loop-less : tie.Need-loop-less Inv-loop μ-loop
 loop-less c = search needs
 
--- src/check.rt:73:5
 loop-again : tie.Need-loop-again Inv-loop μ-loop
 loop-again c = let I = c .before .before .loop .inv in
     let m = I .1 in
     let t = c .before .loop-test .taken in
     (omega arith, omega arith, ok-on (c .before .before .before .before .before .before .args .tokens .now) (c .before .before .loop .i) _ (c .before .before .loop .good) _ (c .before .loop-test .taken) (omega arith) (c .good-token .ensures) (I .2))
 
--- src/check.rt:77:8
 add-if3 : tie.Need-add-if3 Inv-loop μ-loop
 add-if3 c = search needs
 
--- src/check.rt:78:23
 good-eof-requires : tie.Need-good-eof-requires Inv-loop μ-loop
 good-eof-requires c κs = search needs
 
--- src/check.rt:78:9
 returns-3 : tie.Need-returns-3 Inv-loop μ-loop
 returns-3 c = sym (well _ _ (c .before .before .before .before .before .if1 .left) (c .before .before .before .before .if2 .left) (c .before .before .before .loop .inv .2 ∙ ok-last (c .before .before .before .before .before .before .before .args .tokens .now) (c .before .before .before .loop .i) (c .before .before .before .loop .good) _ (c .before .if3 .taken) (c .good-eof .ensures)))
 
--- src/check.rt:61:1
 returns-4 : tie.Need-returns-4 Inv-loop μ-loop
 returns-4 c = let w = c .before .before .before .before .before .before .args .tokens .now in
     let i₀ = c .before .before .loop .i in

@@ -7,55 +7,42 @@ use borrow.Author.Needs.{needs}
 use Rattle.refal_parser.proofs.check.good_token.Statement.{statement}
 use Rattle.refal_parser.proofs.check.good_token.Tie as tie
 
--- src/check.rt:44:16
 mul-kind : tie.Need-mul-kind
 mul-kind c = search needs
 
--- src/check.rt:44:16
 shared-slice-read-kind : tie.Need-shared-slice-read-kind
 shared-slice-read-kind c = search needs
 
--- src/check.rt:45:41
 add-good-fields : tie.Need-add-good-fields
 add-good-fields c = search needs
 
--- src/check.rt:45:34
 mul-good-fields : tie.Need-mul-good-fields
 mul-good-fields c = search needs
 
--- src/check.rt:45:34
 shared-slice-read-good-fields : tie.Need-shared-slice-read-good-fields
 shared-slice-read-good-fields c = search needs
 
--- src/check.rt:45:57
 add-good-fields-2 : tie.Need-add-good-fields-2
 add-good-fields-2 c = search needs
 
--- src/check.rt:45:50
 mul-good-fields-2 : tie.Need-mul-good-fields-2
 mul-good-fields-2 c = search needs
 
--- src/check.rt:45:50
 shared-slice-read-good-fields-2 : tie.Need-shared-slice-read-good-fields-2
 shared-slice-read-good-fields-2 c = search needs
 
--- src/check.rt:45:73
 add-good-fields-3 : tie.Need-add-good-fields-3
 add-good-fields-3 c = search needs
 
--- src/check.rt:45:66
 mul-good-fields-3 : tie.Need-mul-good-fields-3
 mul-good-fields-3 c = search needs
 
--- src/check.rt:45:66
 shared-slice-read-good-fields-3 : tie.Need-shared-slice-read-good-fields-3
 shared-slice-read-good-fields-3 c = search needs
 
--- src/check.rt:45:9
 good-fields-requires : tie.Need-good-fields-requires
 good-fields-requires c κs = search needs
 
--- src/check.rt:40:1
 returns : tie.Need-returns
 returns c = let w = c .before .before .before .before .before .before .args .tokens .now in
     let at₀ = c .before .before .before .before .before .before .args .at in

@@ -19,34 +19,27 @@ Inv-loop tokens rows₀ at n first row j m i₀ k₀ rows i k = NamesInv tokens 
 abbrev μ-loop : tie.MeasureT-loop
 μ-loop tokens rows₀ at n first row j m i₀ k₀ rows i k = length tokens - i
 
--- src/items.rt:34:17
 add-first : tie.Need-add-first Inv-loop μ-loop
 add-first c = let pre₀ = c .before .before .pre in
     let R = pre₀ .0 in let h = pre₀ .1 in omega arith
 
--- src/items.rt:35:15
 add-row : tie.Need-add-row Inv-loop μ-loop
 add-row c = let pre₀ = c .before .before .pre in
     let R = pre₀ .0 in let h = pre₀ .1 in omega arith
 
--- src/items.rt:36:9
 name-requires : tie.Need-name-requires Inv-loop μ-loop
 name-requires c κs = let pre₀ = c .before .before .before .pre in
     let h = pre₀ .1 in ((ready-next _ _ (pre₀ .0) (other _ _ _ (pre₀ .2) refl)), omega arith)
 
--- src/items.rt:37:17
 enum-known-r : tie.Need-enum-known-r Inv-loop μ-loop
 enum-known-r c = search needs
 
--- src/items.rt:38:9
 enum-told : tie.Need-enum-told Inv-loop μ-loop
 enum-told c = search needs
 
--- src/items.rt:38:9
 same-length : tie.Need-same-length Inv-loop μ-loop
 same-length c = search needs
 
--- src/items.rt:38:9
 returns : tie.Need-returns Inv-loop μ-loop
 returns c = let w = c .before .before .before .before .before .before .before .before .args .tokens .now in
     let at₀ = c .before .before .before .before .before .before .before .before .args .at in
@@ -54,7 +47,6 @@ returns c = let w = c .before .before .before .before .before .before .before .b
     is-no (c .enum-told .given .1) (λ p. items-extern _ _ (pre₀ .0) (pre₀ .2) p
     ∙ (c .before .before .before .before .name .ensures .no _ _ _ _ _ (c .enum-told .given .1)) .first (getD w (at₀ + 4) 0) p)
 
--- src/items.rt:42:5
 loop-holds : tie.Need-loop-holds Inv-loop μ-loop
 unfolding sizeN wN
 loop-holds c = let w = c .before .before .before .before .before .before .before .before .before .args .tokens .now in
@@ -72,15 +64,12 @@ loop-holds c = let w = c .before .before .before .before .before .before .before
       means = λ p. items-extern _ _ (pre₀ .0) (pre₀ .2) p ∙ F .first (getD w (at₀ + 4) 0) p;
     }
 
--- src/items.rt:42:11
 kind-requires : tie.Need-kind-requires Inv-loop μ-loop
 kind-requires c κs = c .loop .inv .ready
 
--- src/items.rt:43:20
 add-more : tie.Need-add-more Inv-loop μ-loop
 add-more c = let I = c .before .before .loop .inv in let R = I .ready in omega arith
 
--- src/items.rt:44:13
 name-requires-2 : tie.Need-name-requires-2 Inv-loop μ-loop
 name-requires-2 c κs = let w = c .before .before .before .before .before .before .before .before .before .before .before .before .before .args .tokens .now in
     let i₀ = c .before .before .before .loop .i in
@@ -88,19 +77,15 @@ name-requires-2 c κs = let w = c .before .before .before .before .before .befor
     let k₁₃ : getD w i₀ 0 ≡ 13 = sym (c .before .before .kind .ensures) ∙ c .before .if1 .taken in
     let v = I .few in (ready-next _ _ (I .ready) (other _ _ _ k₁₃ refl), omega arith)
 
--- src/items.rt:45:21
 enum-known-r2 : tie.Need-enum-known-r2 Inv-loop μ-loop
 enum-known-r2 c = search needs
 
--- src/items.rt:46:13
 enum-told-2 : tie.Need-enum-told-2 Inv-loop μ-loop
 enum-told-2 c = search needs
 
--- src/items.rt:46:13
 same-length-2 : tie.Need-same-length-2 Inv-loop μ-loop
 same-length-2 c = let I = c .before .before .before .before .before .before .before .before .loop .inv in c .before .before .before .before .name2 .kept .1 .0 ∙ I .same ∙ c .before .before .before .before .before .before .before .before .before .before .before .before .before .before .name .kept .1 .0
 
--- src/items.rt:46:13
 returns-2 : tie.Need-returns-2 Inv-loop μ-loop
 returns-2 c = let w = c .before .before .before .before .before .before .before .before .before .before .before .before .before .before .before .before .before .before .args .tokens .now in
     let at₀ = c .before .before .before .before .before .before .before .before .before .before .before .before .before .before .before .before .before .before .args .at in
@@ -110,11 +95,9 @@ returns-2 c = let w = c .before .before .before .before .before .before .before 
     is-no (c .enum-told2 .given .1) (λ p. I .means p ∙ named-comma _ _ (I .ready) (getD w (at₀ + 4) 0) (I .ns) k₁₃ p
     ∙ (c .before .before .before .before .name2 .ensures .no _ _ _ _ _ (c .enum-told2 .given .1)) .more (getD w (at₀ + 4) 0) (I .ns) p)
 
--- src/items.rt:42:5
 loop-less : tie.Need-loop-less Inv-loop μ-loop
 loop-less c = let X = c .before .before .before .before .before .name2 .ensures .at _ _ (c .before .r2 .given .1) in let R = X .ready in let q = X .next in omega arith
 
--- src/items.rt:42:5
 loop-again : tie.Need-loop-again Inv-loop μ-loop
 unfolding sizeN wN
 loop-again c = let w = c .before .before .before .before .before .before .before .before .before .before .before .before .before .before .before .before .before .before .before .args .tokens .now in
@@ -134,19 +117,15 @@ loop-again c = let w = c .before .before .before .before .before .before .before
       means = λ p. I .means p ∙ named-comma _ _ (I .ready) (getD w (at₀ + 4) 0) (I .ns) k₁₃ p ∙ X .more (getD w (at₀ + 4) 0) (I .ns) p;
     }
 
--- src/items.rt:51:8
 kind-requires-2 : tie.Need-kind-requires-2 Inv-loop μ-loop
 kind-requires-2 c κs = c .before .before .loop .inv .ready
 
--- src/items.rt:52:9
 present-requires : tie.Need-present-requires Inv-loop μ-loop
 present-requires c κs = c .before .before .before .before .loop .inv .ready
 
--- src/items.rt:52:9
 same-length-3 : tie.Need-same-length-3 Inv-loop μ-loop
 same-length-3 c = let I = c .before .before .before .before .before .loop .inv in I .same ∙ c .before .before .before .before .before .before .before .before .before .before .before .name .kept .1 .0
 
--- src/items.rt:52:9
 returns-3 : tie.Need-returns-3 Inv-loop μ-loop
 returns-3 c = let w = c .before .before .before .before .before .before .before .before .before .before .before .before .before .before .before .args .tokens .now in
     let at₀ = c .before .before .before .before .before .before .before .before .before .before .before .before .before .before .before .args .at in
@@ -155,16 +134,13 @@ returns-3 c = let w = c .before .before .before .before .before .before .before 
     ∙ named-none _ _ (I .ready) (getD w (at₀ + 4) 0) (I .ns) (λ e. c .before .before .before .if1 .left (c .before .before .before .before .kind .ensures
     ∙ e)) (λ e. c .before .if2 .taken (c .before .before .kind2 .ensures ∙ e)) p)
 
--- src/items.rt:54:16
 add-next : tie.Need-add-next Inv-loop μ-loop
 add-next c = let I = c .before .before .before .before .loop .inv in let R = I .ready in omega arith
 
--- src/items.rt:55:42
 span-from-requires : tie.Need-span-from-requires Inv-loop μ-loop
 span-from-requires c κs = let pre₀ = c .before .before .before .before .before .before .before .before .before .before .before .before .before .before .pre in
     pre₀ .0
 
--- src/items.rt:55:65
 end-before-requires : tie.Need-end-before-requires Inv-loop μ-loop
 end-before-requires c κs = let w = c .before .before .before .before .before .before .before .before .before .before .before .before .before .before .before .args .tokens .now in
     let i₀ = c .before .before .before .before .before .loop .i in
@@ -172,16 +148,13 @@ end-before-requires c κs = let w = c .before .before .before .before .before .b
     let k₁₆ : getD w i₀ 0 ≡ 16 = sym (c .before .before .kind2 .ensures) ∙ c .before .if2 .left in
     (ready-next _ _ (I .ready) (other _ _ _ k₁₆ refl), omega arith)
 
--- src/items.rt:55:5
 put-span-requires : tie.Need-put-span-requires Inv-loop μ-loop
 put-span-requires c κs = let pre₀ = c .before .before .before .before .before .before .before .before .before .before .before .before .before .before .before .before .before .pre in
     let I = c .before .before .before .before .before .before .before .loop .inv in let R = I .ready in let v = I .few in let h = pre₀ .1 in let g = pre₀ .0 in (omega arith, omega arith)
 
--- src/items.rt:30:1
 same-length-4 : tie.Need-same-length-4 Inv-loop μ-loop
 same-length-4 c = let I = c .before .before .before .before .before .before .before .before .before .before .loop .inv in c .before .before .put-span .kept .0 ∙ I .same ∙ c .before .before .before .before .before .before .before .before .before .before .before .before .before .before .before .before .name .kept .1 .0
 
--- src/items.rt:30:1
 returns-4 : tie.Need-returns-4 Inv-loop μ-loop
 returns-4 c = let w = c .before .before .before .before .before .before .before .before .before .before .before .before .before .before .before .before .before .before .before .before .args .tokens .now in
     let b₀ = c .before .before .before .before .before .before .before .before .before .before .before .before .before .before .before .before .before .before .before .before .args .rows .now in

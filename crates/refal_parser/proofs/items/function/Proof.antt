@@ -12,22 +12,18 @@ use borrow.Author.Needs.{needs}
 use Rattle.refal_parser.proofs.items.function.Statement.{statement}
 use Rattle.refal_parser.proofs.items.function.Tie as tie
 
--- src/items.rt:64:16
 add-open : tie.Need-add-open
 add-open c = let pre₀ = c .before .before .pre in
     let R = pre₀ .1 in omega arith
 
--- src/items.rt:65:8
 kind-requires : tie.Need-kind-requires
 kind-requires c κs = let pre₀ = c .before .before .pre in
     (ready-next _ _ (pre₀ .1) (other _ _ _ (pre₀ .3) refl))
 
--- src/items.rt:66:9
 present-requires : tie.Need-present-requires
 present-requires c κs = let pre₀ = c .before .before .before .before .pre in
     (ready-next _ _ (pre₀ .1) (other _ _ _ (pre₀ .3) refl))
 
--- src/items.rt:66:9
 returns : tie.Need-returns
 returns c = let w = c .before .before .before .before .before .args .tokens .now in
     let at₀ = c .before .before .before .before .before .args .at in
@@ -36,12 +32,10 @@ returns c = let w = c .before .before .before .before .before .args .tokens .now
     is-no (c .present .ensures) (λ x. head-none _ _ (ready-next _ _ (pre₀ .1) (other _ _ _ (pre₀ .3) refl)) (heading w at₀ name₀ x) (λ e. c .before .if1 .taken (c .before .before .kind .ensures
     ∙ e)))
 
--- src/items.rt:68:17
 add-first : tie.Need-add-first
 add-first c = let pre₀ = c .before .before .before .before .pre in
     let R = pre₀ .1 in let h = pre₀ .2 in omega arith
 
--- src/items.rt:69:9
 block-requires : tie.Need-block-requires
 block-requires c κs = let w = c .before .before .before .before .before .args .tokens .now in
     let name₀ = c .before .before .before .before .before .args .name in
@@ -49,19 +43,15 @@ block-requires c κs = let w = c .before .before .before .before .before .args .
     let k₇ : getD w (name₀ + 6) 0 ≡ 7 = sym (c .before .before .kind .ensures) ∙ c .before .if1 .left in
     let h = pre₀ .2 in ((ready-next _ _ (pre₀ .1) (other _ _ _ (pre₀ .3) refl)), omega arith, k₇)
 
--- src/items.rt:70:17
 enum-known-r : tie.Need-enum-known-r
 enum-known-r c = search needs
 
--- src/items.rt:71:9
 enum-told : tie.Need-enum-told
 enum-told c = search needs
 
--- src/items.rt:71:9
 same-length : tie.Need-same-length
 same-length c = search needs
 
--- src/items.rt:71:9
 returns-2 : tie.Need-returns-2
 returns-2 c = let w = c .before .before .before .before .before .before .before .before .before .before .args .tokens .now in
     let at₀ = c .before .before .before .before .before .before .before .before .before .before .args .at in
@@ -71,35 +61,28 @@ returns-2 c = let w = c .before .before .before .before .before .before .before 
     is-no (c .enum-told .given .1) (λ x p. head-open _ _ (ready-next _ _ (pre₀ .1) (other _ _ _ (pre₀ .3) refl)) (heading w at₀ name₀ x) k₇ p
     ∙ c .before .before .before .before .block .ensures .no _ _ _ _ _ (c .enum-told .given .1) (body (heading w at₀ name₀ x)) p)
 
--- src/items.rt:78:9
 text-start-requires : tie.Need-text-start-requires
 text-start-requires c κs = let pre₀ = c .before .before .before .before .before .before .before .before .before .before .before .pre in
     pre₀ .1
 
--- src/items.rt:79:9
 text-len-requires : tie.Need-text-len-requires
 text-len-requires c κs = let pre₀ = c .before .before .before .before .before .before .before .before .before .before .before .before .pre in
     pre₀ .1
 
--- src/items.rt:80:9
 span-from-requires : tie.Need-span-from-requires
 span-from-requires c κs = search needs
 
--- src/items.rt:81:9
 end-before-requires : tie.Need-end-before-requires
 end-before-requires c κs = let B = c .before .before .before .before .before .before .before .before .block .ensures .at _ _ (c .before .before .before .before .r .given .1) in let q = B .on in (B .ready, omega arith)
 
--- src/items.rt:73:5
 put-node-requires : tie.Need-put-node-requires
 put-node-requires c κs = let pre₀ = c .before .before .before .before .before .before .before .before .before .before .before .before .before .before .before .before .pre in
     let B = c .before .before .before .before .before .before .before .before .before .before .block .ensures .at _ _ (c .before .before .before .before .before .before .r .given .1) in
     let R = B .ready in let v = B .few in let h = pre₀ .2 in let g = pre₀ .1 in (omega arith, omega arith)
 
--- src/items.rt:60:1
 same-length-2 : tie.Need-same-length-2
 same-length-2 c = search needs
 
--- src/items.rt:60:1
 returns-3 : tie.Need-returns-3
 returns-3 c = let w = c .before .before .before .before .before .before .before .before .before .before .before .before .before .before .before .before .before .before .before .args .tokens .now in
     let at₀ = c .before .before .before .before .before .before .before .before .before .before .before .before .before .before .before .before .before .before .before .args .at in

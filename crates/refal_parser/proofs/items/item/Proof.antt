@@ -11,36 +11,29 @@ use borrow.Author.Needs.{needs}
 use Rattle.refal_parser.proofs.items.item.Statement.{statement}
 use Rattle.refal_parser.proofs.items.item.Tie as tie
 
--- src/items.rt:92:9
 kind-requires : tie.Need-kind-requires
 kind-requires c κs = let pre₀ = c .before .before .pre in
     pre₀ .0
 
--- src/items.rt:94:9
 declaration-requires : tie.Need-declaration-requires
 declaration-requires c κs = let pre₀ = c .before .before .before .before .before .pre in
     (pre₀ .0, pre₀ .1, sym (c .before .before .kind .ensures) ∙ c .before .if1 .taken)
 
--- src/items.rt:94:9
 same-length : tie.Need-same-length
 same-length c = search needs
 
--- src/items.rt:94:9
 returns : tie.Need-returns
 returns c = c .before .before .declaration .ensures
 
--- src/items.rt:97:9
 function-requires : tie.Need-function-requires
 function-requires c κs = let w = c .before .before .before .before .before .before .args .tokens .now in
     let at₀ = c .before .before .before .before .before .before .args .at in
     let pre₀ = c .before .before .before .before .before .before .pre in
     let k₃ : getD w at₀ 0 ≡ 3 = sym (c .before .before .before .kind .ensures) ∙ c .before .if2 .taken in (pre₀ .0, pre₀ .0, pre₀ .1, k₃)
 
--- src/items.rt:97:9
 same-length-2 : tie.Need-same-length-2
 same-length-2 c = search needs
 
--- src/items.rt:97:9
 returns-2 : tie.Need-returns-2
 returns-2 c = let w = c .before .before .before .before .before .before .before .before .before .args .tokens .now in
     let at₀ = c .before .before .before .before .before .before .before .before .before .args .at in
@@ -61,37 +54,31 @@ returns-2 c = let w = c .before .before .before .before .before .before .before 
       no = λ a b k d e q. λ p. items-name _ _ (pre₀ .0) k₃ p ∙ c .before .before .function .ensures .no a b k d e q false p;
     }
 
--- src/items.rt:100:9
 taken-requires : tie.Need-taken-requires
 taken-requires c κs = let pre₀ = c .before .before .before .before .before .before .pre in
     pre₀ .0
 
--- src/items.rt:100:9
 returns-3 : tie.Need-returns-3
 returns-3 c = let pre₀ = c .before .before .before .before .before .before .before .pre in
     is-no (c .taken .ensures) (items-none _ _ (pre₀ .0) (pre₀ .2) (pre₀ .3) (λ e. c .before .before .before .if1 .left (c .before .before .before .before .kind .ensures
     ∙ e)) (λ e. c .before .if3 .taken (c .before .before .before .before .kind .ensures ∙ e)) (λ e. c .before .before .if2 .left (c .before .before .before .before .kind .ensures ∙ e)))
 
--- src/items.rt:102:16
 add-name : tie.Need-add-name
 add-name c = let pre₀ = c .before .before .before .before .before .before .pre in
     let R = pre₀ .0 in omega arith
 
--- src/items.rt:103:8
 kind-requires-2 : tie.Need-kind-requires-2
 kind-requires-2 c κs = let w = c .before .before .before .before .before .before .args .tokens .now in
     let at₀ = c .before .before .before .before .before .before .args .at in
     let pre₀ = c .before .before .before .before .before .before .pre in
     let k₁ : getD w at₀ 0 ≡ 1 = sym (c .before .before .before .kind .ensures) ∙ c .if3 .left in (ready-next _ _ (pre₀ .0) (other _ _ _ k₁ refl))
 
--- src/items.rt:104:9
 taken-requires-2 : tie.Need-taken-requires-2
 taken-requires-2 c κs = let w = c .before .before .before .before .before .before .before .before .args .tokens .now in
     let at₀ = c .before .before .before .before .before .before .before .before .args .at in
     let pre₀ = c .before .before .before .before .before .before .before .before .pre in
     let k₁ : getD w at₀ 0 ≡ 1 = sym (c .before .before .before .before .before .kind .ensures) ∙ c .before .before .if3 .left in (ready-next _ _ (pre₀ .0) (other _ _ _ k₁ refl))
 
--- src/items.rt:104:9
 returns-4 : tie.Need-returns-4
 returns-4 c = let w = c .before .before .before .before .before .before .before .before .before .args .tokens .now in
     let at₀ = c .before .before .before .before .before .before .before .before .before .args .at in
@@ -101,7 +88,6 @@ returns-4 c = let w = c .before .before .before .before .before .before .before 
     ∙ entry-none _ _ (ready-next _ _ (pre₀ .0) (other _ _ _ k₁ refl)) (getD w (at₀ + 4) 0) (λ e. c .before .if4 .taken (c .before .before .kind2 .ensures
     ∙ e)) p)
 
--- src/items.rt:106:5
 function-requires-2 : tie.Need-function-requires-2
 function-requires-2 c κs = let w = c .before .before .before .before .before .before .before .before .before .args .tokens .now in
     let at₀ = c .before .before .before .before .before .before .before .before .before .args .at in
@@ -110,11 +96,9 @@ function-requires-2 c κs = let w = c .before .before .before .before .before .b
     let k₃ : getD w (at₀ + 6) 0 ≡ 3 = sym (c .before .before .kind2 .ensures) ∙ c .before .if4 .left in
     let h = pre₀ .1 in (pre₀ .0, (ready-next _ _ (pre₀ .0) (other _ _ _ k₁ refl)), omega arith, k₃)
 
--- src/items.rt:88:1
 same-length-3 : tie.Need-same-length-3
 same-length-3 c = search needs
 
--- src/items.rt:88:1
 returns-5 : tie.Need-returns-5
 returns-5 c = let w = c .before .before .before .before .before .before .before .before .before .before .before .before .args .tokens .now in
     let at₀ = c .before .before .before .before .before .before .before .before .before .before .before .before .args .at in

@@ -7,15 +7,12 @@ use borrow.Author.Needs.{needs}
 use Rattle.refal_parser.proofs.items.name.Statement.{statement}
 use Rattle.refal_parser.proofs.items.name.Tie as tie
 
--- src/items.rt:20:8
 kind-requires : tie.Need-kind-requires
 kind-requires c κs = search needs
 
--- src/items.rt:21:9
 taken-requires : tie.Need-taken-requires
 taken-requires c κs = search needs
 
--- src/items.rt:21:9
 returns : tie.Need-returns
 returns c = let pre₀ = c .before .before .before .before .before .pre in
     is-no (c .taken .ensures) (record {
@@ -24,31 +21,24 @@ returns c = let pre₀ = c .before .before .before .before .before .pre in
       more = λ a ns. more-none _ _ (pre₀ .0) a ns (λ e. c .before .if1 .taken (c .before .before .kind .ensures ∙ e));
     })
 
--- src/items.rt:23:16
 add-next : tie.Need-add-next
 add-next c = search needs
 
--- src/items.rt:24:15
 add-row : tie.Need-add-row
 add-row c = search needs
 
--- src/items.rt:25:38
 text-start-requires : tie.Need-text-start-requires
 text-start-requires c κs = search needs
 
--- src/items.rt:25:62
 text-len-requires : tie.Need-text-len-requires
 text-len-requires c κs = search needs
 
--- src/items.rt:25:5
 put-node-requires : tie.Need-put-node-requires
 put-node-requires c κs = search needs
 
--- src/items.rt:16:1
 same-length : tie.Need-same-length
 same-length c = search needs
 
--- src/items.rt:16:1
 returns-2 : tie.Need-returns-2
 returns-2 c = let w = c .before .before .before .before .before .before .before .before .before .before .args .tokens .now in
     let at₀ = c .before .before .before .before .before .before .before .before .before .before .args .at in

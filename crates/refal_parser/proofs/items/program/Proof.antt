@@ -20,29 +20,23 @@ Inv-loop tokens rows₀ i₀ m₀ rows i m = ProgramInv tokens rows₀ rows i m
 abbrev μ-loop : tie.MeasureT-loop
 μ-loop tokens rows₀ i₀ m₀ rows i m = length tokens - i
 
--- src/items.rt:116:5
 loop-holds : tie.Need-loop-holds Inv-loop μ-loop
 unfolding sizeP wP
 loop-holds c = let pre₀ = c .before .before .pre in
     record { t = p0; ready = pre₀; few = omega arith; same = refl; rows = refl; count = refl; means = refl }
 
--- src/items.rt:116:11
 kind-requires : tie.Need-kind-requires Inv-loop μ-loop
 kind-requires c κs = c .loop .inv .ready
 
--- src/items.rt:117:12
 kind-requires-2 : tie.Need-kind-requires-2 Inv-loop μ-loop
 kind-requires-2 c κs = c .before .before .loop .inv .ready
 
--- src/items.rt:118:13
 add-i : tie.Need-add-i Inv-loop μ-loop
 add-i c = let I = c .before .before .before .before .loop .inv in let R = I .ready in omega arith
 
--- src/items.rt:116:5
 loop-less : tie.Need-loop-less Inv-loop μ-loop
 loop-less c = let I = c .before .before .before .before .loop .inv in let R = I .ready in omega arith
 
--- src/items.rt:116:5
 loop-again : tie.Need-loop-again Inv-loop μ-loop
 loop-again c = let w = c .before .before .before .before .before .before .before .args .tokens .now in
     let i₀ = c .before .before .before .before .loop .i in
@@ -58,31 +52,24 @@ loop-again c = let w = c .before .before .before .before .before .before .before
       means = I .means ∙ items-pass _ _ (I .ready) k₁₆ (I .t);
     }
 
--- src/items.rt:120:17
 item-requires : tie.Need-item-requires Inv-loop μ-loop
 item-requires c κs = let I = c .before .before .before .before .before .loop .inv in (I .ready, I .few, (λ e. c .before .before .before .if1 .taken (c .before .before .before .before .kind .ensures ∙ e)), (λ e. c .before .if2 .left (c .before .before .kind2 .ensures ∙ e)))
 
--- src/items.rt:121:25
 enum-known-r : tie.Need-enum-known-r Inv-loop μ-loop
 enum-known-r c = search needs
 
--- src/items.rt:122:17
 enum-told : tie.Need-enum-told Inv-loop μ-loop
 enum-told c = search needs
 
--- src/items.rt:122:17
 same-length : tie.Need-same-length Inv-loop μ-loop
 same-length c = search needs
 
--- src/items.rt:122:17
 returns : tie.Need-returns Inv-loop μ-loop
 returns c = let I = c .before .before .before .before .before .before .before .before .before .before .loop .inv in is-no (c .enum-told .given .1) (I .means ∙ c .before .before .before .before .item .ensures .no _ _ _ _ _ (c .enum-told .given .1) (I .t))
 
--- src/items.rt:116:5
 loop-less-2 : tie.Need-loop-less-2 Inv-loop μ-loop
 loop-less-2 c = let X = c .before .before .before .before .before .item .ensures .at _ _ (c .before .r .given .1) in let R = X .ready in let q = X .on in omega arith
 
--- src/items.rt:116:5
 loop-again-2 : tie.Need-loop-again-2 Inv-loop μ-loop
 loop-again-2 c = let I = c .before .before .before .before .before .before .before .before .before .before .before .loop .inv in
     let X = c .before .before .before .before .before .item .ensures .at _ _ (c .before .r .given .1) in
@@ -96,11 +83,9 @@ loop-again-2 c = let I = c .before .before .before .before .before .before .befo
       means = I .means ∙ X .means (I .t);
     }
 
--- src/items.rt:110:1
 same-length-2 : tie.Need-same-length-2 Inv-loop μ-loop
 same-length-2 c = search needs
 
--- src/items.rt:110:1
 returns-2 : tie.Need-returns-2 Inv-loop μ-loop
 returns-2 c = let I = c .before .before .loop .inv in
     is-at refl (record {

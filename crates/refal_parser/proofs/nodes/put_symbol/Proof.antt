@@ -9,59 +9,46 @@ use borrow.Author.Needs.{needs}
 use Rattle.refal_parser.proofs.nodes.put_symbol.Statement.{statement}
 use Rattle.refal_parser.proofs.nodes.put_symbol.Tie as tie
 
--- src/nodes.rt:38:16
 add-next : tie.Need-add-next
 add-next c = search needs
 
--- src/nodes.rt:40:22
 enum-known-s : tie.Need-enum-known-s
 enum-known-s c = search needs
 
--- src/nodes.rt:41:13
 put-node-requires : tie.Need-put-node-requires
 put-node-requires c κs = search needs
 
--- src/nodes.rt:43:30
 enum-known-s-2 : tie.Need-enum-known-s-2
 enum-known-s-2 c = search needs
 
--- src/nodes.rt:44:13
 put-node-requires-2 : tie.Need-put-node-requires-2
 put-node-requires-2 c κs = search needs
 
--- src/nodes.rt:46:26
 enum-known-s-3 : tie.Need-enum-known-s-3
 enum-known-s-3 c = search needs
 
--- src/nodes.rt:47:13
 put-node-requires-3 : tie.Need-put-node-requires-3
 put-node-requires-3 c κs = search needs
 
--- src/nodes.rt:34:1
 same-length : tie.Need-same-length
 same-length c = search needs
 
--- src/nodes.rt:34:1
 returns : tie.Need-returns
 returns c = let b₀ = c .before .before .before .before .before .before .before .before .args .rows .now in
     let m₀ = c .before .before .before .before .before .before .before .before .args .m in
     c .before .before .put-node .ensures ∙ ap (λ (z : Symbol). putNode b₀ m₀ (leafRow (symbol z) (c .before .before .before .before .before .before .before .before .args .from) (c .before .before .before .before .before .before .before .before .args .to) (m₀ + 1))) (sym (c .before .before .before .before .before .s .given .1))
 
--- src/nodes.rt:34:1
 same-length-2 : tie.Need-same-length-2
 same-length-2 c = search needs
 
--- src/nodes.rt:34:1
 returns-2 : tie.Need-returns-2
 returns-2 c = let b₀ = c .before .before .before .before .before .before .before .before .args .rows .now in
     let m₀ = c .before .before .before .before .before .before .before .before .args .m in
     c .before .before .put-node2 .ensures ∙ ap (λ (z : Symbol). putNode b₀ m₀ (leafRow (symbol z) (c .before .before .before .before .before .before .before .before .args .from) (c .before .before .before .before .before .before .before .before .args .to) (m₀ + 1))) (sym (c .before .before .before .before .before .s2 .given .1))
 
--- src/nodes.rt:34:1
 same-length-3 : tie.Need-same-length-3
 same-length-3 c = search needs
 
--- src/nodes.rt:34:1
 returns-3 : tie.Need-returns-3
 returns-3 c = let b₀ = c .before .before .before .before .before .before .before .before .args .rows .now in
     let m₀ = c .before .before .before .before .before .before .before .before .args .m in

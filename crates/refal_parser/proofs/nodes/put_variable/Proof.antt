@@ -8,23 +8,18 @@ use borrow.Author.Needs.{needs}
 use Rattle.refal_parser.proofs.nodes.put_variable.Statement.{statement}
 use Rattle.refal_parser.proofs.nodes.put_variable.Tie as tie
 
--- src/nodes.rt:66:39
 letter-requires : tie.Need-letter-requires
 letter-requires c κs = search needs
 
--- src/nodes.rt:66:75
 add-put-node : tie.Need-add-put-node
 add-put-node c = search needs
 
--- src/nodes.rt:66:5
 put-node-requires : tie.Need-put-node-requires
 put-node-requires c κs = search needs
 
--- src/nodes.rt:62:1
 same-length : tie.Need-same-length
 same-length c = search needs
 
--- src/nodes.rt:62:1
 returns : tie.Need-returns
 returns c = let b₀ = c .before .before .before .before .before .before .args .rows .now in
     let m₀ = c .before .before .before .before .before .before .args .m in

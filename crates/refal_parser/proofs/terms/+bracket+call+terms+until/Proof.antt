@@ -1,19 +1,14 @@
 -- `refal_parser::terms::bracket`, `refal_parser::terms::call`, `refal_parser::terms::terms`, `refal_parser::terms::until` meet their contracts: terms, brackets and calls as the machine reads them; the falling number is the depth left.
-use mathlib.Core.Path.{_≡_, refl, sym, ap, _∙_}
-use Prim.Native.Nat.{ℕ, suc, _+_, _-_, _<_}
+use mathlib.Core.Path.{_≡_, refl, sym, _∙_}
+use Prim.Native.Nat.{ℕ, _+_, _-_, _<_}
 use native.Mathlib.Omega.{arith}
 use lib.ListN.{length, getD}
-use Rattle.refal_ast.specs.Tree.{Terms, t0, tMore, bracket as theBracket, call as theCall, symbol, variable, sizeT}
-use Rattle.refal_ast.specs.declared.tree.Term.the-variants.{NoTerm}
-use Rattle.refal_parser.specs.Machine.{Step, within, inBracket, inCall}
-use Rattle.refal_parser.specs.Ready.{tok, afterFrom, afterTo}
-use Rattle.refal_parser.specs.Post.{after}
+use Rattle.refal_ast.specs.Tree.{t0, symbol, variable, sizeT}
 use Rattle.refal_parser.specs.Writers.{wT}
 use Rattle.refal_parser.specs.PostTerms.{TermsInv}
 use Rattle.refal_parser.proofs.TokenLaws.{ready-next}
-use Rattle.refal_parser.proofs.Steps.{is-at, is-no, ready-term, other, leveled, term-step, bracket-deep, bracket-open, call-deep, call-open, call-name, call-nameless}
-use Rattle.refal_parser.proofs.TermLaws.{one-leaf, one-term}
-use Rattle.refal_parser.proofs.Rows.{whole-bracket, size-bracket, whole-call, size-call}
+use Rattle.refal_parser.proofs.Steps.{is-at, is-no, ready-term, other, term-step, bracket-deep, call-deep, call-open, call-nameless}
+use Rattle.refal_parser.proofs.TermLaws.{one-leaf, one-term, until-no, until-of-terms, bracket-no, bracket-of-terms, call-no, call-of-terms}
 use borrow.Author.Needs.{needs}
 use borrow.Fn.Kinds.{In}
 use borrow.Fn.PlainCycle.{Measures, is, falls, and}
@@ -111,12 +106,8 @@ bracket-until-requires t c κs = let pre₀ = c .before .before .before .before 
     let R = (ready-term _ _ _ (pre₀ .0) (pre₀ .2) refl) in let h = pre₀ .1 in (omega arith, (R, omega arith, omega arith))
 
 bracket-returns-2 : (t : ℕ) → bracket-lts.Need-returns-2 (bracket-claims t) (bracket-at t) bracket.Post
-bracket-returns-2 t c = let w = c .before .before .before .before .before .before .before .before .before .args .tokens .now in
-    let at₀ = c .before .before .before .before .before .before .before .before .before .args .cursor .at in
-    let left₀ = c .before .before .before .before .before .before .before .before .before .args .cursor .left in
-    let pre₀ = c .before .before .before .before .before .before .before .before .before .pre .1 in
-    is-no (c .enum-told .given .1) (λ x f p. bracket-open _ _ (pre₀ .0) _ x f (pre₀ .2) (c .before .before .before .before .before .before .if1 .left) p
-    ∙ c .before .before .before .before .until .ensures .no _ _ _ _ _ (c .enum-told .given .1) (inBracket x f (getD w (at₀ + 4) 0)) (λ (g : Terms) (a e : ℕ). within (suc (left₀ - 1)) x (tMore f (theBracket (getD w (at₀ + 4) 0) g e))) (λ h t y z. refl) p)
+bracket-returns-2 t c = let pre₀ = c .before .before .before .before .before .before .before .before .before .pre .1 in
+    is-no (c .enum-told .given .1) (bracket-no (pre₀ .0) (pre₀ .2) (c .before .before .before .before .before .before .if1 .left) (c .before .before .before .before .until .ensures .no _ _ _ _ _ (c .enum-told .given .1)))
 
 bracket-span-from-requires : (t : ℕ) → bracket-lts.Need-span-from-requires (bracket-claims t) (bracket-at t) bracket.Post
 bracket-span-from-requires t c κs = let pre₀ = c .before .before .before .before .before .before .before .before .before .before .pre .1 in
@@ -131,25 +122,9 @@ bracket-put-span-requires t c κs = let pre₀ = c .before .before .before .befo
     let R = U .closed .ready in let f = U .few in let h = pre₀ .1 in let g = pre₀ .0 in (omega arith, omega arith)
 
 bracket-returns-3 : (t : ℕ) → bracket-lts.Need-returns-3 (bracket-claims t) (bracket-at t) bracket.Post
-bracket-returns-3 t c = let w = c .before .before .before .before .before .before .before .before .before .before .before .before .before .before .before .before .args .tokens .now in
-    let j₁ = c .before .before .before .before .before .before .before .r .given .0 .0 in
-    let at₀ = c .before .before .before .before .before .before .before .before .before .before .before .before .before .before .before .before .args .cursor .at in
-    let left₀ = c .before .before .before .before .before .before .before .before .before .before .before .before .before .before .before .before .args .cursor .left in
-    let pre₀ = c .before .before .before .before .before .before .before .before .before .before .before .before .before .before .before .before .pre .1 in
+bracket-returns-3 t c = let pre₀ = c .before .before .before .before .before .before .before .before .before .before .before .before .before .before .before .before .pre .1 in
     let U = c .before .before .before .before .before .before .before .before .before .before .before .until .ensures .at _ _ (c .before .before .before .before .before .before .before .r .given .1) in
-    is-at refl (record {
-      x = theBracket (getD w (at₀ + 4) 0) (U .g) (U .closed .e);
-      ready = U .closed .ready;
-      on = let h = U .closed .on in omega arith;
-      few = U .few;
-      rows = whole-bracket _ _ _ (U .g) (U .count) _ (let h = U .rows in let l = U .closed .last in cc);
-      count = size-bracket _ _ _ (U .g) (U .count);
-      first = refl;
-      last = U .closed .last;
-      means = λ x f p. bracket-open _ _ (pre₀ .0) _ x f (pre₀ .2) (c .before .before .before .before .before .before .before .before .before .before .before .before .before .if1 .left) p
-          ∙ U .closed .means (inBracket x f (getD w (at₀ + 4) 0)) (λ (g : Terms) (a e : ℕ). within (suc (left₀ - 1)) x (tMore f (theBracket (getD w (at₀ + 4) 0) g e))) (λ h t y z. refl) p
-          ∙ leveled w j₁ left₀ (λ (d : ℕ). within d x (tMore f (theBracket (getD w (at₀ + 4) 0) (U .g) (U .closed .e)))) (c .before .before .before .before .before .before .before .before .before .before .before .before .before .if1 .left) p;
-    })
+    is-at refl (bracket-of-terms (pre₀ .0) (pre₀ .2) (c .before .before .before .before .before .before .before .before .before .before .before .before .before .if1 .left) _ U (c .before .before .before .before .before .span-from .ensures) (c .before .before .before .before .end-before .ensures) (c .before .before .put-span .ensures))
 
 call-returns : (t : ℕ) → call-lts.Need-returns (call-claims t) (call-at t) call.Post
 call-returns t c = let pre₀ = c .before .before .before .before .pre .1 in
@@ -189,14 +164,9 @@ call-until-requires t c κs = let w = c .before .before .before .before .before 
     let h = pre₀ .1 in (omega arith, (ready-next _ _ R (other _ _ _ k₃ refl), omega arith, omega arith))
 
 call-returns-3 : (t : ℕ) → call-lts.Need-returns-3 (call-claims t) (call-at t) call.Post
-call-returns-3 t c = let w = c .before .before .before .before .before .before .before .before .before .before .before .args .tokens .now in
-    let at₀ = c .before .before .before .before .before .before .before .before .before .before .before .args .cursor .at in
-    let left₀ = c .before .before .before .before .before .before .before .before .before .before .before .args .cursor .left in
-    let pre₀ = c .before .before .before .before .before .before .before .before .before .before .before .pre .1 in
-    let k₃ : getD w (at₀ + 6) 0 ≡ 3 = sym (c .before .before .before .before .before .before .before .kind .ensures) ∙ c .before .before .before .before .before .before .if2 .left in
-    is-no (c .enum-told .given .1) (λ x f p. call-open _ _ (pre₀ .0) _ x f (pre₀ .2) (c .before .before .before .before .before .before .before .before .if1 .left) p
-    ∙ call-name _ _ (ready-term _ _ _ (pre₀ .0) (pre₀ .2) refl) _ x f _ k₃ p
-    ∙ c .before .before .before .before .until .ensures .no _ _ _ _ _ (c .enum-told .given .1) (inCall x f (getD w (at₀ + 4) 0) (getD w (at₀ + 6 + 2) 0) (getD w (at₀ + 6 + 3) 0)) (λ (g : Terms) (a e : ℕ). within (suc (left₀ - 1)) x (tMore f (theCall (getD w (at₀ + 4) 0) (getD w (at₀ + 6 + 2) 0) (getD w (at₀ + 6 + 3) 0) g e))) (λ h t y z. refl) p)
+call-returns-3 t c = let pre₀ = c .before .before .before .before .before .before .before .before .before .before .before .pre .1 in
+    is-no (c .enum-told .given .1) (call-no (pre₀ .0) (pre₀ .2) (c .before .before .before .before .before .before .before .before .if1 .left) (sym (c .before .before .before .before .before .before .before .kind .ensures) ∙ c .before .before .before .before .before .before .if2 .left)
+    (c .before .before .before .before .until .ensures .no _ _ _ _ _ (c .enum-told .given .1)))
 
 call-text-start-requires : (t : ℕ) → call-lts.Need-text-start-requires (call-claims t) (call-at t) call.Post
 call-text-start-requires t c κs = let pre₀ = c .before .before .before .before .before .before .before .before .before .before .before .before .pre .1 in
@@ -219,27 +189,10 @@ call-put-node-requires t c κs = let pre₀ = c .before .before .before .before 
     let R = U .closed .ready in let f = U .few in let h = pre₀ .1 in let g = pre₀ .0 in (omega arith, omega arith)
 
 call-returns-4 : (t : ℕ) → call-lts.Need-returns-4 (call-claims t) (call-at t) call.Post
-call-returns-4 t c = let w = c .before .before .before .before .before .before .before .before .before .before .before .before .before .before .before .before .before .before .before .before .args .tokens .now in
-    let j₁ = c .before .before .before .before .before .before .before .before .before .r .given .0 .0 in
-    let at₀ = c .before .before .before .before .before .before .before .before .before .before .before .before .before .before .before .before .before .before .before .before .args .cursor .at in
-    let left₀ = c .before .before .before .before .before .before .before .before .before .before .before .before .before .before .before .before .before .before .before .before .args .cursor .left in
-    let pre₀ = c .before .before .before .before .before .before .before .before .before .before .before .before .before .before .before .before .before .before .before .before .pre .1 in
+call-returns-4 t c = let pre₀ = c .before .before .before .before .before .before .before .before .before .before .before .before .before .before .before .before .before .before .before .before .pre .1 in
     let U = c .before .before .before .before .before .before .before .before .before .before .before .before .before .until .ensures .at _ _ (c .before .before .before .before .before .before .before .before .before .r .given .1) in
-    let k₃ : getD w (at₀ + 6) 0 ≡ 3 = sym (c .before .before .before .before .before .before .before .before .before .before .before .before .before .before .before .before .kind .ensures) ∙ c .before .before .before .before .before .before .before .before .before .before .before .before .before .before .before .if2 .left in
-    is-at refl (record {
-      x = theCall (getD w (at₀ + 4) 0) (getD w (at₀ + 6 + 2) 0) (getD w (at₀ + 6 + 3) 0) (U .g) (U .closed .e);
-      ready = U .closed .ready;
-      on = let h = U .closed .on in omega arith;
-      few = U .few;
-      rows = whole-call _ _ _ (U .g) (U .count) _ _ _ (let h = U .rows in let l = U .closed .last in cc);
-      count = size-call _ _ _ (U .g) (U .count) _ _;
-      first = refl;
-      last = U .closed .last;
-      means = λ x f p. call-open _ _ (pre₀ .0) _ x f (pre₀ .2) (c .before .before .before .before .before .before .before .before .before .before .before .before .before .before .before .before .before .if1 .left) p
-          ∙ call-name _ _ (ready-term _ _ _ (pre₀ .0) (pre₀ .2) refl) _ x f _ k₃ p
-          ∙ U .closed .means (inCall x f (getD w (at₀ + 4) 0) (getD w (at₀ + 6 + 2) 0) (getD w (at₀ + 6 + 3) 0)) (λ (g : Terms) (a e : ℕ). within (suc (left₀ - 1)) x (tMore f (theCall (getD w (at₀ + 4) 0) (getD w (at₀ + 6 + 2) 0) (getD w (at₀ + 6 + 3) 0) g e))) (λ h t y z. refl) p
-          ∙ leveled w j₁ left₀ (λ (d : ℕ). within d x (tMore f (theCall (getD w (at₀ + 4) 0) (getD w (at₀ + 6 + 2) 0) (getD w (at₀ + 6 + 3) 0) (U .g) (U .closed .e)))) (c .before .before .before .before .before .before .before .before .before .before .before .before .before .before .before .before .before .if1 .left) p;
-    })
+    is-at refl (call-of-terms (pre₀ .0) (pre₀ .2) (c .before .before .before .before .before .before .before .before .before .before .before .before .before .before .before .before .before .if1 .left) (sym (c .before .before .before .before .before .before .before .before .before .before .before .before .before .before .before .before .kind .ensures) ∙ c .before .before .before .before .before .before .before .before .before .before .before .before .before .before .before .if2 .left) _ U
+    (c .before .before .before .before .before .before .before .text-start .ensures) (c .before .before .before .before .before .before .text-len .ensures) (c .before .before .before .before .before .span-from .ensures) (c .before .before .before .before .end-before .ensures) (c .before .before .put-node .ensures))
 
 abbrev terms-Inv-loop : terms-lts.InvT-loop
 terms-Inv-loop tokens rows₀ at n left i₀ m₀ rows i m = TermsInv tokens rows₀ rows at n left i m
@@ -359,33 +312,8 @@ until-closes-requires t c κs = let pre₀ = c .before .before .before .before .
     let T = c .before .before .before .before .before .terms .ensures .at _ _ (c .before .r .given .1) in (T .ready, pre₀ .2)
 
 until-returns-2 : (t : ℕ) → until-lts.Need-returns-2 (until-claims t) (until-at t) until.Post
-until-returns-2 t c = let w = c .before .before .before .before .before .before .before .before .before .before .args .tokens .now in
-    let j₁ = c .before .before .r .given .0 .0 in
-    let T = c .before .before .before .before .before .before .terms .ensures .at _ _ (c .before .before .r .given .1) in
-    record {
-      at = λ j m e.
-          let K = c .closes .ensures .at j m e in
-          record {
-            g = T .g;
-            closed = record {
-              a = getD w (j₁ + 4) 0;
-              e = getD w (j₁ + 5) 0;
-              ready = K .ready;
-              on = let a = T .on in let b = K .next in omega arith;
-              first = T .first;
-              last = K .last;
-              means = λ x st h p. T .means x p ∙ term-step _ _ (T .ready) _ x (T .g) NoTerm (T .none) p
-                  ∙ ap (λ (y : Step). after w j₁ p y) (h (T .g) (tok w j₁) (afterFrom w j₁) (afterTo w j₁))
-                  ∙ K .means (st (T .g) (getD w (j₁ + 4) 0) (getD w (j₁ + 5) 0)) p;
-            };
-            few = let a = T .few in let b = K .next in let d = K .rows in omega arith;
-            rows = T .rows;
-            count = K .rows ∙ T .count;
-          };
-      no = λ a b k d e q. λ x st h p. T .means x p ∙ term-step _ _ (T .ready) _ x (T .g) NoTerm (T .none) p
-          ∙ ap (λ (y : Step). after w j₁ p y) (h (T .g) (tok w j₁) (afterFrom w j₁) (afterTo w j₁))
-          ∙ c .closes .ensures .no a b k d e q (st (T .g) (getD w (j₁ + 4) 0) (getD w (j₁ + 5) 0)) p;
-    }
+until-returns-2 t c = let T = c .before .before .before .before .before .before .terms .ensures .at _ _ (c .before .before .r .given .1) in
+    record { at = λ j m e. until-of-terms T _ (c .closes .ensures .at j m e); no = λ a b k d e q. until-no T (c .before .before .before .before .before .before .before .before .before .before .args .want) (c .closes .ensures .no a b k d e q) }
 
 pub +bracket+call+terms+until-spec : {M : Type 1} → statement M
 +bracket+call+terms+until-spec = close μ-bracket μ-call μ-terms μ-until (λ t. bracket-lts.spec (bracket-claims t)
@@ -409,7 +337,6 @@ pub +bracket+call+terms+until-spec : {M : Type 1} → statement M
     (λ c. search needs) (λ c. search needs) (λ c. search needs) (terms-returns-2 t) (terms-loop-less-4 t) (terms-loop-again-4 t)
     (λ c. search needs) (terms-taken-requires t) (λ c. search needs) (terms-returns-3 t) (λ c. search needs) (λ c. search needs)
     (terms-returns-4 t))
-    λ t. until-lts.spec
-    (terms-below t, terms.Post, closes-reads.Asked, closes-reads.Learnt) (until-at t)
+    λ t. until-lts.spec (until-claims t) (until-at t)
     until.Post (until-terms-requires t) (λ c. search needs) (λ c. search needs) (λ c. search needs) (until-returns t)
     (until-closes-requires t) (λ c. search needs) (until-returns-2 t)

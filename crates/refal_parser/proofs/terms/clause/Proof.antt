@@ -6,43 +6,34 @@ use borrow.Author.Needs.{needs}
 use Rattle.refal_parser.proofs.terms.clause.Statement.{statement}
 use Rattle.refal_parser.proofs.terms.clause.Tie as tie
 
--- src/terms.rt:177:17
 add-row : tie.Need-add-row
 add-row c = let pre₀ = c .before .before .pre in
     let R = pre₀ .0 in let h = pre₀ .1 in omega arith
 
--- src/terms.rt:178:9
 until-requires : tie.Need-until-requires
 until-requires c κs = let pre₀ = c .before .before .before .pre in
     let h = pre₀ .1 in (pre₀ .0, omega arith, pre₀ .2)
 
--- src/terms.rt:179:17
 enum-known-r : tie.Need-enum-known-r
 enum-known-r c = search needs
 
--- src/terms.rt:180:9
 enum-told : tie.Need-enum-told
 enum-told c = search needs
 
--- src/terms.rt:180:9
 same-length : tie.Need-same-length
 same-length c = search needs
 
--- src/terms.rt:180:9
 returns : tie.Need-returns
 returns c = is-no (c .enum-told .given .1) (c .before .before .before .before .until .ensures .no _ _ _ _ _ (c .enum-told .given .1))
 
--- src/terms.rt:182:5
 put-terms-requires : tie.Need-put-terms-requires
 put-terms-requires c κs = let pre₀ = c .before .before .before .before .before .before .before .before .before .before .pre in
     let U = c .before .before .before .before .before .before .until .ensures .at _ _ (c .before .before .r .given .1) in
     let R = U .closed .ready in let f = U .few in let h = pre₀ .1 in let g = pre₀ .0 in (omega arith, omega arith)
 
--- src/terms.rt:173:1
 same-length-2 : tie.Need-same-length-2
 same-length-2 c = search needs
 
--- src/terms.rt:173:1
 returns-2 : tie.Need-returns-2
 returns-2 c = let U = c .before .before .before .before .before .before .before .before .before .until .ensures .at _ _ (c .before .before .before .before .before .r .given .1) in
     is-at refl (record {

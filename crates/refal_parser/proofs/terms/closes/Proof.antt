@@ -8,15 +8,12 @@ use borrow.Author.Needs.{needs}
 use Rattle.refal_parser.proofs.terms.closes.Statement.{statement}
 use Rattle.refal_parser.proofs.terms.closes.Tie as tie
 
--- src/terms.rt:53:9
 kind-requires : tie.Need-kind-requires
 kind-requires c κs = search needs
 
--- src/terms.rt:55:24
 add-t7 : tie.Need-add-t7
 add-t7 c = search needs
 
--- src/terms.rt:55:9
 returns : tie.Need-returns
 returns c = let w = c .before .before .before .args .tokens .now in
     let at₀ = c .before .before .before .args .at in
@@ -30,22 +27,18 @@ returns c = let w = c .before .before .before .args .tokens .now in
       means = λ st p. closes-here w at₀ (c .before .before .before .args .want) st p k;
     })
 
--- src/terms.rt:58:9
 present-requires : tie.Need-present-requires
 present-requires c κs = search needs
 
--- src/terms.rt:58:9
 returns-2 : tie.Need-returns-2
 returns-2 c = let w = c .before .before .before .before .before .args .tokens .now in
     let at₀ = c .before .before .before .before .before .args .at in
     is-no (c .present .ensures) (λ st p. closes-eof w at₀ (c .before .before .before .before .before .args .want) st p (λ e. c .before .before .if1 .left (c .before .before .before .kind .ensures
     ∙ e)) (sym (c .before .before .before .kind .ensures) ∙ c .before .if2 .taken))
 
--- src/terms.rt:60:5
 taken-requires : tie.Need-taken-requires
 taken-requires c κs = search needs
 
--- src/terms.rt:49:1
 returns-3 : tie.Need-returns-3
 returns-3 c = let w = c .before .before .before .before .before .args .tokens .now in
     let at₀ = c .before .before .before .before .before .args .at in

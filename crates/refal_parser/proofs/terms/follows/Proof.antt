@@ -6,11 +6,6 @@ use Rattle.refal_parser.proofs.Steps.{is-at, is-no, joint-comma, joint-
 use borrow.Author.Needs.{needs}
 use Rattle.refal_parser.proofs.terms.follows.Statement.{statement}
 use Rattle.refal_parser.proofs.terms.follows.Tie as tie
-use Rattle.refal_parser.proofs.terms.follows.Reads as reads
-use Rattle.refal_parser.proofs.terms.follows.Lts as lts
-use Rattle.refal_parser.proofs.answers.present.Reads as present-reads
-use Rattle.refal_parser.proofs.answers.taken.Reads as taken-reads
-use Rattle.refal_parser.proofs.tokens.kind.Reads as kind-reads
 
 kind-requires : tie.Need-kind-requires
 kind-requires c κs = search needs

@@ -11,47 +11,37 @@ use borrow.Author.Needs.{needs}
 use Rattle.refal_parser.proofs.terms.pattern.Statement.{statement}
 use Rattle.refal_parser.proofs.terms.pattern.Tie as tie
 
--- src/terms.rt:209:17
 add-row : tie.Need-add-row
 add-row c = let pre₀ = c .before .before .pre in
     let R = pre₀ .0 in let h = pre₀ .1 in omega arith
 
--- src/terms.rt:210:9
 terms-requires : tie.Need-terms-requires
 terms-requires c κs = let pre₀ = c .before .before .before .pre in
     let h = pre₀ .1 in (pre₀ .0, omega arith)
 
--- src/terms.rt:211:17
 enum-known-r : tie.Need-enum-known-r
 enum-known-r c = search needs
 
--- src/terms.rt:212:9
 enum-told : tie.Need-enum-told
 enum-told c = search needs
 
--- src/terms.rt:212:9
 same-length : tie.Need-same-length
 same-length c = search needs
 
--- src/terms.rt:212:9
 returns : tie.Need-returns
 returns c = is-no (c .enum-told .given .1) (λ q b r h. c .before .before .before .before .terms .ensures .no _ _ _ _ _ (c .enum-told .given .1) q)
 
--- src/terms.rt:214:5
 put-terms-requires : tie.Need-put-terms-requires
 put-terms-requires c κs = let pre₀ = c .before .before .before .before .before .before .before .before .before .before .pre in
     let T = c .before .before .before .before .before .before .terms .ensures .at _ _ (c .before .before .r .given .1) in
     let R = T .ready in let f = T .few in let h = pre₀ .1 in let g = pre₀ .0 in (omega arith, omega arith)
 
--- src/terms.rt:215:5
 follows-requires : tie.Need-follows-requires
 follows-requires c κs = (c .before .before .before .before .before .before .before .before .before .terms .ensures .at _ _ (c .before .before .before .before .before .r .given .1)) .ready
 
--- src/terms.rt:205:1
 same-length-2 : tie.Need-same-length-2
 same-length-2 c = search needs
 
--- src/terms.rt:205:1
 returns-2 : tie.Need-returns-2
 returns-2 c = let w = c .before .before .before .before .before .before .before .before .before .before .before .before .before .before .args .tokens .now in
     let j₁ = c .before .before .before .before .before .before .r .given .0 .0 in

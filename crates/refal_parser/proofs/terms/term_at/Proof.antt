@@ -3,27 +3,21 @@ use borrow.Author.Needs.{needs}
 use Rattle.refal_parser.proofs.terms.term_at.Statement.{statement}
 use Rattle.refal_parser.proofs.terms.term_at.Tie as tie
 
--- src/terms.rt:45:13
 kind-requires : tie.Need-kind-requires
 kind-requires c κs = search needs
 
--- src/terms.rt:45:31
 detail-requires : tie.Need-detail-requires
 detail-requires c κs = search needs
 
--- src/terms.rt:45:51
 text-start-requires : tie.Need-text-start-requires
 text-start-requires c κs = search needs
 
--- src/terms.rt:45:75
 text-len-requires : tie.Need-text-len-requires
 text-len-requires c κs = search needs
 
--- src/terms.rt:45:5
 term-of-requires : tie.Need-term-of-requires
 term-of-requires c κs = search needs
 
--- src/terms.rt:41:1
 returns : tie.Need-returns
 returns c = cc
 

@@ -7,35 +7,27 @@ use borrow.Author.Needs.{needs}
 use Rattle.refal_parser.proofs.terms.term_of.Statement.{statement}
 use Rattle.refal_parser.proofs.terms.term_of.Tie as tie
 
--- src/terms.rt:34:14
 variable-of-requires : tie.Need-variable-of-requires
 variable-of-requires c κs = search needs
 
--- src/terms.rt:27:1
 returns : tie.Need-returns
 returns c = ap (λ (x : ℕ). termOf x (c .before .args .detail) (c .before .args .start) (c .before .args .len)) (sym (c .match .keys1))
 
--- src/terms.rt:27:1
 returns-2 : tie.Need-returns-2
 returns-2 c = c .variable-of .ensures ∙ ap (λ (x : ℕ). termOf x (c .before .before .args .detail) (c .before .before .args .start) (c .before .before .args .len)) (sym (c .before .match .keys2))
 
--- src/terms.rt:27:1
 returns-3 : tie.Need-returns-3
 returns-3 c = ap (λ (x : ℕ). termOf x (c .before .args .detail) (c .before .args .start) (c .before .args .len)) (sym (c .match .keys3))
 
--- src/terms.rt:27:1
 returns-4 : tie.Need-returns-4
 returns-4 c = ap (λ (x : ℕ). termOf x (c .before .args .detail) (c .before .args .start) (c .before .args .len)) (sym (c .match .keys4))
 
--- src/terms.rt:27:1
 returns-5 : tie.Need-returns-5
 returns-5 c = ap (λ (x : ℕ). termOf x (c .before .args .detail) (c .before .args .start) (c .before .args .len)) (sym (c .match .keys5))
 
--- src/terms.rt:27:1
 returns-6 : tie.Need-returns-6
 returns-6 c = ap (λ (x : ℕ). termOf x (c .before .args .detail) (c .before .args .start) (c .before .args .len)) (sym (c .match .keys6))
 
--- src/terms.rt:27:1
 returns-7 : tie.Need-returns-7
 returns-7 c = let n = c .match .rest in term-none _ (c .before .args .detail) (c .before .args .start) (c .before .args .len) (n .0 .0 .0 .0 .0 .1) (n .0 .0 .0 .0 .1) (n .0 .0 .0 .1) (n .0 .0 .1) (n .0 .1) (n .1)
 

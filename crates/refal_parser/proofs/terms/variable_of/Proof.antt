@@ -6,19 +6,15 @@ use Rattle.refal_parser.proofs.Steps.{variable-none}
 use Rattle.refal_parser.proofs.terms.variable_of.Statement.{statement}
 use Rattle.refal_parser.proofs.terms.variable_of.Tie as tie
 
--- src/terms.rt:15:1
 returns : tie.Need-returns
 returns c = ap (λ (x : ℕ). variableOf x (c .before .args .start) (c .before .args .len)) (sym (c .match .keys1))
 
--- src/terms.rt:15:1
 returns-2 : tie.Need-returns-2
 returns-2 c = ap (λ (x : ℕ). variableOf x (c .before .args .start) (c .before .args .len)) (sym (c .match .keys2))
 
--- src/terms.rt:15:1
 returns-3 : tie.Need-returns-3
 returns-3 c = ap (λ (x : ℕ). variableOf x (c .before .args .start) (c .before .args .len)) (sym (c .match .keys3))
 
--- src/terms.rt:15:1
 returns-4 : tie.Need-returns-4
 returns-4 c = variable-none _ _ _ (c .match .rest .0 .0 .1) (c .match .rest .0 .1) (c .match .rest .1)
 
