@@ -2,7 +2,7 @@
 use mathlib.Core.Path.{_≡_, refl, sym, ap, subst, _∙_}
 use Prim.Native.Nat.{ℕ, zero, suc, _+_, _-_}
 use mathlib.Core.List.{List}
-use mathlib.Core.Bool.{true, false}
+use mathlib.Core.Bool.{Bool, true, false}
 use native.Mathlib.Omega.{arith}
 use native.Mathlib.Numerals.{sub-one}
 use lib.ListN.{getD}
@@ -10,15 +10,15 @@ use lib.Dec.{eqb}
 use borrow.Author.Tests.{ne-eqb, eq-eqb, eqb-false}
 use Rattle.refal_ast.specs.Kinds.{tokEntry, tokExtern, tokIdentifier, tokLBrace, tokRBrace, tokComma, tokEquals, tokSemicolon, tokEof}
 use Rattle.refal_ast.specs.Tokens.{Token, token}
-use Rattle.refal_ast.specs.Tree.{Terms, t0, Sentences, s0, Names, nOne, nMore, declaration, Program, pMore}
+use Rattle.refal_ast.specs.Tree.{Terms, t0, End, Sentences, s0, bAll, Names, nOne, nMore, declaration, Program, pMore}
 use Rattle.refal_ast.specs.declared.tree.Term.{Term}
 use Rattle.refal_ast.specs.declared.tree.Term.the-variants.{Symbol as theSymbol, Variable, Bracket, Call, UnknownVariable, NoTerm}
 use Rattle.refal_ast.specs.Limits.{mostLevels}
 use Rattle.refal_parser.specs.Machine.{termOf, variableOf, Heading, Begun, Argument, Block, body, inCondition, inEnding, Place, pattern, argument, matching, result, ending, inBracket, inCall}
 use Rattle.refal_parser.specs.Machine.{State, outside, wantsName, wantsMore, named, entered, headed, between, within, calling, matched, conditioned, equated, blocked, ended}
-use Rattle.refal_parser.specs.Machine.{tree, refuse, Step, go, opens, expected, wants, afterTerms, inTerms, atTerms, endBlock, finished, leave, step, run}
+use Rattle.refal_parser.specs.Machine.{tree, refuse, Step, go, opens, expected, wants, among, closing, either, inTerms, atTerms, finished, leftOff, leave, step, run}
 use Rattle.refal_parser.specs.Ready.{rest, tok, termAt, afterFrom, afterTo, Ready}
-use Rattle.refal_parser.specs.Post.{Cases, runs, Same, Refuses, leads, after}
+use Rattle.refal_parser.specs.Post.{Cases, runs, Same, Refuses, leads, after, Joint}
 use Rattle.refal_parser.specs.PostTerms.{Closing}
 use Rattle.refal_parser.specs.PostBlock.{Opens}
 use Rattle.refal_parser.specs.PostItems.{heading}
@@ -110,8 +110,30 @@ module _ (w : List ℕ) (at : ℕ) where
       Closing w at want st p ≡ refuse 34 0 (getD w at 0) (afterFrom w at) (afterTo w at)
   closes-none want st p n n' = rw (ne-eqb (getD w at 0) want n, ne-eqb (getD w at 0) tokEof n') refl
 
+  -- ---- one of two kinds: neither
+  module _ (also want : ℕ) (u v : Step) where
+    pub two-eof : (getD w at 0 ≡ also → ⊥) → (getD w at 0 ≡ want → ⊥) → getD w at 0 ≡ tokEof → (p : Program) →
+        after w at p (closing want (either also u want v) (tok w at) (afterFrom w at) (afterTo w at)) ≡ refuse 35 want (getD w at 0) (getD w (at + 4) 0) (getD w (at + 5) 0)
+    two-eof n₁ n₂ e p = rw (ne-eqb (getD w at 0) also n₁, ne-eqb (getD w at 0) want n₂, eq-eqb (getD w at 0) tokEof e) refl
+
+    pub two-none : (getD w at 0 ≡ also → ⊥) → (getD w at 0 ≡ want → ⊥) → (getD w at 0 ≡ tokEof → ⊥) → (p : Program) →
+        after w at p (closing want (either also u want v) (tok w at) (afterFrom w at) (afterTo w at)) ≡ refuse 34 0 (getD w at 0) (afterFrom w at) (afterTo w at)
+    two-none n₁ n₂ n₃ p = rw (ne-eqb (getD w at 0) also n₁, ne-eqb (getD w at 0) want n₂, ne-eqb (getD w at 0) tokEof n₃) refl
+
+    pub two-other : (getD w at 0 ≡ also → ⊥) → (getD w at 0 ≡ want → ⊥) → (p : Program) →
+        after w at p (among (either also u want v) (tok w at) (expected want (tok w at))) ≡ refuse 35 want (getD w at 0) (getD w (at + 4) 0) (getD w (at + 5) 0)
+    two-other n₁ n₂ p = rw (ne-eqb (getD w at 0) also n₁, ne-eqb (getD w at 0) want n₂) refl
+
+    -- where one of them stands, what would be at another kind does not matter
+    pub two-here : (x y : Step) → Joint w at also want → among (either also u want v) (tok w at) x ≡ among (either also u want v) (tok w at) y
+    two-here x y h = go (eqb (getD w at 0) also) refl
+      where
+        go : (a : Bool) → eqb (getD w at 0) also ≡ a → among (either also u want v) (tok w at) x ≡ among (either also u want v) (tok w at) y
+        go true e = rw e refl
+        go false e = rw (e, eq-eqb (getD w at 0) want (h (eqb-false (getD w at 0) also e))) refl
+
   module _ (r : Ready w at) where
-    run-at : (st : State) (p : Program) → runs w at p st ≡ after w at p (step mostLevels st (tok w at) (afterFrom w at) (afterTo w at))
+    pub run-at : (st : State) (p : Program) → runs w at p st ≡ after w at p (step mostLevels st (tok w at) (afterFrom w at) (afterTo w at))
     unfolding run
     run-at st p = ap (λ (l : List Token). run mostLevels l p st) (rest-step w at (r .room))
 
@@ -155,42 +177,13 @@ module _ (w : List ℕ) (at : ℕ) where
 
     -- ---- after a sentence's pattern and conditions
     module _ (d : ℕ) (b : Block) (s : Begun) where
-      joint : Step
-      joint = afterTerms d b s (tok w at) (afterFrom w at) (afterTo w at)
-
-      joint-kind : (k : ℕ) → getD w at 0 ≡ k → (p : Program) → after w at p joint ≡ after w at p (afterTerms d b s (kinded k) (afterFrom w at) (afterTo w at))
-      unfolding kinded joint
-      joint-kind k e p = ap (λ (k : ℕ). after w at p (afterTerms d b s (kinded k) (afterFrom w at) (afterTo w at))) e
-
-      pub joint-comma : getD w at 0 ≡ tokComma → (p : Program) → after w at p (afterTerms d b s (tok w at) (afterFrom w at) (afterTo w at)) ≡ runs w at p (conditioned d b s)
-      unfolding kinded joint
-      joint-comma e p = joint-kind tokComma e p ∙ sym (run-kind (conditioned d b s) tokComma e p)
-
-      pub joint-equals : getD w at 0 ≡ tokEquals → (p : Program) → after w at p (afterTerms d b s (tok w at) (afterFrom w at) (afterTo w at)) ≡ runs w at p (conditioned d b s)
-      unfolding kinded joint
-      joint-equals e p = joint-kind tokEquals e p ∙ sym (run-kind (conditioned d b s) tokEquals e p)
-
-      pub joint-eof : getD w at 0 ≡ tokEof →
-          (p : Program) → after w at p (afterTerms d b s (tok w at) (afterFrom w at) (afterTo w at)) ≡ refuse 35 tokEquals (getD w at 0) (getD w (at + 4) 0) (getD w (at + 5) 0)
-      unfolding kinded joint
-      joint-eof e p = joint-kind tokEof e p ∙ ap (λ (k : ℕ). refuse 35 tokEquals k (getD w (at + 4) 0) (getD w (at + 5) 0)) (sym e)
-
-      pub joint-none : (getD w at 0 ≡ tokComma → ⊥) → (getD w at 0 ≡ tokEquals → ⊥) → (getD w at 0 ≡ tokEof → ⊥) →
-          (p : Program) → after w at p (afterTerms d b s (tok w at) (afterFrom w at) (afterTo w at)) ≡ refuse 34 0 (getD w at 0) (afterFrom w at) (afterTo w at)
-      joint-none n₁ n₂ n₃ p = rw (ne-eqb (getD w at 0) tokComma n₁, ne-eqb (getD w at 0) tokEquals n₂, ne-eqb (getD w at 0) tokEof n₃) refl
-
-      pub joins-none : (getD w at 0 ≡ tokComma → ⊥) → (getD w at 0 ≡ tokEquals → ⊥) →
-          Refuses w at (conditioned d b s) 35 tokEquals (getD w at 0) (getD w (at + 4) 0) (getD w (at + 5) 0)
-      joins-none n₁ n₂ =
-          run-as (conditioned d b s) (expected tokEquals (tok w at)) (rw (ne-eqb (getD w at 0) tokComma n₁, ne-eqb (getD w at 0) tokEquals n₂) refl)
-
       pub cond-start : Ready w (at + 6) → getD w at 0 ≡ tokComma → Same w at (conditioned d b s) (at + 6) (within d (argument b s (getD w (at + 6 + 4) 0)) t0)
       unfolding kinded
       cond-start r' e p =
           run-kind (conditioned d b s) tokComma e p
           ∙ ap (λ (x : ℕ). runs w (at + 6) p (within d (argument b s x) t0)) (from-next w at r')
 
-      pub cond-equals : getD w at 0 ≡ tokEquals → Same w at (conditioned d b s) (at + 6) (equated d b s)
+      pub cond-equals : getD w at 0 ≡ tokEquals → Same w at (conditioned d b s) (at + 6) (equated d b s (getD w (at + 5) 0))
       unfolding kinded
       cond-equals e = run-kind (conditioned d b s) tokEquals e
 
@@ -205,14 +198,14 @@ module _ (w : List ℕ) (at : ℕ) where
           ∙ sym (run-at (within d (matching b s o g) t0) p)
 
       -- ---- the end of a sentence
-      pub end-terms : (getD w at 0 ≡ tokComma → ⊥) → Same w at (equated d b s) at (within d (result b s) t0)
-      end-terms n p =
-          run-as (equated d b s) (atTerms d (result b s) t0 (tok w at) (afterFrom w at) (afterTo w at)) (rw (ne-eqb (getD w at 0) tokComma n) refl) p
-          ∙ sym (run-at (within d (result b s) t0) p)
+      pub end-terms : (q : ℕ) → (getD w at 0 ≡ tokComma → ⊥) → Same w at (equated d b s q) at (within d (result b s q) t0)
+      end-terms q n p =
+          run-as (equated d b s q) (atTerms d (result b s q) t0 (tok w at) (afterFrom w at) (afterTo w at)) (rw (ne-eqb (getD w at 0) tokComma n) refl) p
+          ∙ sym (run-at (within d (result b s q) t0) p)
 
-      pub end-start : getD w at 0 ≡ tokComma → Same w at (equated d b s) (at + 6) (within d (ending b s) t0)
+      pub end-start : (q : ℕ) → getD w at 0 ≡ tokComma → Same w at (equated d b s q) (at + 6) (within d (ending b s) t0)
       unfolding kinded
-      end-start e = run-kind (equated d b s) tokComma e
+      end-start q e = run-kind (equated d b s q) tokComma e
 
       pub end-block : (g : Argument) → getD w at 0 ≡ tokLBrace → (p : Program) → runs w at p (blocked d b s g) ≡ Opens w at d (inEnding b s g) p
       end-block g k =
@@ -222,19 +215,18 @@ module _ (w : List ℕ) (at : ℕ) where
           Refuses w at (blocked d b s g) 35 tokLBrace (getD w at 0) (getD w (at + 4) 0) (getD w (at + 5) 0)
       end-unopened g n = run-as (blocked d b s g) (expected tokLBrace (tok w at)) (rw (ne-eqb (getD w at 0) tokLBrace n) refl)
 
-      pub end-closed : (g : Argument) (v : Sentences) (e : ℕ) → getD w at 0 ≡ tokSemicolon →
-          Same w at (ended d b s g v e) (at + 6) (between d b (finished s (endBlock g v e) (getD w (at + 5) 0)))
+      -- its `;`, and the `}` where that is left off
+      pub end-closed : (z : End) (e : ℕ) → getD w at 0 ≡ tokSemicolon → Same w at (ended d b s z e) (at + 6) (between d b (finished s z (getD w (at + 5) 0)))
       unfolding kinded
-      end-closed g v e k = run-kind (ended d b s g v e) tokSemicolon k
+      end-closed z e k = run-kind (ended d b s z e) tokSemicolon k
 
-      pub end-unclosed : (g : Argument) (v : Sentences) (e : ℕ) → (getD w at 0 ≡ tokSemicolon → ⊥) →
-          Refuses w at (ended d b s g v e) 35 tokSemicolon (getD w at 0) (getD w (at + 4) 0) (getD w (at + 5) 0)
-      end-unclosed g v e n = run-as (ended d b s g v e) (expected tokSemicolon (tok w at)) (rw (ne-eqb (getD w at 0) tokSemicolon n) refl)
+      pub end-left : (z : End) (e : ℕ) → getD w at 0 ≡ tokRBrace → (p : Program) → runs w at p (ended d b s z e) ≡ after w at p (leave d b (leftOff s z e) (getD w (at + 5) 0))
+      end-left z e k = run-as (ended d b s z e) (leave d b (leftOff s z e) (getD w (at + 5) 0)) (rw (eq-eqb (getD w at 0) tokRBrace k) refl)
 
     -- ---- between sentences
     module _ (d : ℕ) (b : Block) (v : Sentences) where
-      pub block-close : getD w at 0 ≡ tokRBrace → (p : Program) → runs w at p (between d b v) ≡ leads w (at + 6) p (leave d b v (getD w (at + 5) 0))
-      block-close e = run-as (between d b v) (leave d b v (getD w (at + 5) 0)) (rw (eq-eqb (getD w at 0) tokRBrace e) refl)
+      pub block-close : getD w at 0 ≡ tokRBrace → (p : Program) → runs w at p (between d b v) ≡ leads w (at + 6) p (leave d b (bAll v) (getD w (at + 5) 0))
+      block-close e = run-as (between d b v) (leave d b (bAll v) (getD w (at + 5) 0)) (rw (eq-eqb (getD w at 0) tokRBrace e) refl)
 
       pub block-eof : (getD w at 0 ≡ tokRBrace → ⊥) → getD w at 0 ≡ tokEof →
           Refuses w at (between d b v) 35 tokRBrace (getD w at 0) (getD w (at + 4) 0) (getD w (at + 5) 0)

@@ -1,5 +1,5 @@
 -- Terms with one term more, whose rows are put behind theirs; terms that are closed; a bracket and a call from the answers of their parts.
-use mathlib.Core.Path.{_≡_, refl, sym, ap, _∙_}
+use mathlib.Core.Path.{_≡_, refl, sym, ap, subst, _∙_}
 use Prim.Native.Nat.{ℕ, suc, _+_, _-_}
 use mathlib.Core.List.{List}
 use native.Mathlib.Omega.{arith}
@@ -8,16 +8,16 @@ use Rattle.refal_ast.specs.Kinds.{tokIdentifier, tokRParen, tokRAngle, nodeBrac
 use Rattle.refal_ast.specs.Nodes.{node}
 use Rattle.refal_ast.specs.Tree.{Leaf, symbol, variable, leaf, bracket, call, Terms, t0, tMore, Program, sizeTerm}
 use Rattle.refal_ast.specs.Encode.{leafRow}
-use Rattle.refal_parser.specs.Machine.{Place, State, Step, within, inBracket, inCall, inTerms, firstStart, refuse}
+use Rattle.refal_parser.specs.Machine.{Place, State, Step, within, inBracket, inCall, closing, either, inTerms, firstStart, refuse}
 use Rattle.refal_parser.specs.Ready.{tok, termAt, afterFrom, afterTo, endBefore, Few, Ready}
 use Rattle.refal_ast.specs.declared.tree.Term.{Term}
 use Rattle.refal_ast.specs.declared.tree.Term.the-variants.{Symbol as theSymbol, Variable, Bracket, Call, NoTerm}
-use Rattle.refal_parser.specs.Writers.{putNode, spanRow, wTerm}
-use Rattle.refal_parser.specs.Post.{runs, Same, Refuses, after}
-use Rattle.refal_parser.specs.PostTerms.{TermsAt, TermsInv, Closing, ClosesAt, Ends, ClosedNo, UntilAt, TermGot}
+use Rattle.refal_parser.specs.Writers.{putNode, spanRow, wTerm, wTerms}
+use Rattle.refal_parser.specs.Post.{runs, Same, Refuses, after, Joint}
+use Rattle.refal_parser.specs.PostTerms.{TermsAt, TermsInv, Closing, ClosesAt, Ends, ClosedNo, UntilAt, TermGot, FollowsAt, Turns, ClauseAt, ClauseNo}
 use Rattle.refal_parser.proofs.TokenLaws.{end-before}
 use Rattle.refal_parser.proofs.Rows.{more-terms, size-terms, whole-bracket, size-bracket, whole-call, size-call}
-use Rattle.refal_parser.proofs.Steps.{begins, ready-term, term-step, leveled, bracket-open, call-open, call-name}
+use Rattle.refal_parser.proofs.Steps.{begins, ready-term, term-step, run-at, two-here, leveled, moved, bracket-open, call-open, call-name}
 
 -- ---- the machine at a leaf
 -- what a token that is a leaf begins
@@ -114,6 +114,37 @@ module _ {w B B' : List ℕ} {at n left j m : ℕ} (T : TermsAt w B B' at n left
     few = let a = T .few in let b = K .next in let d = K .rows in omega arith;
     rows = T .rows;
     count = K .rows ∙ T .count;
+  }
+
+-- ---- terms up to one of two kinds, with their row
+module _ (n : ℕ) {w B B' : List ℕ} {at left also want j m : ℕ} (T : TermsAt w B B' at (n + 1) left j m) where
+  turned : (c : Place) (st : Terms → State) (t : Turns left c also want st) (p : Program) →
+      runs w at p (within left c t0) ≡ after w j p (closing want (either also (t .u (T .g) (tok w j) (afterFrom w j)) want (t .v (T .g) (tok w j) (afterFrom w j))) (tok w j) (afterFrom w j) (afterTo w j))
+  turned c st t p =
+      T .means c p
+      ∙ term-step w j (T .ready) left c (T .g) NoTerm (T .none) p
+      ∙ ap (λ (y : Step). after w j p y) (t .place (T .g) (tok w j) (afterFrom w j) (afterTo w j))
+
+  pub clause-no : {a b c d e : ℕ} → ((u v : Step) (p : Program) → after w j p (closing want (either also u want v) (tok w j) (afterFrom w j) (afterTo w j)) ≡ refuse a b c d e) →
+      ClauseNo w at left also want a b c d e
+  clause-no h c st t p = turned c st t p ∙ h (t .u (T .g) (tok w j) (afterFrom w j)) (t .v (T .g) (tok w j) (afterFrom w j)) p
+
+  pub clause-of-terms : {B″ : List ℕ} {j' m' : ℕ} → FollowsAt w j m also want j' m' → B″ ≡ wTerms (T .g) n B → ClauseAt w B B″ at n left also want j' m'
+  clause-of-terms {B″} {j'} {m'} K put = record {
+    g = T .g;
+    ready = K .ready;
+    on = let a = T .on in let b = K .stays in omega arith;
+    few = let a = T .few in let b = K .stays in let d = K .rows in omega arith;
+    rows = put;
+    count = K .rows ∙ T .count;
+    last = T .last ∙ ap (λ (i : ℕ). endBefore w i) (sym (K .stays));
+    joint = K .joint;
+    means = λ c st t p. turned c st t p
+        ∙ ap (λ (y : Step). after w j p y)
+        (two-here w j also want (t .u (T .g) (tok w j) (afterFrom w j)) (t .v (T .g) (tok w j) (afterFrom w j)) _ _ (subst (λ (i : ℕ). Joint w i also want) (K .stays) (K .joint))
+        ∙ sym (t .state (T .g) (tok w j) (afterFrom w j) (afterTo w j)))
+        ∙ sym (run-at w j (T .ready) (st (T .g)) p)
+        ∙ moved w j j' (st (T .g)) (K .stays) p;
   }
 
 -- ---- a bracket

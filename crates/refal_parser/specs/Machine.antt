@@ -3,7 +3,8 @@
 -- It recurses on the list of tokens alone, so the first refusal from the left is the answer.
 -- One letter for one thing: t a token, x and y the span of the token after it, L the most levels, d the levels left, b a block, s sentences, r the
 -- sentence being read, o the start of the condition being read, g an argument, cs conditions, c what terms stand in, f terms, a the start of what is being read,
--- ns names, h a function's heading, v the sentences of a block that has ended, e its end, p the items before.
+-- k a condition that has ended, q the end of a sentence's `=`, z what stands after it, ns names, h a function's heading, v the body of a block that has ended, e the end of what has ended,
+-- p the items before.
 use Prim.Native.Nat.{ℕ, zero, suc}
 use mathlib.Core.List.{List, [], _∷_}
 use mathlib.Core.Bool.{Bool, true, false}
@@ -12,7 +13,7 @@ use Rattle.refal_ast.specs.Kinds.{tokEntry, tokExtern, tokIdentifier, tokVariab
 use Rattle.refal_ast.specs.Kinds.{tokColon, tokEquals, tokSemicolon, tokEof}
 use Rattle.refal_ast.specs.Tokens.{Token}
 use Rattle.refal_ast.specs.Tree.{symbol, variable, Term as TreeTerm, leaf, bracket, call, Terms, t0, tMore, rTerms, rBlock, Condition, condition, Conditions, c0, cMore}
-use Rattle.refal_ast.specs.Tree.{End, eTerms, eBlock, sentence, Sentences, s0, sMore, Sentence, Names, nOne, nMore, Item, declaration, function, Program, pMore}
+use Rattle.refal_ast.specs.Tree.{End, eTerms, eBlock, sentence, Sentences, s0, sMore, Sentence, Body, bAll, bOff, Names, nOne, nMore, Item, declaration, function, Program, pMore}
 use Rattle.refal_ast.specs.declared.tree.Symbol.the-variants.{Char, Identifier, Number}
 use Rattle.refal_ast.specs.declared.tree.VariableKind.the-variants.{Symbol as kindS, Term as kindT, Expression as kindE}
 use Rattle.refal_ast.specs.declared.tree.Term.{Term}
@@ -78,8 +79,8 @@ pub data Place : Type 0 where
   argument : Block → Begun → ℕ → Place
   -- a condition's terms after `:`: as above, with the argument
   matching : Block → Begun → ℕ → Argument → Place
-  -- a sentence's result
-  result : Block → Begun → Place
+  -- a sentence's result: the block, the sentence, the end of its `=`
+  result : Block → Begun → ℕ → Place
   -- an ending block's argument
   ending : Block → Begun → Place
   -- a bracket: what it stands in, the terms before it, its start
@@ -108,12 +109,12 @@ pub data State : Type 0 where
   matched : ℕ → Block → Begun → ℕ → Argument → State
   -- after a condition's block
   conditioned : ℕ → Block → Begun → State
-  -- after a sentence's `=`
-  equated : ℕ → Block → Begun → State
+  -- after a sentence's `=`, with its end
+  equated : ℕ → Block → Begun → ℕ → State
   -- after an ending block's `:`
   blocked : ℕ → Block → Begun → Argument → State
-  -- after an ending block: its argument, sentences and end
-  ended : ℕ → Block → Begun → Argument → Sentences → ℕ → State
+  -- after an ending block: what the sentence ends in, and its end
+  ended : ℕ → Block → Begun → End → ℕ → State
 
 -- what comes of it: a tree; or a refusal, with number, expected, found, span start and end
 pub data Outcome : Type 0 where
@@ -154,18 +155,30 @@ abbrev pub opens : ℕ → Token → (ℕ → State) → Step
 opens zero t f = stop 37 0 (t .kind) (t .from) (t .to)
 opens (suc d) t f = go (f d)
 
--- ---- where terms end: at a kind that closes them; Eof there is 35, another kind 34
+-- ---- the kinds that may stand somewhere, each with its step
 pub record Closer : Type 0 where
   pub kind : ℕ
   pub next : Step
 
+abbrev pub closer : ℕ → Step → Closer
+closer kind next = record { kind = kind; next = next }
+
+-- the step of the one that has the token's kind, else another step
+abbrev pub among : List Closer → Token → Step → Step
+among [] t other = other
+among (m ∷ ms) t other = onKind (t .kind) (m .kind) (m .next) (among ms t other)
+
+-- where terms end: at a kind that closes them; Eof there is 35, another kind 34
 abbrev pub closing : ℕ → List Closer → Token → ℕ → ℕ → Step
-closing want [] t x y = onKind (t .kind) tokEof (expected want t) (noTerm t x y)
-closing want (k ∷ ks) t x y = onKind (t .kind) (k .kind) (k .next) (closing want ks t x y)
+closing want ms t x y = among ms t (onKind (t .kind) tokEof (expected want t) (noTerm t x y))
 
 -- the kind wanted, and no other
 abbrev pub only : ℕ → State → List Closer
-only want st = record { kind = want; next = go st } ∷ []
+only want st = closer want (go st) ∷ []
+
+-- one of two kinds
+abbrev pub either : ℕ → Step → ℕ → Step → List Closer
+either m u n v = closer m u ∷ closer n v ∷ []
 
 -- ---- spans
 abbrev pub startTerm : TreeTerm → ℕ
@@ -197,43 +210,54 @@ abbrev pub begun : Sentences → ℕ → Terms → Conditions → Begun
 begun s a f cs = record { before = s; from = a; pattern = f; conditions = cs }
 
 abbrev pub withCondition : Begun → Condition → Begun
-withCondition r z = begun (r .before) (r .from) (r .pattern) (cMore (r .conditions) z)
+withCondition r k = begun (r .before) (r .from) (r .pattern) (cMore (r .conditions) k)
 
 -- a condition with terms, which end with the last of them or with the `:`
 abbrev pub toTerms : ℕ → Argument → Terms → Condition
 toTerms o g f = condition o (g .terms) (rTerms f) (lastEnd f (g .to))
 
 -- a condition with a block, which ends with the block
-abbrev pub toBlock : ℕ → Argument → Sentences → ℕ → Condition
+abbrev pub toBlock : ℕ → Argument → Body → ℕ → Condition
 toBlock o g v e = condition o (g .terms) (rBlock (g .from) v e) e
 
-abbrev pub endBlock : Argument → Sentences → ℕ → End
+abbrev pub endBlock : Argument → Body → ℕ → End
 endBlock g v e = eBlock (g .from) (g .terms) v e
 
--- the sentences with this one, which ends in z at e
-abbrev pub finished : Begun → End → ℕ → Sentences
-finished r z e = sMore (r .before) (sentence (r .from) (r .pattern) (r .conditions) z e)
+-- this sentence, which ends in z at e
+abbrev pub sentenceOf : Begun → End → ℕ → Sentence
+sentenceOf r z e = sentence (r .from) (r .pattern) (r .conditions) z e
 
-abbrev pub functionOf : Heading → Sentences → ℕ → Item
+-- the sentences with this one and its `;`
+abbrev pub finished : Begun → End → ℕ → Sentences
+finished r z e = sMore (r .before) (sentenceOf r z e)
+
+-- the body that this one ends without its `;`
+abbrev pub leftOff : Begun → End → ℕ → Body
+leftOff r z e = bOff (r .before) (sentenceOf r z e)
+
+abbrev pub functionOf : Heading → Body → ℕ → Item
 functionOf h v e = function (h .from) (h .entry) (h .start) (h .len) v e
 
+-- where the `}` of a block of the body v leads
+abbrev pub leave : ℕ → Block → Body → ℕ → Step
+leave d (body h) v e = made (functionOf h v e)
+leave d (inCondition b r o g) v e = go (conditioned (suc d) b (withCondition r (toBlock o g v e)))
+leave d (inEnding b r g) v e = go (ended (suc d) b r (endBlock g v e) e)
+
 -- ---- after a pattern and conditions: another condition, which "starts at the token after its comma"; or `=`
-abbrev pub afterPattern : ℕ → Block → Begun → Token → ℕ → ℕ → Step → Step
-afterPattern d b r t x y other =
-    onKind (t .kind) tokComma (go (within d (argument b r x) t0))
-    (onKind (t .kind) tokEquals (go (equated d b r))
-    other)
+abbrev pub afterPattern : ℕ → Block → Begun → Token → ℕ → List Closer
+afterPattern d b r t x = either tokComma (go (within d (argument b r x) t0)) tokEquals (go (equated d b r (t .to)))
 
--- after pattern terms, Eof is 35 and another kind 34
-abbrev pub afterTerms : ℕ → Block → Begun → Token → ℕ → ℕ → Step
-afterTerms d b r t x y = afterPattern d b r t x y (closing tokEquals [] t x y)
+-- ---- after z, in which a sentence ends at e: "Before `}` a sentence may now do so", end without `;`, with its last token; or `;`
+abbrev pub afterEnd : ℕ → Block → Begun → End → ℕ → Token → List Closer
+afterEnd d b r z e t = either tokRBrace (leave d b (leftOff r z e) (t .to)) tokSemicolon (go (between d b (finished r z (t .to))))
 
--- at a token that begins no term, in terms f
+-- ---- at a token that begins no term, in terms f
 abbrev pub endOf : ℕ → Place → Terms → Token → ℕ → ℕ → Step
-endOf d (pattern b s a) f t x y = afterTerms d b (begun s a f c0) t x y
+endOf d (pattern b s a) f t x y = closing tokEquals (afterPattern d b (begun s a f c0) t x) t x y
 endOf d (argument b r o) f t x y = closing tokColon (only tokColon (matched d b r o (asked f (t .from) (t .to)))) t x y
-endOf d (matching b r o g) f t x y = afterTerms d b (withCondition r (toTerms o g f)) t x y
-endOf d (result b r) f t x y = closing tokSemicolon (only tokSemicolon (between d b (finished r (eTerms f) (t .to)))) t x y
+endOf d (matching b r o g) f t x y = closing tokEquals (afterPattern d b (withCondition r (toTerms o g f)) t x) t x y
+endOf d (result b r q) f t x y = closing tokSemicolon (afterEnd d b r (eTerms f) (lastEnd f q) t) t x y
 endOf d (ending b r) f t x y = closing tokColon (only tokColon (blocked d b r (asked f (t .from) (t .to)))) t x y
 endOf d (inBracket c g a) f t x y = closing tokRParen (only tokRParen (within (suc d) c (tMore g (bracket a f (t .to))))) t x y
 endOf d (inCall c g a s l) f t x y = closing tokRAngle (only tokRAngle (within (suc d) c (tMore g (call a s l f (t .to))))) t x y
@@ -249,12 +273,6 @@ inTerms d c f t x y NoTerm = endOf d c f t x y
 
 abbrev pub atTerms : ℕ → Place → Terms → Token → ℕ → ℕ → Step
 atTerms d c f t x y = inTerms d c f t x y (termOf (t .kind) (t .detail) (t .start) (t .len))
-
--- where the `}` of a block of the sentences v leads
-abbrev pub leave : ℕ → Block → Sentences → ℕ → Step
-leave d (body h) v e = made (functionOf h v e)
-leave d (inCondition b r o g) v e = go (conditioned (suc d) b (withCondition r (toBlock o g v e)))
-leave d (inEnding b r g) v e = go (ended (suc d) b r g v e)
 
 -- ---- a token t, with the span x, y of the token after it; for each state the kinds in document 01's order
 abbrev pub step : ℕ → State → Token → ℕ → ℕ → Step
@@ -275,7 +293,7 @@ step L (entered a) t x y =
     onKind (t .kind) tokIdentifier (go (headed (record { from = a; entry = true; start = t .start; len = t .len }))) (wants 32 t x y)
 step L (headed h) t x y = onKind (t .kind) tokLBrace (go (between L (body h) s0)) (expected tokLBrace t)
 step L (between d b s) t x y =
-    onKind (t .kind) tokRBrace (leave d b s (t .to))
+    onKind (t .kind) tokRBrace (leave d b (bAll s) (t .to))
     (onKind (t .kind) tokEof (expected tokRBrace t)
     (atTerms d (pattern b s (t .from)) t0 t x y))
 step L (within d c f) t x y = atTerms d c f t x y
@@ -284,14 +302,13 @@ step L (calling d c f a) t x y =
 step L (matched d b r o g) t x y =
     onKind (t .kind) tokLBrace (opens d t (λ d'. between d' (inCondition b r o g) s0))
     (atTerms d (matching b r o g) t0 t x y)
-step L (conditioned d b r) t x y = afterPattern d b r t x y (expected tokEquals t)
-step L (equated d b r) t x y =
+step L (conditioned d b r) t x y = among (afterPattern d b r t x) t (expected tokEquals t)
+step L (equated d b r q) t x y =
     onKind (t .kind) tokComma (go (within d (ending b r) t0))
-    (atTerms d (result b r) t0 t x y)
+    (atTerms d (result b r q) t0 t x y)
 step L (blocked d b r g) t x y =
     onKind (t .kind) tokLBrace (opens d t (λ d'. between d' (inEnding b r g) s0)) (expected tokLBrace t)
-step L (ended d b r g v e) t x y =
-    onKind (t .kind) tokSemicolon (go (between d b (finished r (endBlock g v e) (t .to)))) (expected tokSemicolon t)
+step L (ended d b r z e) t x y = among (afterEnd d b r z e t) t (expected tokSemicolon t)
 
 -- what a step leads to, after the items p
 abbrev pub follow : Program → Step → (Program → State → Outcome) → Outcome

@@ -3,7 +3,6 @@ use mathlib.Core.Path.{_≡_}
 use Prim.Native.Nat.{ℕ, _+_}
 use mathlib.Core.List.{List}
 use lib.ListN.{getD}
-use Rattle.refal_ast.specs.Kinds.{tokComma, tokEquals}
 use Rattle.refal_ast.specs.Tree.{Program}
 use Rattle.refal_ast.specs.Limits.{mostLevels}
 use Rattle.refal_parser.specs.Machine.{State, Outcome, refuse, Step, follow, run}
@@ -35,9 +34,9 @@ leads w j p x = follow p x (λ p' st. runs w j p' st)
 abbrev pub after : List ℕ → ℕ → Program → Step → Outcome
 after w i p x = leads w (i + 6) p x
 
--- a comma or `=` stands at word j
-abbrev pub Joint : List ℕ → ℕ → Type 0
-Joint w j = (getD w j 0 ≡ tokComma → ⊥) → getD w j 0 ≡ tokEquals
+-- a token of one of two kinds stands at word j
+abbrev pub Joint : List ℕ → ℕ → ℕ → ℕ → Type 0
+Joint w j also want = (getD w j 0 ≡ also → ⊥) → getD w j 0 ≡ want
 
 -- a refusal that shows the token after the one at word i, and one that shows the one at word i
 abbrev pub takenAt : List ℕ → ℕ → ℕ → ℕ → Got

@@ -6,10 +6,10 @@ use mathlib.Core.List.{List}
 use lib.ListN.{length, getD}
 use Rattle.refal_ast.specs.Kinds.{nodeFunction}
 use Rattle.refal_ast.specs.Nodes.{node}
-use Rattle.refal_ast.specs.Tree.{Sentences, Names, nOne, nMore, Item, Program, p0, pMore, sizeS, sizeN, sizeItem, sizeP}
+use Rattle.refal_ast.specs.Tree.{Body, Names, nOne, nMore, Item, Program, p0, pMore, sizeB, sizeN, sizeItem, sizeP}
 use Rattle.refal_parser.specs.Machine.{Heading, functionOf, outside, wantsName, wantsMore, named, headed, tree, refuse}
 use Rattle.refal_parser.specs.Ready.{Few, Ready}
-use Rattle.refal_parser.specs.Writers.{putNode, nameRow, wItem, wN, wS, wP}
+use Rattle.refal_parser.specs.Writers.{putNode, nameRow, wItem, wN, wB, wP}
 use Rattle.refal_parser.specs.Post.{Cases, runs, Same, Refuses}
 use Rattle.refal_parser.specs.declared.answers.Got.{Got}
 
@@ -45,13 +45,13 @@ abbrev pub heading : List ℕ → ℕ → ℕ → Bool → Heading
 heading w at name x = record { from = getD w (at + 4) 0; entry = x; start = getD w (name + 2) 0; len = getD w (name + 3) 0 }
 
 pub record FunctionAt (w B B' : List ℕ) (at name n entry j m : ℕ) : Type 0 where
-  pub v : Sentences
+  pub v : Body
   pub e : ℕ
   pub ready : Ready w j
   pub on : name < j
   pub few : Few m j 0
-  pub rows : B' ≡ putNode (wS v (n + 1) B) n (node nodeFunction entry (getD w (name + 2) 0) (getD w (name + 3) 0) (getD w (at + 4) 0) e m)
-  pub count : m ≡ n + 1 + sizeS v
+  pub rows : B' ≡ putNode (wB v (n + 1) B) n (node nodeFunction entry (getD w (name + 2) 0) (getD w (name + 3) 0) (getD w (at + 4) 0) e m)
+  pub count : m ≡ n + 1 + sizeB v
   pub means : (x : Bool) (p : Program) →
       runs w (name + 6) p (headed (heading w at name x)) ≡ runs w j (pMore p (functionOf (heading w at name x) v e)) outside
 

@@ -4,10 +4,12 @@ use Prim.Native.Nat.{ℕ, _+_, _≤_, _<_}
 use mathlib.Core.Bool.{Bool, true, false}
 use mathlib.Core.List.{List}
 use lib.ListN.{length, getD}
+use Rattle.refal_ast.specs.Kinds.{tokColon}
+use Rattle.refal_ast.specs.Limits.{mostLevels}
 use Rattle.refal_ast.specs.Tokens.{Token}
 use Rattle.refal_ast.specs.Tree.{Term, Terms, t0, tMore, Program, sizeTerm, sizeT}
 use Rattle.refal_ast.specs.declared.tree.Term.the-variants.{NoTerm}
-use Rattle.refal_parser.specs.Machine.{Begun, Block, Place, State, within, conditioned, Outcome, refuse, closing, only, startTerm, endTerm, firstStart, lastEnd, afterTerms, endOf}
+use Rattle.refal_parser.specs.Machine.{Argument, Place, State, within, Outcome, refuse, Step, expected, among, closing, only, either, startTerm, endTerm, firstStart, lastEnd, asked, endOf, step}
 use Rattle.refal_parser.specs.Ready.{tok, termAt, afterFrom, afterTo, endBefore, Few, Ready}
 use Rattle.refal_parser.specs.Writers.{wTerm, wT, wTerms}
 use Rattle.refal_parser.specs.Post.{Cases, runs, Same, Refuses, after, Joint}
@@ -87,16 +89,26 @@ pub record UntilAt (w B B' : List ℕ) (at n left want j m : ℕ) : Type 0 where
 abbrev pub UntilPost : List ℕ → List ℕ → List ℕ → ℕ → ℕ → ℕ → ℕ → Got → Type 0
 UntilPost w B B' at n left want r = Cases r (UntilAt w B B' at n left want) (ClosedNo w at left want)
 
--- the same with a Terms row, row n
-pub record ClauseAt (w B B' : List ℕ) (at n left want j m : ℕ) : Type 0 where
-  pub g : Terms
-  pub closed : Closed w at left want g j
-  pub few : Few m j 0
-  pub rows : B' ≡ wTerms g n B
-  pub count : m ≡ n + 1 + sizeT g
+-- ---- an argument and its `:`, with a Terms row, row n: a place c whose terms, closed by `:`, lead to the state st
+abbrev pub Asks : ℕ → Place → (Argument → State) → Type 0
+Asks left c st = (f : Terms) (t : Token) (x y : ℕ) → endOf left c f t x y ≡ closing tokColon (only tokColon (st (asked f (t .from) (t .to)))) t x y
 
-abbrev pub ClausePost : List ℕ → List ℕ → List ℕ → ℕ → ℕ → ℕ → ℕ → Got → Type 0
-ClausePost w B B' at n left want r = Cases r (ClauseAt w B B' at n left want) (ClosedNo w at left want)
+pub record ArgumentAt (w B B' : List ℕ) (at n left j m : ℕ) : Type 0 where
+  pub g : Argument
+  pub ready : Ready w j
+  pub on : at < j
+  pub few : Few m j 0
+  pub rows : B' ≡ wTerms (g .terms) n B
+  pub count : m ≡ n + 1 + sizeT (g .terms)
+  pub first : g .from ≡ getD w (at + 4) 0
+  pub last : g .to ≡ endBefore w j
+  pub means : (c : Place) (st : Argument → State) → Asks left c st → Same w at (within left c t0) j (st g)
+
+abbrev pub ArgumentNo : List ℕ → ℕ → ℕ → ℕ → ℕ → ℕ → ℕ → ℕ → Type 0
+ArgumentNo w at left a b c d e = (x : Place) (st : Argument → State) → Asks left x st → Refuses w at (within left x t0) a b c d e
+
+abbrev pub ArgumentPost : List ℕ → List ℕ → List ℕ → ℕ → ℕ → ℕ → Got → Type 0
+ArgumentPost w B B' at n left r = Cases r (ArgumentAt w B B' at n left) (ArgumentNo w at left)
 
 -- ---- a term, whose row is row n
 pub record TermGot (w B B' : List ℕ) (at n left j m : ℕ) : Type 0 where
@@ -114,27 +126,30 @@ abbrev pub TermPost : List ℕ → List ℕ → List ℕ → ℕ → ℕ → ℕ
 TermPost w B B' at n left r =
     Cases r (TermGot w B B' at n left) (λ a b c d e. (x : Place) (f : Terms) → Refuses w at (within left x f) a b c d e)
 
--- ---- after a pattern's terms or a condition's block
-pub record FollowsAt (w : List ℕ) (at m j m' : ℕ) : Type 0 where
+-- ---- after terms or a block: one of two kinds
+pub record FollowsAt (w : List ℕ) (at m also want j m' : ℕ) : Type 0 where
   pub ready : Ready w j
   pub stays : j ≡ at
   pub rows : m' ≡ m
-  pub joint : Joint w j
-  pub means : (d : ℕ) (b : Block) (r : Begun) (p : Program) → after w at p (afterTerms d b r (tok w at) (afterFrom w at) (afterTo w at)) ≡ runs w j p (conditioned d b r)
+  pub joint : Joint w j also want
 
 -- a refusal after terms, and after a block
-pub record FollowsNo (w : List ℕ) (at : ℕ) (terms : Bool) (a b c x y : ℕ) : Type 0 where
-  pub ofTerms : terms ≡ true → (d : ℕ) (q : Block) (r : Begun) (p : Program) → after w at p (afterTerms d q r (tok w at) (afterFrom w at) (afterTo w at)) ≡ refuse a b c x y
-  pub ofBlock : terms ≡ false → (d : ℕ) (q : Block) (r : Begun) → Refuses w at (conditioned d q r) a b c x y
+pub record FollowsNo (w : List ℕ) (at : ℕ) (terms : Bool) (also want a b c x y : ℕ) : Type 0 where
+  pub ofTerms : terms ≡ true → (u v : Step) (p : Program) →
+      after w at p (closing want (either also u want v) (tok w at) (afterFrom w at) (afterTo w at)) ≡ refuse a b c x y
+  pub ofBlock : terms ≡ false → (u v : Step) (p : Program) → after w at p (among (either also u want v) (tok w at) (expected want (tok w at))) ≡ refuse a b c x y
 
-abbrev pub FollowsPost : List ℕ → ℕ → ℕ → Bool → Got → Type 0
-FollowsPost w at m terms r = Cases r (FollowsAt w at m) (FollowsNo w at terms)
+abbrev pub FollowsPost : List ℕ → ℕ → ℕ → Bool → ℕ → ℕ → Got → Type 0
+FollowsPost w at m terms also want r = Cases r (FollowsAt w at m also want) (FollowsNo w at terms also want)
 
--- ---- a pattern with its Terms row, row n: a place c whose terms f make the sentence r f
-abbrev pub Turns : ℕ → Place → Block → (Terms → Begun) → Type 0
-Turns left c b r = (f : Terms) (t : Token) (x y : ℕ) → endOf left c f t x y ≡ afterTerms left b (r f) t x y
+-- ---- terms up to one of two kinds, with a Terms row, row n: a place c that its terms f leave by one of them, and a state that goes on by the same
+pub record Turns (left : ℕ) (c : Place) (also want : ℕ) (st : Terms → State) : Type 0 where
+  pub u : Terms → Token → ℕ → Step
+  pub v : Terms → Token → ℕ → Step
+  pub place : (f : Terms) (t : Token) (x y : ℕ) → endOf left c f t x y ≡ closing want (either also (u f t x) want (v f t x)) t x y
+  pub state : (f : Terms) (t : Token) (x y : ℕ) → step mostLevels (st f) t x y ≡ among (either also (u f t x) want (v f t x)) t (expected want t)
 
-pub record PatternAt (w B B' : List ℕ) (at n left j m : ℕ) : Type 0 where
+pub record ClauseAt (w B B' : List ℕ) (at n left also want j m : ℕ) : Type 0 where
   pub g : Terms
   pub ready : Ready w j
   pub on : at ≤ j
@@ -142,10 +157,11 @@ pub record PatternAt (w B B' : List ℕ) (at n left j m : ℕ) : Type 0 where
   pub rows : B' ≡ wTerms g n B
   pub count : m ≡ n + 1 + sizeT g
   pub last : lastEnd g (endBefore w at) ≡ endBefore w j
-  pub joint : Joint w j
-  pub means : (c : Place) (b : Block) (r : Terms → Begun) → Turns left c b r → Same w at (within left c t0) j (conditioned left b (r g))
+  pub joint : Joint w j also want
+  pub means : (c : Place) (st : Terms → State) → Turns left c also want st → Same w at (within left c t0) j (st g)
 
-abbrev pub PatternPost : List ℕ → List ℕ → List ℕ → ℕ → ℕ → ℕ → Got → Type 0
-PatternPost w B B' at n left r =
-    Cases r (PatternAt w B B' at n left)
-    (λ a b c x y. (q : Place) (z : Block) (r : Terms → Begun) → Turns left q z r → Refuses w at (within left q t0) a b c x y)
+abbrev pub ClauseNo : List ℕ → ℕ → ℕ → ℕ → ℕ → ℕ → ℕ → ℕ → ℕ → ℕ → Type 0
+ClauseNo w at left also want a b c d e = (x : Place) (st : Terms → State) → Turns left x also want st → Refuses w at (within left x t0) a b c d e
+
+abbrev pub ClausePost : List ℕ → List ℕ → List ℕ → ℕ → ℕ → ℕ → ℕ → ℕ → Got → Type 0
+ClausePost w B B' at n left also want r = Cases r (ClauseAt w B B' at n left also want) (ClauseNo w at left also want)

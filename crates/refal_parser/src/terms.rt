@@ -4,7 +4,7 @@ ghost use Prim.Native.Nat.{_≤_};
 ghost use Rattle.refal_ast.specs.declared.tree.Term.the-variants.{Bracket, Call};
 ghost use Rattle.refal_parser.specs.Machine.{termOf, variableOf};
 ghost use Rattle.refal_parser.specs.Ready.{Few, Ready, termAt};
-ghost use Rattle.refal_parser.specs.PostTerms.{ClausePost, ClosesPost, FollowsPost, PatternPost, TermPost, TermsPost, UntilPost};
+ghost use Rattle.refal_parser.specs.PostTerms.{ArgumentPost, ClausePost, ClosesPost, FollowsPost, TermPost, TermsPost, UntilPost};
 use crate::answers::Got;
 use crate::answers::present;
 use crate::answers::taken;
@@ -227,16 +227,16 @@ fn call(tokens: &[u32], rows: &mut [u32], cursor: Cursor) -> Got
     Got::At(j, m)
 }
 
-// A Terms row, its terms and the kind that closes them.
-pub fn clause(tokens: &[u32], rows: &mut [u32], cursor: Cursor, want: u32) -> Got
-    requires { ⌜ Ready (now tokens) (cursor .at) × Few (cursor .row) (cursor .at) 1 × (want ≤ 16) ⌝ }
-    ensures { λ r. ⌜ ClausePost (now (tokens .entry)) (now (rows .entry)) (now (rows .exit)) (cursor .at) (cursor .row) (cursor .left) want r ⌝ }
+// An argument: a Terms row, its terms and their `:`.
+pub fn argument(tokens: &[u32], rows: &mut [u32], cursor: Cursor) -> Got
+    requires { ⌜ Ready (now tokens) (cursor .at) × Few (cursor .row) (cursor .at) 1 ⌝ }
+    ensures { λ r. ⌜ ArgumentPost (now (tokens .entry)) (now (rows .entry)) (now (rows .exit)) (cursor .at) (cursor .row) (cursor .left) r ⌝ }
 {
     let at = cursor.at;
     let n = cursor.row;
     let left = cursor.left;
     let row = n + 1;
-    let r = until(tokens, rows, Cursor { at, row, left }, want);
+    let r = until(tokens, rows, Cursor { at, row, left }, token::COLON);
     let Got::At(j, m) = r else {
         return r;
     };
@@ -244,32 +244,32 @@ pub fn clause(tokens: &[u32], rows: &mut [u32], cursor: Cursor, want: u32) -> Go
     Got::At(j, m)
 }
 
-// After a pattern's terms, or after a condition's block: a comma or `=`, which is left to the caller. After terms Eof is 35 and
-// another kind 34; after a block another kind is 35.
-pub fn follows(tokens: &[u32], at: usize, m: usize, terms: bool) -> Got
+// After terms, or after a block: one of two kinds, which is left to the caller. After terms Eof is 35 and another kind 34; after a
+// block another kind is 35.
+pub fn follows(tokens: &[u32], at: usize, m: usize, terms: bool, also: u32, want: u32) -> Got
     requires { ⌜ Ready (now tokens) at ⌝ }
-    ensures { λ r. ⌜ FollowsPost (now (tokens .entry)) at m terms r ⌝ }
+    ensures { λ r. ⌜ FollowsPost (now (tokens .entry)) at m terms also want r ⌝ }
 {
     let k = kind(tokens, at);
-    if k == token::COMMA {
+    if k == also {
         return Got::At(at, m);
     }
-    if k == token::EQUALS {
+    if k == want {
         return Got::At(at, m);
     }
     if !terms {
-        return present(tokens, at, 35, token::EQUALS);
+        return present(tokens, at, 35, want);
     }
     if k == token::EOF {
-        return present(tokens, at, 35, token::EQUALS);
+        return present(tokens, at, 35, want);
     }
     taken(tokens, at, 34, 0)
 }
 
-// A pattern: a Terms row and its terms, up to a comma or `=`.
-pub fn pattern(tokens: &[u32], rows: &mut [u32], cursor: Cursor) -> Got
+// A Terms row and its terms, up to one of two kinds.
+pub fn clause(tokens: &[u32], rows: &mut [u32], cursor: Cursor, also: u32, want: u32) -> Got
     requires { ⌜ Ready (now tokens) (cursor .at) × Few (cursor .row) (cursor .at) 1 ⌝ }
-    ensures { λ r. ⌜ PatternPost (now (tokens .entry)) (now (rows .entry)) (now (rows .exit)) (cursor .at) (cursor .row) (cursor .left) r ⌝ }
+    ensures { λ r. ⌜ ClausePost (now (tokens .entry)) (now (rows .entry)) (now (rows .exit)) (cursor .at) (cursor .row) (cursor .left) also want r ⌝ }
 {
     let at = cursor.at;
     let n = cursor.row;
@@ -280,5 +280,5 @@ pub fn pattern(tokens: &[u32], rows: &mut [u32], cursor: Cursor) -> Got
         return r;
     };
     put_terms(rows, n, m);
-    follows(tokens, j, m, true)
+    follows(tokens, j, m, true, also, want)
 }

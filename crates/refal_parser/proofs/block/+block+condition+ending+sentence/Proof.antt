@@ -1,19 +1,18 @@
--- `refal_parser::block::block`, `refal_parser::block::condition`, `refal_parser::block::ending`, `refal_parser::block::sentence` meet their contracts: conditions, sentences and blocks as the machine reads them; the falling number is the depth left with the tokens left.
+-- `condition`, `ending`, `sentence` and `block` of refal_parser::block meet their contracts: conditions, sentences and blocks as the machine reads them; the falling number is the depth left with the tokens left.
 use mathlib.Core.Path.{_≡_, refl, sym, _∙_}
 use Prim.Native.Nat.{ℕ, _+_, _-_, _<_}
 use native.Mathlib.Omega.{arith}
 use lib.ListN.{length, getD}
-use Rattle.refal_ast.specs.Tree.{Terms, c0, s0, sizeC, sizeS}
-use Rattle.refal_parser.specs.Machine.{pattern as inPattern, between}
-use Rattle.refal_parser.specs.Machine.{begun}
+use Rattle.refal_ast.specs.Tree.{c0, s0, bAll, sizeC, sizeS}
+use Rattle.refal_parser.specs.Machine.{between}
 use Rattle.refal_parser.specs.Writers.{wC, wS}
 use Rattle.refal_parser.specs.PostBlock.{CondsInv, BlockInv}
 use Rattle.refal_parser.proofs.TokenLaws.{ready-next, end-before}
-use Rattle.refal_parser.proofs.Steps.{is-at, is-no, other, open-none, open-some}
-use Rattle.refal_parser.proofs.BlockLaws.{theArgument, argument-no, block-no, follow-no, condition-of-block, pattern-no, condition-of-terms, condition-no, ending-no, sentence-of-parts, one-condition, sentence-no, one-sentence, block-of-sentences}
-use Rattle.refal_parser.proofs.BlockLaws.{end-argument-no, end-argued, end-block-no, end-blocked, ending-of-block, end-terms-no, ending-of-terms}
-use Rattle.refal_parser.proofs.Steps.{end-unopened, end-unclosed, block-eof}
+use Rattle.refal_parser.proofs.Steps.{is-at, is-no, other, open-none, open-some, end-unopened}
+use Rattle.refal_parser.proofs.BlockLaws.{turn-pattern, argument-no, block-no, follow-no, condition-of-block, pattern-no, condition-of-terms, condition-no, ending-no, sentence-of-parts, one-condition}
+use Rattle.refal_parser.proofs.BlockLaws.{end-argument-no, end-argued, end-block-no, end-follow-no, ending-of-block, end-terms-no, ending-of-terms, sofarAll, sentence-no, one-sentence, block-unclosed, block-of-sentences}
 use borrow.Author.Needs.{needs}
+use Prim.Native.Nat.{ℕ, _<_}
 use borrow.Fn.Kinds.{In}
 use borrow.Fn.PlainCycle.{Measures, is, falls, and}
 use Rattle.refal_parser.proofs.block.block.Reads as block
@@ -29,10 +28,11 @@ use Rattle.refal_parser.proofs.block.sentence.Reads as sentence
 use Rattle.refal_parser.proofs.block.sentence.Kinds as sentence-kinds
 use Rattle.refal_parser.proofs.block.+block+condition+ending+sentence.Lts-sentence as sentence-lts
 use Rattle.refal_parser.proofs.answers.present.Reads as present-reads
+use Rattle.refal_parser.proofs.block.put_sentence.Reads as put-sentence-reads
 use Rattle.refal_parser.proofs.nodes.put_span.Reads as put-span-reads
+use Rattle.refal_parser.proofs.terms.argument.Reads as argument-reads
 use Rattle.refal_parser.proofs.terms.clause.Reads as clause-reads
 use Rattle.refal_parser.proofs.terms.follows.Reads as follows-reads
-use Rattle.refal_parser.proofs.terms.pattern.Reads as pattern-reads
 use Rattle.refal_parser.proofs.tokens.end_before.Reads as end-before-reads
 use Rattle.refal_parser.proofs.tokens.kind.Reads as kind-reads
 use Rattle.refal_parser.proofs.tokens.span_from.Reads as span-from-reads
@@ -81,13 +81,13 @@ abbrev block-claims : ℕ → block-lts.Claims
 block-claims t = (present-reads.Asked, present-reads.Learnt, kind-reads.Asked, kind-reads.Learnt, sentence-below t, sentence.Post)
 
 abbrev condition-claims : ℕ → condition-lts.Claims
-condition-claims t = (span-from-reads.Asked, span-from-reads.Learnt, clause-reads.Asked, clause-reads.Learnt, kind-reads.Asked, kind-reads.Learnt, block-below t, block.Post, end-before-reads.Asked, end-before-reads.Learnt, put-span-reads.Asked, put-span-reads.Learnt, follows-reads.Asked, follows-reads.Learnt, pattern-reads.Asked, pattern-reads.Learnt)
+condition-claims t = (span-from-reads.Asked, span-from-reads.Learnt, argument-reads.Asked, argument-reads.Learnt, kind-reads.Asked, kind-reads.Learnt, block-below t, block.Post, end-before-reads.Asked, end-before-reads.Learnt, put-span-reads.Asked, put-span-reads.Learnt, follows-reads.Asked, follows-reads.Learnt, clause-reads.Asked, clause-reads.Learnt)
 
 abbrev ending-claims : ℕ → ending-lts.Claims
-ending-claims t = (kind-reads.Asked, kind-reads.Learnt, clause-reads.Asked, clause-reads.Learnt, span-from-reads.Asked, span-from-reads.Learnt, present-reads.Asked, present-reads.Learnt, block-below t, block.Post, end-before-reads.Asked, end-before-reads.Learnt, put-span-reads.Asked, put-span-reads.Learnt)
+ending-claims t = (kind-reads.Asked, kind-reads.Learnt, clause-reads.Asked, clause-reads.Learnt, span-from-reads.Asked, span-from-reads.Learnt, argument-reads.Asked, argument-reads.Learnt, present-reads.Asked, present-reads.Learnt, block-below t, block.Post, end-before-reads.Asked, end-before-reads.Learnt, put-span-reads.Asked, put-span-reads.Learnt, follows-reads.Asked, follows-reads.Learnt)
 
 abbrev sentence-claims : ℕ → sentence-lts.Claims
-sentence-claims t = (pattern-reads.Asked, pattern-reads.Learnt, kind-reads.Asked, kind-reads.Learnt, condition-below t, condition.Post, ending-below t, ending.Post, span-from-reads.Asked, span-from-reads.Learnt, end-before-reads.Asked, end-before-reads.Learnt, put-span-reads.Asked, put-span-reads.Learnt)
+sentence-claims t = (clause-reads.Asked, clause-reads.Learnt, kind-reads.Asked, kind-reads.Learnt, condition-below t, condition.Post, ending-below t, ending.Post, put-sentence-reads.Asked, put-sentence-reads.Learnt)
 
 abbrev block-Inv-loop : block-lts.InvT-loop
 block-Inv-loop tokens rows₀ at n left under i₀ m₀ rows i m = BlockInv tokens rows₀ rows at n left i m
@@ -111,7 +111,7 @@ block-loop-holds t c = let w = c .before .before .before .args .tokens .now in
     let at₀ = c .before .before .before .args .cursor .at in
     let left₀ = c .before .before .before .args .cursor .left in
     let pre₀ = c .before .before .before .pre .1 in
-    record { v = s0; ready = ready-next _ _ (pre₀ .0) (other _ _ _ (pre₀ .2) refl); on = omega arith; few = omega arith; same = refl; rows = refl; count = omega arith; means = λ b. open-some w at₀ left₀ (λ (d : ℕ). between d b s0) (c .if1 .left) }
+    record { v = bAll s0; ready = ready-next _ _ (pre₀ .0) (other _ _ _ (pre₀ .2) refl); on = omega arith; stops = omega arith; same = refl; rows = refl; count = omega arith; means = λ b. open-some w at₀ left₀ (λ (d : ℕ). between d b s0) (c .if1 .left) }
 
 block-kind-requires : (t : ℕ) → block-lts.Need-kind-requires (block-claims t) (block-at t) block.Post block-Inv-loop block-μ-loop
 block-kind-requires t c κs = c .loop .inv .ready
@@ -128,13 +128,13 @@ block-same-length t c = let I = c .before .before .before .before .before .loop 
 
 block-returns-2 : (t : ℕ) → block-lts.Need-returns-2 (block-claims t) (block-at t) block.Post block-Inv-loop block-μ-loop
 block-returns-2 t c = let I = c .before .before .before .before .before .loop .inv in
-    is-no (c .present2 .ensures) (λ b p. I .means b p ∙ block-eof _ _ (I .ready) _ b (I .v) (λ e. c .before .before .before .if2 .taken (c .before .before .before .before .kind .ensures
-    ∙ e)) (sym (c .before .before .kind2 .ensures) ∙ c .before .if3 .taken) p)
+    is-no (c .present2 .ensures) (block-unclosed I (λ e. c .before .before .before .if2 .taken (c .before .before .before .before .kind .ensures ∙ e)) (sym (c .before .before .kind2 .ensures) ∙ c .before .if3 .taken))
 
 block-sentence-requires : (t : ℕ) → block-lts.Need-sentence-requires (block-claims t) (block-at t) block.Post block-Inv-loop block-μ-loop
 block-sentence-requires t c κs = let pre₀ = c .before .before .before .before .before .before .before .before .before .pre .1 in
     let I = c .before .before .before .before .before .loop .inv in
-    let R = I .ready in let o = I .on in let n = c .before .before .before .before .before .before .if1 .left in let g = pre₀ .0 in (omega arith, (I .ready, I .few))
+    let S = sofarAll I (λ e. c .before .before .before .if2 .taken (c .before .before .before .before .kind .ensures ∙ e)) (λ e. c .before .if3 .left (c .before .before .kind2 .ensures ∙ e)) in
+    let R = I .ready in let o = I .on in let n = c .before .before .before .before .before .before .if1 .left in let g = pre₀ .0 in (omega arith, (I .ready, S .few))
 
 block-returns-3 : (t : ℕ) → block-lts.Need-returns-3 (block-claims t) (block-at t) block.Post block-Inv-loop block-μ-loop
 block-returns-3 t c = let I = c .before .before .before .before .before .before .before .before .before .before .loop .inv in
@@ -153,7 +153,7 @@ block-add-next : (t : ℕ) → block-lts.Need-add-next (block-claims t) (block-a
 block-add-next t c = let I = c .before .before .loop .inv in let R = I .ready in omega arith
 
 block-returns-4 : (t : ℕ) → block-lts.Need-returns-4 (block-claims t) (block-at t) block.Post block-Inv-loop block-μ-loop
-block-returns-4 t c = is-at refl (block-of-sentences (c .before .before .before .if1 .left) (c .before .before .loop .inv) (sym (c .before .kind .ensures) ∙ c .if2 .left))
+block-returns-4 t c = is-at refl (block-of-sentences (c .before .before .loop .inv .ready) (sym (c .before .kind .ensures) ∙ c .if2 .left) (c .before .before .before .if1 .left) (c .before .before .loop .inv))
 
 condition-add-start : (t : ℕ) → condition-lts.Need-add-start (condition-claims t) (condition-at t) condition.Post
 condition-add-start t c = let pre₀ = c .before .before .pre .1 in
@@ -167,34 +167,34 @@ condition-add-first : (t : ℕ) → condition-lts.Need-add-first (condition-clai
 condition-add-first t c = let pre₀ = c .before .before .before .pre .1 in
     let R = pre₀ .0 in let h = pre₀ .1 in omega arith
 
-condition-clause-requires : (t : ℕ) → condition-lts.Need-clause-requires (condition-claims t) (condition-at t) condition.Post
-condition-clause-requires t c κs = let pre₀ = c .before .before .before .before .pre .1 in
-    let h = pre₀ .1 in ((ready-next _ _ (pre₀ .0) (other _ _ _ (pre₀ .2) refl)), omega arith, omega arith)
+condition-argument-requires : (t : ℕ) → condition-lts.Need-argument-requires (condition-claims t) (condition-at t) condition.Post
+condition-argument-requires t c κs = let pre₀ = c .before .before .before .before .pre .1 in
+    let h = pre₀ .1 in ((ready-next _ _ (pre₀ .0) (other _ _ _ (pre₀ .2) refl)), omega arith)
 
 condition-returns : (t : ℕ) → condition-lts.Need-returns (condition-claims t) (condition-at t) condition.Post
 condition-returns t c = let pre₀ = c .before .before .before .before .before .before .before .before .before .pre .1 in
-    is-no (c .enum-told .given .1) (argument-no (pre₀ .0) (pre₀ .2) (c .before .before .before .before .clause .ensures .no _ _ _ _ _ (c .enum-told .given .1)))
+    is-no (c .enum-told .given .1) (argument-no (pre₀ .0) (pre₀ .2) (c .before .before .before .before .argument .ensures .no _ _ _ _ _ (c .enum-told .given .1)))
 
 condition-kind-requires : (t : ℕ) → condition-lts.Need-kind-requires (condition-claims t) (condition-at t) condition.Post
-condition-kind-requires t c κs = let K = c .before .before .before .before .before .clause .ensures .at _ _ (c .before .r .given .1) in K .closed .ready
+condition-kind-requires t c κs = let K = c .before .before .before .before .before .argument .ensures .at _ _ (c .before .r .given .1) in K .ready
 
 condition-add-row : (t : ℕ) → condition-lts.Need-add-row (condition-claims t) (condition-at t) condition.Post
-condition-add-row t c = let K = c .before .before .before .before .before .before .before .clause .ensures .at _ _ (c .before .before .before .r .given .1) in
-    let R = K .closed .ready in let o = K .closed .on in let v₁ = K .few in omega arith
+condition-add-row t c = let K = c .before .before .before .before .before .before .before .argument .ensures .at _ _ (c .before .before .before .r .given .1) in
+    let R = K .ready in let o = K .on in let v₁ = K .few in omega arith
 
 condition-block-requires : (t : ℕ) → condition-lts.Need-block-requires (condition-claims t) (condition-at t) condition.Post
 condition-block-requires t c κs = let w = c .before .before .before .before .before .before .before .before .before .before .before .before .before .args .tokens .now in
     let j₁ = c .before .before .before .before .r .given .0 .0 in
     let pre₀ = c .before .before .before .before .before .before .before .before .before .before .before .before .before .pre .1 in
-    let K = c .before .before .before .before .before .before .before .before .clause .ensures .at _ _ (c .before .before .before .before .r .given .1) in
-    let R = K .closed .ready in
-    let o = K .closed .on in
+    let K = c .before .before .before .before .before .before .before .before .argument .ensures .at _ _ (c .before .before .before .before .r .given .1) in
+    let R = K .ready in
+    let o = K .on in
     let v₁ = K .few in
     let k₇ : getD w j₁ 0 ≡ 7 = sym (c .before .before .kind .ensures) ∙ c .before .if1 .taken in let g = pre₀ .0 in (omega arith, (R, omega arith, k₇))
 
 condition-returns-2 : (t : ℕ) → condition-lts.Need-returns-2 (condition-claims t) (condition-at t) condition.Post
 condition-returns-2 t c = let pre₀ = c .before .before .before .before .before .before .before .before .before .before .before .before .before .before .before .before .before .before .pre .1 in
-    let K = c .before .before .before .before .before .before .before .before .before .before .before .before .before .clause .ensures .at _ _ (c .before .before .before .before .before .before .before .before .before .r .given .1) in
+    let K = c .before .before .before .before .before .before .before .before .before .before .before .before .before .argument .ensures .at _ _ (c .before .before .before .before .before .before .before .before .before .r .given .1) in
     is-no (c .enum-told2 .given .1) (block-no (pre₀ .0) (pre₀ .2) _ K (sym (c .before .before .before .before .before .before .before .kind .ensures) ∙ c .before .before .before .before .before .before .if1 .taken) (c .before .before .before .before .block .ensures .no _ _ _ _ _ (c .enum-told2 .given .1)))
 
 condition-end-before-requires : (t : ℕ) → condition-lts.Need-end-before-requires (condition-claims t) (condition-at t) condition.Post
@@ -202,10 +202,10 @@ condition-end-before-requires t c κs = let B = c .before .before .before .befor
     let Z = B .ready in let q = B .on in let v = B .few in (B .ready, omega arith)
 
 condition-put-span-requires : (t : ℕ) → condition-lts.Need-put-span-requires (condition-claims t) (condition-at t) condition.Post
-condition-put-span-requires t c κs = let K = c .before .before .before .before .before .before .before .before .before .before .before .before .before .before .before .before .clause .ensures .at _ _ (c .before .before .before .before .before .before .before .before .before .before .before .before .r .given .1) in
+condition-put-span-requires t c κs = let K = c .before .before .before .before .before .before .before .before .before .before .before .before .before .before .before .before .argument .ensures .at _ _ (c .before .before .before .before .before .before .before .before .before .before .before .before .r .given .1) in
     let B = c .before .before .before .before .before .before .before .block .ensures .at _ _ (c .before .before .before .r2 .given .1) in
-    let R = K .closed .ready in
-    let o = K .closed .on in let v₁ = K .few in let Z = B .ready in let q = B .on in let v = B .few in (omega arith, omega arith)
+    let R = K .ready in
+    let o = K .on in let v₁ = K .few in let Z = B .ready in let q = B .on in let v = B .few in (omega arith, omega arith)
 
 condition-put-span-requires-2 : (t : ℕ) → condition-lts.Need-put-span-requires-2 (condition-claims t) (condition-at t) condition.Post
 condition-put-span-requires-2 t c κs = let pre₀ = c .before .before .before .before .before .before .before .before .before .before .before .before .before .before .before .before .before .before .before .before .before .before .before .before .before .pre .1 in
@@ -219,11 +219,11 @@ condition-same-length-3 : (t : ℕ) → condition-lts.Need-same-length-3 (condit
 condition-same-length-3 t c = c .before .before .before .put-span2 .kept .0
     ∙ c .before .before .before .before .before .before .before .put-span .kept .0
     ∙ c .before .before .before .before .before .before .before .before .before .before .before .before .before .before .before .block .kept .1 .0
-    ∙ c .before .before .before .before .before .before .before .before .before .before .before .before .before .before .before .before .before .before .before .before .before .before .before .before .clause .kept .1 .0
+    ∙ c .before .before .before .before .before .before .before .before .before .before .before .before .before .before .before .before .before .before .before .before .before .before .before .before .argument .kept .1 .0
 
 condition-returns-3 : (t : ℕ) → condition-lts.Need-returns-3 (condition-claims t) (condition-at t) condition.Post
 condition-returns-3 t c = let pre₀ = c .before .before .before .before .before .before .before .before .before .before .before .before .before .before .before .before .before .before .before .before .before .before .before .before .before .before .before .before .before .pre .1 in
-    let K = c .before .before .before .before .before .before .before .before .before .before .before .before .before .before .before .before .before .before .before .before .before .before .before .before .clause .ensures .at _ _ (c .before .before .before .before .before .before .before .before .before .before .before .before .before .before .before .before .before .before .before .before .r .given .1) in
+    let K = c .before .before .before .before .before .before .before .before .before .before .before .before .before .before .before .before .before .before .before .before .before .before .before .before .argument .ensures .at _ _ (c .before .before .before .before .before .before .before .before .before .before .before .before .before .before .before .before .before .before .before .before .r .given .1) in
     let X = c .before .before .before .before .before .before .before .before .before .before .before .before .before .before .before .block .ensures .at _ _ (c .before .before .before .before .before .before .before .before .before .before .before .r2 .given .1) in
     let k₇ = sym (c .before .before .before .before .before .before .before .before .before .before .before .before .before .before .before .before .before .before .kind .ensures) ∙ c .before .before .before .before .before .before .before .before .before .before .before .before .before .before .before .before .before .if1 .taken in
     record {
@@ -231,28 +231,28 @@ condition-returns-3 t c = let pre₀ = c .before .before .before .before .before
       no = λ a z k d e q. follow-no (pre₀ .0) (pre₀ .2) _ K k₇ X (c .follows .ensures .no a z k d e q .ofBlock refl);
     }
 
-condition-pattern-requires : (t : ℕ) → condition-lts.Need-pattern-requires (condition-claims t) (condition-at t) condition.Post
-condition-pattern-requires t c κs = let K = c .before .before .before .before .before .before .before .before .clause .ensures .at _ _ (c .before .before .before .before .r .given .1) in
-    let R = K .closed .ready in let o = K .closed .on in let v₁ = K .few in (R, omega arith)
+condition-clause-requires : (t : ℕ) → condition-lts.Need-clause-requires (condition-claims t) (condition-at t) condition.Post
+condition-clause-requires t c κs = let K = c .before .before .before .before .before .before .before .before .argument .ensures .at _ _ (c .before .before .before .before .r .given .1) in
+    let R = K .ready in let o = K .on in let v₁ = K .few in (R, omega arith)
 
 condition-returns-4 : (t : ℕ) → condition-lts.Need-returns-4 (condition-claims t) (condition-at t) condition.Post
 condition-returns-4 t c = let pre₀ = c .before .before .before .before .before .before .before .before .before .before .before .before .before .before .before .before .before .before .pre .1 in
-    let K = c .before .before .before .before .before .before .before .before .before .before .before .before .before .clause .ensures .at _ _ (c .before .before .before .before .before .before .before .before .before .r .given .1) in
-    is-no (c .enum-told3 .given .1) (pattern-no (pre₀ .0) (pre₀ .2) _ K (λ e. c .before .before .before .before .before .before .if1 .left (c .before .before .before .before .before .before .before .kind .ensures ∙ e)) (c .before .before .before .before .pattern .ensures .no _ _ _ _ _ (c .enum-told3 .given .1)))
+    let K = c .before .before .before .before .before .before .before .before .before .before .before .before .before .argument .ensures .at _ _ (c .before .before .before .before .before .before .before .before .before .r .given .1) in
+    is-no (c .enum-told3 .given .1) (pattern-no (pre₀ .0) (pre₀ .2) _ K (λ e. c .before .before .before .before .before .before .if1 .left (c .before .before .before .before .before .before .before .kind .ensures ∙ e)) (c .before .before .before .before .clause .ensures .no _ _ _ _ _ (c .enum-told3 .given .1)))
 
 condition-end-before-requires-2 : (t : ℕ) → condition-lts.Need-end-before-requires-2 (condition-claims t) (condition-at t) condition.Post
-condition-end-before-requires-2 t c κs = let K = c .before .before .before .before .before .before .before .before .before .before .before .before .before .before .clause .ensures .at _ _ (c .before .before .before .before .before .before .before .before .before .before .r .given .1) in
-    let Q = c .before .before .before .before .before .pattern .ensures .at _ _ (c .before .r3 .given .1) in let o = K .closed .on in let q = Q .on in (Q .ready, omega arith)
+condition-end-before-requires-2 t c κs = let K = c .before .before .before .before .before .before .before .before .before .before .before .before .before .before .argument .ensures .at _ _ (c .before .before .before .before .before .before .before .before .before .before .r .given .1) in
+    let Q = c .before .before .before .before .before .clause .ensures .at _ _ (c .before .r3 .given .1) in let o = K .on in let q = Q .on in (Q .ready, omega arith)
 
 condition-put-span-requires-3 : (t : ℕ) → condition-lts.Need-put-span-requires-3 (condition-claims t) (condition-at t) condition.Post
 condition-put-span-requires-3 t c κs = let pre₀ = c .before .before .before .before .before .before .before .before .before .before .before .before .before .before .before .before .before .before .before .before .before .pre .1 in
-    let Q = c .before .before .before .before .before .before .before .pattern .ensures .at _ _ (c .before .before .before .r3 .given .1) in
+    let Q = c .before .before .before .before .before .before .before .clause .ensures .at _ _ (c .before .before .before .r3 .given .1) in
     let Z = Q .ready in let v = Q .few in let h = pre₀ .1 in let g = pre₀ .0 in (omega arith, omega arith)
 
 condition-returns-5 : (t : ℕ) → condition-lts.Need-returns-5 (condition-claims t) (condition-at t) condition.Post
 condition-returns-5 t c = let pre₀ = c .before .before .before .before .before .before .before .before .before .before .before .before .before .before .before .before .before .before .before .before .before .before .before .before .pre .1 in
-    let K = c .before .before .before .before .before .before .before .before .before .before .before .before .before .before .before .before .before .before .before .clause .ensures .at _ _ (c .before .before .before .before .before .before .before .before .before .before .before .before .before .before .before .r .given .1) in
-    let Q = c .before .before .before .before .before .before .before .before .before .before .pattern .ensures .at _ _ (c .before .before .before .before .before .before .r3 .given .1) in
+    let K = c .before .before .before .before .before .before .before .before .before .before .before .before .before .before .before .before .before .before .before .argument .ensures .at _ _ (c .before .before .before .before .before .before .before .before .before .before .before .before .before .before .before .r .given .1) in
+    let Q = c .before .before .before .before .before .before .before .before .before .before .clause .ensures .at _ _ (c .before .before .before .before .before .before .r3 .given .1) in
     is-at refl (condition-of-terms (pre₀ .0) (pre₀ .2) _ K (λ e. c .before .before .before .before .before .before .before .before .before .before .before .before .if1 .left (c .before .before .before .before .before .before .before .before .before .before .before .before .before .kind .ensures ∙ e)) Q (c .before .before .before .before .before .before .before .before .before .before .before .before .before .before .before .before .before .before .before .before .before .span-from .ensures) (c .before .before .before .before .end-before2 .ensures) (c .before .before .put-span3 .ensures))
 
 ending-kind-requires : (t : ℕ) → ending-lts.Need-kind-requires (ending-claims t) (ending-at t) ending.Post
@@ -261,7 +261,7 @@ ending-kind-requires t c κs = let pre₀ = c .before .before .pre .1 in
 
 ending-clause-requires : (t : ℕ) → ending-lts.Need-clause-requires (ending-claims t) (ending-at t) ending.Post
 ending-clause-requires t c κs = let pre₀ = c .before .before .before .before .before .pre .1 in
-    let h = pre₀ .1 in (pre₀ .0, omega arith, omega arith)
+    let h = pre₀ .1 in (pre₀ .0, omega arith)
 
 ending-returns : (t : ℕ) → ending-lts.Need-returns (ending-claims t) (ending-at t) ending.Post
 ending-returns t c = let pre₀ = c .before .before .before .before .before .before .before .before .pre .1 in
@@ -284,77 +284,69 @@ ending-add-first : (t : ℕ) → ending-lts.Need-add-first (ending-claims t) (en
 ending-add-first t c = let pre₀ = c .before .before .before .before .before .pre .1 in
     let R = pre₀ .0 in let h = pre₀ .1 in omega arith
 
-ending-clause-requires-2 : (t : ℕ) → ending-lts.Need-clause-requires-2 (ending-claims t) (ending-at t) ending.Post
-ending-clause-requires-2 t c κs = let w = c .before .before .before .before .before .before .args .tokens .now in
+ending-argument-requires : (t : ℕ) → ending-lts.Need-argument-requires (ending-claims t) (ending-at t) ending.Post
+ending-argument-requires t c κs = let w = c .before .before .before .before .before .before .args .tokens .now in
     let at₀ = c .before .before .before .before .before .before .args .cursor .at in
     let pre₀ = c .before .before .before .before .before .before .pre .1 in
     let k₁₃ : getD w at₀ 0 ≡ 13 = sym (c .before .before .before .kind .ensures) ∙ c .before .before .if1 .left in
-    let h = pre₀ .1 in ((ready-next _ _ (pre₀ .0) (other _ _ _ k₁₃ refl)), omega arith, omega arith)
+    let h = pre₀ .1 in ((ready-next _ _ (pre₀ .0) (other _ _ _ k₁₃ refl)), omega arith)
 
 ending-returns-2 : (t : ℕ) → ending-lts.Need-returns-2 (ending-claims t) (ending-at t) ending.Post
 ending-returns-2 t c = let pre₀ = c .before .before .before .before .before .before .before .before .before .before .before .pre .1 in
-    is-no (c .enum-told .given .1) (end-argument-no (pre₀ .0) (sym (c .before .before .before .before .before .before .before .before .kind .ensures) ∙ c .before .before .before .before .before .before .before .if1 .left) (c .before .before .before .before .clause2 .ensures .no _ _ _ _ _ (c .enum-told .given .1)))
+    is-no (c .enum-told .given .1) (end-argument-no (pre₀ .0) (sym (c .before .before .before .before .before .before .before .before .kind .ensures) ∙ c .before .before .before .before .before .before .before .if1 .left) (c .before .before .before .before .argument .ensures .no _ _ _ _ _ (c .enum-told .given .1)))
 
 ending-kind-requires-2 : (t : ℕ) → ending-lts.Need-kind-requires-2 (ending-claims t) (ending-at t) ending.Post
-ending-kind-requires-2 t c κs = let K = c .before .before .before .before .before .clause2 .ensures .at _ _ (c .before .r .given .1) in K .closed .ready
+ending-kind-requires-2 t c κs = let K = c .before .before .before .before .before .argument .ensures .at _ _ (c .before .r .given .1) in K .ready
 
 ending-present-requires : (t : ℕ) → ending-lts.Need-present-requires (ending-claims t) (ending-at t) ending.Post
-ending-present-requires t c κs = let K = c .before .before .before .before .before .before .before .clause2 .ensures .at _ _ (c .before .before .before .r .given .1) in K .closed .ready
+ending-present-requires t c κs = let K = c .before .before .before .before .before .before .before .argument .ensures .at _ _ (c .before .before .before .r .given .1) in K .ready
 
 ending-returns-3 : (t : ℕ) → ending-lts.Need-returns-3 (ending-claims t) (ending-at t) ending.Post
 ending-returns-3 t c = let pre₀ = c .before .before .before .before .before .before .before .before .before .before .before .before .before .before .before .pre .1 in
-    let K = c .before .before .before .before .before .before .before .before .clause2 .ensures .at _ _ (c .before .before .before .before .r .given .1) in
+    let K = c .before .before .before .before .before .before .before .before .argument .ensures .at _ _ (c .before .before .before .before .r .given .1) in
     let k₁₃ = sym (c .before .before .before .before .before .before .before .before .before .before .before .before .kind .ensures) ∙ c .before .before .before .before .before .before .before .before .before .before .before .if1 .left in
-    is-no (c .present .ensures) (λ b r p. end-argued (pre₀ .0) k₁₃ _ K b r p ∙ end-unopened _ _ (K .closed .ready) _ b r (theArgument K) (λ e. c .before .if2 .taken (c .before .before .kind2 .ensures ∙ e)) p)
+    is-no (c .present .ensures) (λ b r p. end-argued (pre₀ .0) k₁₃ _ K b r p ∙ end-unopened _ _ (K .ready) _ b r (K .g) (λ e. c .before .if2 .taken (c .before .before .kind2 .ensures ∙ e)) p)
 
 ending-block-requires : (t : ℕ) → ending-lts.Need-block-requires (ending-claims t) (ending-at t) ending.Post
 ending-block-requires t c κs = let w = c .before .before .before .before .before .before .before .before .before .before .before .before .before .before .before .args .tokens .now in
     let j₁ = c .before .before .before .before .r .given .0 .0 in
     let pre₀ = c .before .before .before .before .before .before .before .before .before .before .before .before .before .before .before .pre .1 in
-    let K = c .before .before .before .before .before .before .before .before .clause2 .ensures .at _ _ (c .before .before .before .before .r .given .1) in
-    let R = K .closed .ready in
-    let o = K .closed .on in
+    let K = c .before .before .before .before .before .before .before .before .argument .ensures .at _ _ (c .before .before .before .before .r .given .1) in
+    let R = K .ready in
+    let o = K .on in
     let v₁ = K .few in
     let k₇ : getD w j₁ 0 ≡ 7 = sym (c .before .before .kind2 .ensures) ∙ c .before .if2 .left in let g = pre₀ .0 in (omega arith, (R, omega arith, k₇))
 
 ending-returns-4 : (t : ℕ) → ending-lts.Need-returns-4 (ending-claims t) (ending-at t) ending.Post
 ending-returns-4 t c = let pre₀ = c .before .before .before .before .before .before .before .before .before .before .before .before .before .before .before .before .before .before .before .before .pre .1 in
-    let K = c .before .before .before .before .before .before .before .before .before .before .before .before .before .clause2 .ensures .at _ _ (c .before .before .before .before .before .before .before .before .before .r .given .1) in
+    let K = c .before .before .before .before .before .before .before .before .before .before .before .before .before .argument .ensures .at _ _ (c .before .before .before .before .before .before .before .before .before .r .given .1) in
     is-no (c .enum-told2 .given .1) (end-block-no (pre₀ .0) (sym (c .before .before .before .before .before .before .before .before .before .before .before .before .before .before .before .before .before .kind .ensures) ∙ c .before .before .before .before .before .before .before .before .before .before .before .before .before .before .before .before .if1 .left) _ K (sym (c .before .before .before .before .before .before .before .kind2 .ensures) ∙ c .before .before .before .before .before .before .if2 .left) (c .before .before .before .before .block .ensures .no _ _ _ _ _ (c .enum-told2 .given .1)))
 
-ending-kind-requires-3 : (t : ℕ) → ending-lts.Need-kind-requires-3 (ending-claims t) (ending-at t) ending.Post
-ending-kind-requires-3 t c κs = let B = c .before .before .before .before .before .block .ensures .at _ _ (c .before .r2 .given .1) in B .ready
-
-ending-present-requires-2 : (t : ℕ) → ending-lts.Need-present-requires-2 (ending-claims t) (ending-at t) ending.Post
-ending-present-requires-2 t c κs = let B = c .before .before .before .before .before .before .before .block .ensures .at _ _ (c .before .before .before .r2 .given .1) in B .ready
-
-ending-returns-5 : (t : ℕ) → ending-lts.Need-returns-5 (ending-claims t) (ending-at t) ending.Post
-ending-returns-5 t c = let pre₀ = c .before .before .before .before .before .before .before .before .before .before .before .before .before .before .before .before .before .before .before .before .before .before .before .before .pre .1 in
-    let K = c .before .before .before .before .before .before .before .before .before .before .before .before .before .before .before .before .before .clause2 .ensures .at _ _ (c .before .before .before .before .before .before .before .before .before .before .before .before .before .r .given .1) in
-    let X = c .before .before .before .before .before .before .before .before .block .ensures .at _ _ (c .before .before .before .before .r2 .given .1) in
-    let k₁₃ = sym (c .before .before .before .before .before .before .before .before .before .before .before .before .before .before .before .before .before .before .before .before .before .kind .ensures) ∙ c .before .before .before .before .before .before .before .before .before .before .before .before .before .before .before .before .before .before .before .before .if1 .left in
-    let k₇ = sym (c .before .before .before .before .before .before .before .before .before .before .before .kind2 .ensures) ∙ c .before .before .before .before .before .before .before .before .before .before .if2 .left in
-    is-no (c .present2 .ensures) (λ b r p. end-blocked (pre₀ .0) k₁₃ _ K k₇ X b r p ∙ end-unclosed _ _ (X .ready) _ b r (theArgument K) (X .v) (X .e) (λ e. c .before .if3 .taken (c .before .before .kind3 .ensures ∙ e)) p)
-
 ending-end-before-requires : (t : ℕ) → ending-lts.Need-end-before-requires (ending-claims t) (ending-at t) ending.Post
-ending-end-before-requires t c κs = let B = c .before .before .before .before .before .before .before .block .ensures .at _ _ (c .before .before .before .r2 .given .1) in
+ending-end-before-requires t c κs = let B = c .before .before .before .before .before .block .ensures .at _ _ (c .before .r2 .given .1) in
     let Z = B .ready in let q = B .on in let v = B .few in (B .ready, omega arith)
 
 ending-put-span-requires : (t : ℕ) → ending-lts.Need-put-span-requires (ending-claims t) (ending-at t) ending.Post
-ending-put-span-requires t c κs = let pre₀ = c .before .before .before .before .before .before .before .before .before .before .before .before .before .before .before .before .before .before .before .before .before .before .before .before .before .pre .1 in
-    let B = c .before .before .before .before .before .before .before .before .before .block .ensures .at _ _ (c .before .before .before .before .before .r2 .given .1) in
+ending-put-span-requires t c κs = let pre₀ = c .before .before .before .before .before .before .before .before .before .before .before .before .before .before .before .before .before .before .before .before .before .before .before .pre .1 in
+    let B = c .before .before .before .before .before .before .before .block .ensures .at _ _ (c .before .before .before .r2 .given .1) in
     let Z = B .ready in let q = B .on in let v = B .few in let h = pre₀ .1 in let g = pre₀ .0 in (omega arith, omega arith)
 
-ending-add-next : (t : ℕ) → ending-lts.Need-add-next (ending-claims t) (ending-at t) ending.Post
-ending-add-next t c = let B = c .before .before .before .before .before .before .before .before .before .before .before .before .block .ensures .at _ _ (c .before .before .before .before .before .before .before .before .r2 .given .1) in let Z = B .ready in let q = B .on in let v = B .few in omega arith
+ending-follows-requires : (t : ℕ) → ending-lts.Need-follows-requires (ending-claims t) (ending-at t) ending.Post
+ending-follows-requires t c κs = let B = c .before .before .before .before .before .before .before .before .before .before .block .ensures .at _ _ (c .before .before .before .before .before .before .r2 .given .1) in B .ready
 
-ending-returns-6 : (t : ℕ) → ending-lts.Need-returns-6 (ending-claims t) (ending-at t) ending.Post
-ending-returns-6 t c = let pre₀ = c .before .before .before .before .before .before .before .before .before .before .before .before .before .before .before .before .before .before .before .before .before .before .before .before .before .before .before .before .pre .1 in
-    let K = c .before .before .before .before .before .before .before .before .before .before .before .before .before .before .before .before .before .before .before .before .before .clause2 .ensures .at _ _ (c .before .before .before .before .before .before .before .before .before .before .before .before .before .before .before .before .before .r .given .1) in
-    let X = c .before .before .before .before .before .before .before .before .before .before .before .before .block .ensures .at _ _ (c .before .before .before .before .before .before .before .before .r2 .given .1) in
-    is-at refl (ending-of-block (pre₀ .0) (sym (c .before .before .before .before .before .before .before .before .before .before .before .before .before .before .before .before .before .before .before .before .before .before .before .before .before .kind .ensures) ∙ c .before .before .before .before .before .before .before .before .before .before .before .before .before .before .before .before .before .before .before .before .before .before .before .before .if1 .left) _ K
-    (sym (c .before .before .before .before .before .before .before .before .before .before .before .before .before .before .before .kind2 .ensures) ∙ c .before .before .before .before .before .before .before .before .before .before .before .before .before .before .if2 .left) X
-    (sym (c .before .before .before .before .before .before .kind3 .ensures) ∙ c .before .before .before .before .before .if3 .left) (c .before .before .before .before .before .before .before .before .before .before .before .before .before .before .before .before .before .before .before .before .before .before .before .span-from .ensures) (c .before .before .before .before .end-before .ensures) (c .before .before .put-span .ensures))
+ending-same-length-5 : (t : ℕ) → ending-lts.Need-same-length-5 (ending-claims t) (ending-at t) ending.Post
+ending-same-length-5 t c = c .before .before .before .put-span .kept .0 ∙ c .before .before .before .before .before .before .before .before .before .before .before .block .kept .1 .0 ∙ c .before .before .before .before .before .before .before .before .before .before .before .before .before .before .before .before .before .before .before .before .argument .kept .1 .0
+
+ending-returns-5 : (t : ℕ) → ending-lts.Need-returns-5 (ending-claims t) (ending-at t) ending.Post
+ending-returns-5 t c = let pre₀ = c .before .before .before .before .before .before .before .before .before .before .before .before .before .before .before .before .before .before .before .before .before .before .before .before .before .before .before .pre .1 in
+    let K = c .before .before .before .before .before .before .before .before .before .before .before .before .before .before .before .before .before .before .before .before .argument .ensures .at _ _ (c .before .before .before .before .before .before .before .before .before .before .before .before .before .before .before .before .r .given .1) in
+    let X = c .before .before .before .before .before .before .before .before .before .before .before .block .ensures .at _ _ (c .before .before .before .before .before .before .before .r2 .given .1) in
+    let k₁₃ = sym (c .before .before .before .before .before .before .before .before .before .before .before .before .before .before .before .before .before .before .before .before .before .before .before .before .kind .ensures) ∙ c .before .before .before .before .before .before .before .before .before .before .before .before .before .before .before .before .before .before .before .before .before .before .before .if1 .left in
+    let k₇ = sym (c .before .before .before .before .before .before .before .before .before .before .before .before .before .before .kind2 .ensures) ∙ c .before .before .before .before .before .before .before .before .before .before .before .before .before .if2 .left in
+    record {
+      at = λ j m e. ending-of-block (pre₀ .0) k₁₃ _ K k₇ X (c .before .before .before .before .before .before .before .before .before .before .before .before .before .before .before .before .before .before .before .before .before .before .span-from .ensures) (c .before .before .before .before .before .end-before .ensures) (c .before .before .before .put-span .ensures) (c .follows .ensures .at j m e);
+      no = λ a z k d e q. end-follow-no (pre₀ .0) k₁₃ _ K k₇ X (c .follows .ensures .no a z k d e q .ofBlock refl);
+    }
 
 abbrev sentence-Inv-loop : sentence-lts.InvT-loop
 sentence-Inv-loop tokens rows₀ at n left row j m i₀ k₀ rows i k = CondsInv tokens rows₀ rows j m left i k
@@ -366,18 +358,16 @@ sentence-add-row : (t : ℕ) → sentence-lts.Need-add-row (sentence-claims t) (
 sentence-add-row t c = let pre₀ = c .before .before .pre .1 in
     let R = pre₀ .0 in let h = pre₀ .1 in omega arith
 
-sentence-pattern-requires : (t : ℕ) → sentence-lts.Need-pattern-requires (sentence-claims t) (sentence-at t) sentence.Post sentence-Inv-loop sentence-μ-loop
-sentence-pattern-requires t c κs = let pre₀ = c .before .before .before .pre .1 in
+sentence-clause-requires : (t : ℕ) → sentence-lts.Need-clause-requires (sentence-claims t) (sentence-at t) sentence.Post sentence-Inv-loop sentence-μ-loop
+sentence-clause-requires t c κs = let pre₀ = c .before .before .before .pre .1 in
     let h = pre₀ .1 in (pre₀ .0, omega arith)
 
 sentence-returns : (t : ℕ) → sentence-lts.Need-returns (sentence-claims t) (sentence-at t) sentence.Post sentence-Inv-loop sentence-μ-loop
-sentence-returns t c = let w = c .before .before .before .before .before .before .before .before .args .tokens .now in
-    let at₀ = c .before .before .before .before .before .before .before .before .args .cursor .at in
-    is-no (c .enum-told .given .1) (λ b s p. c .before .before .before .before .pattern .ensures .no _ _ _ _ _ (c .enum-told .given .1) (inPattern b s (getD w (at₀ + 4) 0)) b (λ (g : Terms). begun s (getD w (at₀ + 4) 0) g c0) (λ h t y z. refl) p)
+sentence-returns t c = is-no (c .enum-told .given .1) (λ b s p. c .before .before .before .before .clause .ensures .no _ _ _ _ _ (c .enum-told .given .1) _ _ (turn-pattern _ b s _) p)
 
 sentence-loop-holds : (t : ℕ) → sentence-lts.Need-loop-holds (sentence-claims t) (sentence-at t) sentence.Post sentence-Inv-loop sentence-μ-loop
 unfolding sizeC wC
-sentence-loop-holds t c = let Q = c .before .before .before .before .before .pattern .ensures .at _ _ (c .before .r .given .1) in
+sentence-loop-holds t c = let Q = c .before .before .before .before .before .clause .ensures .at _ _ (c .before .r .given .1) in
     record { cs = c0; ready = Q .ready; joint = Q .joint; on = omega arith; few = Q .few; same = refl; rows = refl; count = omega arith; means = λ b s a f p. refl }
 
 sentence-kind-requires : (t : ℕ) → sentence-lts.Need-kind-requires (sentence-claims t) (sentence-at t) sentence.Post sentence-Inv-loop sentence-μ-loop
@@ -388,7 +378,7 @@ sentence-condition-requires t c κs = let w = c .before .before .before .before 
     let i₀ = c .before .before .before .loop .i in
     let pre₀ = c .before .before .before .before .before .before .before .before .before .before .before .before .before .pre .1 in
     let I = c .before .before .before .loop .inv in
-    let Q = c .before .before .before .before .before .before .before .before .before .pattern .ensures .at _ _ (c .before .before .before .before .before .r .given .1) in
+    let Q = c .before .before .before .before .before .before .before .before .before .clause .ensures .at _ _ (c .before .before .before .before .before .r .given .1) in
     let k₁₃ : getD w i₀ 0 ≡ 13 = sym (c .before .before .kind .ensures) ∙ c .before .if1 .taken in
     let o = I .on in let q = Q .on in let R = I .ready in let g = pre₀ .0 in (omega arith, (I .ready, I .few, k₁₃))
 
@@ -396,10 +386,10 @@ sentence-same-length-2 : (t : ℕ) → sentence-lts.Need-same-length-2 (sentence
 sentence-same-length-2 t c = let I = c .before .before .before .before .before .before .before .before .loop .inv in
     c .before .before .before .before .condition .kept .1 .0
     ∙ I .same
-    ∙ c .before .before .before .before .before .before .before .before .before .before .before .before .before .before .pattern .kept .1 .0
+    ∙ c .before .before .before .before .before .before .before .before .before .before .before .before .before .before .clause .kept .1 .0
 
 sentence-returns-2 : (t : ℕ) → sentence-lts.Need-returns-2 (sentence-claims t) (sentence-at t) sentence.Post sentence-Inv-loop sentence-μ-loop
-sentence-returns-2 t c = let Q = c .before .before .before .before .before .before .before .before .before .before .before .before .before .before .pattern .ensures .at _ _ (c .before .before .before .before .before .before .before .before .before .before .r .given .1) in
+sentence-returns-2 t c = let Q = c .before .before .before .before .before .before .before .before .before .before .before .before .before .before .clause .ensures .at _ _ (c .before .before .before .before .before .before .before .before .before .before .r .given .1) in
     let I = c .before .before .before .before .before .before .before .before .loop .inv in
     is-no (c .enum-told2 .given .1) (condition-no _ Q I (c .before .before .before .before .condition .ensures .no _ _ _ _ _ (c .enum-told2 .given .1)))
 
@@ -417,7 +407,7 @@ sentence-ending-requires t c κs = let w = c .before .before .before .before .be
     let i₀ = c .before .before .before .loop .i in
     let pre₀ = c .before .before .before .before .before .before .before .before .before .before .before .before .before .pre .1 in
     let I = c .before .before .before .loop .inv in
-    let Q = c .before .before .before .before .before .before .before .before .before .pattern .ensures .at _ _ (c .before .before .before .before .before .r .given .1) in
+    let Q = c .before .before .before .before .before .before .before .before .before .clause .ensures .at _ _ (c .before .before .before .before .before .r .given .1) in
     let k₁₅ : getD w i₀ 0 ≡ 15 = c .before .before .before .loop .inv .joint (λ e. c .before .if1 .left (c .before .before .kind .ensures ∙ e)) in
     let o = I .on in
     let q = Q .on in
@@ -428,68 +418,55 @@ sentence-same-length-3 : (t : ℕ) → sentence-lts.Need-same-length-3 (sentence
 sentence-same-length-3 t c = let I = c .before .before .before .before .before .before .before .before .loop .inv in
     c .before .before .before .before .ending .kept .1 .0
     ∙ I .same
-    ∙ c .before .before .before .before .before .before .before .before .before .before .before .before .before .before .pattern .kept .1 .0
+    ∙ c .before .before .before .before .before .before .before .before .before .before .before .before .before .before .clause .kept .1 .0
 
 sentence-returns-3 : (t : ℕ) → sentence-lts.Need-returns-3 (sentence-claims t) (sentence-at t) sentence.Post sentence-Inv-loop sentence-μ-loop
-sentence-returns-3 t c = let Q = c .before .before .before .before .before .before .before .before .before .before .before .before .before .before .pattern .ensures .at _ _ (c .before .before .before .before .before .before .before .before .before .before .r .given .1) in
+sentence-returns-3 t c = let Q = c .before .before .before .before .before .before .before .before .before .before .before .before .before .before .clause .ensures .at _ _ (c .before .before .before .before .before .before .before .before .before .before .r .given .1) in
     let I = c .before .before .before .before .before .before .before .before .loop .inv in
     is-no (c .enum-told3 .given .1) (ending-no _ Q I (I .joint (λ e. c .before .before .before .before .before .before .if1 .left (c .before .before .before .before .before .before .before .kind .ensures ∙ e))) (c .before .before .before .before .ending .ensures .no _ _ _ _ _ (c .enum-told3 .given .1)))
 
-sentence-span-from-requires : (t : ℕ) → sentence-lts.Need-span-from-requires (sentence-claims t) (sentence-at t) sentence.Post sentence-Inv-loop sentence-μ-loop
-sentence-span-from-requires t c κs = let pre₀ = c .before .before .before .before .before .before .before .before .before .before .before .before .before .before .before .before .before .before .before .pre .1 in
-    pre₀ .0
-
-sentence-end-before-requires : (t : ℕ) → sentence-lts.Need-end-before-requires (sentence-claims t) (sentence-at t) sentence.Post sentence-Inv-loop sentence-μ-loop
-sentence-end-before-requires t c κs = let N = c .before .before .before .before .before .before .ending .ensures .at _ _ (c .before .before .r3 .given .1) in let q = N .on in (N .ready, omega arith)
-
-sentence-put-span-requires : (t : ℕ) → sentence-lts.Need-put-span-requires (sentence-claims t) (sentence-at t) sentence.Post sentence-Inv-loop sentence-μ-loop
-sentence-put-span-requires t c κs = let pre₀ = c .before .before .before .before .before .before .before .before .before .before .before .before .before .before .before .before .before .before .before .before .before .before .pre .1 in
-    let N = c .before .before .before .before .before .before .before .before .ending .ensures .at _ _ (c .before .before .before .before .r3 .given .1) in
-    let R = N .ready in let v = N .few in let h = pre₀ .1 in let g = pre₀ .0 in (omega arith, omega arith)
+sentence-put-sentence-requires : (t : ℕ) → sentence-lts.Need-put-sentence-requires (sentence-claims t) (sentence-at t) sentence.Post sentence-Inv-loop sentence-μ-loop
+sentence-put-sentence-requires t c κs = let pre₀ = c .before .before .before .before .before .before .before .before .before .before .before .before .before .before .before .before .before .before .before .before .pre .1 in
+    let I = c .before .before .before .before .before .before .before .before .before .before .loop .inv in
+    let Q = c .before .before .before .before .before .before .before .before .before .before .before .before .before .before .before .before .clause .ensures .at _ _ (c .before .before .before .before .before .before .before .before .before .before .before .before .r .given .1) in
+    let N = c .before .before .before .before .before .before .ending .ensures .at _ _ (c .before .before .r3 .given .1) in
+    let R = N .ready in let o = N .on in let v = N .few in let h = pre₀ .1 in let g = pre₀ .0 in (g, R, omega arith, N .joint, omega arith, omega arith)
 
 sentence-same-length-4 : (t : ℕ) → sentence-lts.Need-same-length-4 (sentence-claims t) (sentence-at t) sentence.Post sentence-Inv-loop sentence-μ-loop
-sentence-same-length-4 t c = let I = c .before .before .before .before .before .before .before .before .before .before .before .before .before .before .before .loop .inv in
-    c .before .before .put-span .kept .0
-    ∙ c .before .before .before .before .before .before .before .before .before .before .before .ending .kept .1 .0
+sentence-same-length-4 t c = let I = c .before .before .before .before .before .before .before .before .before .before .before .before .before .loop .inv in
+    c .before .before .put-sentence .kept .1 .0
+    ∙ c .before .before .before .before .before .before .before .before .before .ending .kept .1 .0
     ∙ I .same
-    ∙ c .before .before .before .before .before .before .before .before .before .before .before .before .before .before .before .before .before .before .before .before .before .pattern .kept .1 .0
+    ∙ c .before .before .before .before .before .before .before .before .before .before .before .before .before .before .before .before .before .before .before .clause .kept .1 .0
 
 sentence-returns-4 : (t : ℕ) → sentence-lts.Need-returns-4 (sentence-claims t) (sentence-at t) sentence.Post sentence-Inv-loop sentence-μ-loop
-sentence-returns-4 t c = let Q = c .before .before .before .before .before .before .before .before .before .before .before .before .before .before .before .before .before .before .before .before .before .pattern .ensures .at _ _ (c .before .before .before .before .before .before .before .before .before .before .before .before .before .before .before .before .before .r .given .1) in
-    let I = c .before .before .before .before .before .before .before .before .before .before .before .before .before .before .before .loop .inv in
-    let N = c .before .before .before .before .before .before .before .before .before .before .before .ending .ensures .at _ _ (c .before .before .before .before .before .before .before .r3 .given .1) in
-    is-at refl (sentence-of-parts _ Q I (I .joint (λ e. c .before .before .before .before .before .before .before .before .before .before .before .before .before .if1 .left (c .before .before .before .before .before .before .before .before .before .before .before .before .before .before .kind .ensures ∙ e))) N (c .before .before .before .before .before .span-from .ensures) (c .before .before .before .before .end-before .ensures) (c .before .before .put-span .ensures))
+sentence-returns-4 t c = let Q = c .before .before .before .before .before .before .before .before .before .before .before .before .before .before .before .before .before .before .before .clause .ensures .at _ _ (c .before .before .before .before .before .before .before .before .before .before .before .before .before .before .before .r .given .1) in
+    let I = c .before .before .before .before .before .before .before .before .before .before .before .before .before .loop .inv in
+    let N = c .before .before .before .before .before .before .before .before .before .ending .ensures .at _ _ (c .before .before .before .before .before .r3 .given .1) in
+    is-at refl (sentence-of-parts _ Q I (I .joint (λ e. c .before .before .before .before .before .before .before .before .before .before .before .if1 .left (c .before .before .before .before .before .before .before .before .before .before .before .before .kind .ensures ∙ e))) N (c .before .before .put-sentence .ensures .0) (c .before .before .put-sentence .ensures .1))
 
 pub +block+condition+ending+sentence-spec : {M : Type 1} → statement M
 +block+condition+ending+sentence-spec =
-    close μ-block μ-condition μ-ending μ-sentence (λ t. block-lts.spec (block-claims t) (block-at t)
-    block.Post
-    block-Inv-loop
-    block-μ-loop (λ c κs. search needs) (block-returns t) (λ c. search needs) (block-add-i t) (block-loop-holds t) (block-kind-requires t)
-    (block-kind-requires-2 t) (block-present-requires-2 t) (block-same-length t) (block-returns-2 t) (block-sentence-requires t)
-    (λ c. search needs) (λ c. search needs) (λ c. search needs) (block-returns-3 t) (block-loop-less t) (block-loop-again t)
-    (block-add-next t) (λ c. search needs) (block-returns-4 t))
-    (λ t. condition-lts.spec (condition-claims t) (condition-at t)
-    condition.Post (condition-add-start t) (condition-span-from-requires t) (condition-add-first t) (condition-clause-requires t)
-    (λ c. search needs) (λ c. search needs) (λ c. search needs) (condition-returns t) (condition-kind-requires t) (condition-add-row t)
-    (condition-block-requires t) (λ c. search needs) (λ c. search needs) (λ c. search needs) (condition-returns-2 t)
-    (condition-end-before-requires t) (condition-put-span-requires t) (condition-put-span-requires-2 t) (condition-follows-requires t)
-    (condition-same-length-3 t) (condition-returns-3 t) (condition-pattern-requires t) (λ c. search needs) (λ c. search needs)
-    (λ c. search needs) (condition-returns-4 t) (condition-end-before-requires-2 t) (condition-put-span-requires-3 t) (λ c. search needs)
-    (condition-returns-5 t))
-    (λ t. ending-lts.spec (ending-claims t) (ending-at t)
-    ending.Post (ending-kind-requires t) (ending-clause-requires t) (λ c. search needs) (ending-returns t) (ending-add-start t)
-    (ending-span-from-requires t) (ending-add-first t) (ending-clause-requires-2 t) (λ c. search needs) (λ c. search needs)
-    (λ c. search needs) (ending-returns-2 t) (ending-kind-requires-2 t) (ending-present-requires t) (λ c. search needs) (ending-returns-3 t)
-    (ending-block-requires t) (λ c. search needs) (λ c. search needs) (λ c. search needs) (ending-returns-4 t) (ending-kind-requires-3 t)
-    (ending-present-requires-2 t) (λ c. search needs) (ending-returns-5 t) (ending-end-before-requires t) (ending-put-span-requires t)
-    (ending-add-next t) (λ c. search needs) (ending-returns-6 t))
-    λ t. sentence-lts.spec (sentence-claims t) (sentence-at t)
-    sentence.Post
-    sentence-Inv-loop
-    sentence-μ-loop (sentence-add-row t) (sentence-pattern-requires t) (λ c. search needs) (λ c. search needs) (λ c. search needs)
-    (sentence-returns t) (sentence-loop-holds t) (sentence-kind-requires t) (sentence-condition-requires t) (λ c. search needs)
-    (λ c. search needs) (sentence-same-length-2 t) (sentence-returns-2 t) (sentence-loop-less t) (sentence-loop-again t)
-    (sentence-add-after t) (sentence-ending-requires t) (λ c. search needs) (λ c. search needs) (sentence-same-length-3 t)
-    (sentence-returns-3 t) (sentence-span-from-requires t) (sentence-end-before-requires t) (sentence-put-span-requires t)
-    (sentence-same-length-4 t) (sentence-returns-4 t)
+    close μ-block μ-condition μ-ending μ-sentence (λ t. block-lts.spec (block-claims t) (block-at t) block.Post block-Inv-loop block-μ-loop
+    (λ c κs. search needs) (block-returns t) (λ c. search needs) (block-add-i t) (block-loop-holds t) (block-kind-requires t)
+    (block-kind-requires-2 t) (block-present-requires-2 t) (block-same-length t) (block-returns-2 t) (block-sentence-requires t) (λ c. search needs)
+    (λ c. search needs) (λ c. search needs) (block-returns-3 t) (block-loop-less t) (block-loop-again t) (block-add-next t) (λ c. search needs)
+    (block-returns-4 t))
+    (λ t. condition-lts.spec (condition-claims t) (condition-at t) condition.Post (condition-add-start t) (condition-span-from-requires t)
+    (condition-add-first t) (condition-argument-requires t) (λ c. search needs) (λ c. search needs) (λ c. search needs) (condition-returns t)
+    (condition-kind-requires t) (condition-add-row t) (condition-block-requires t) (λ c. search needs) (λ c. search needs) (λ c. search needs)
+    (condition-returns-2 t) (condition-end-before-requires t) (condition-put-span-requires t) (condition-put-span-requires-2 t)
+    (condition-follows-requires t) (condition-same-length-3 t) (condition-returns-3 t) (condition-clause-requires t) (λ c. search needs)
+    (λ c. search needs) (λ c. search needs) (condition-returns-4 t) (condition-end-before-requires-2 t) (condition-put-span-requires-3 t)
+    (λ c. search needs) (condition-returns-5 t))
+    (λ t. ending-lts.spec (ending-claims t) (ending-at t) ending.Post (ending-kind-requires t) (ending-clause-requires t) (λ c. search needs)
+    (ending-returns t) (ending-add-start t) (ending-span-from-requires t) (ending-add-first t) (ending-argument-requires t) (λ c. search needs)
+    (λ c. search needs) (λ c. search needs) (ending-returns-2 t) (ending-kind-requires-2 t) (ending-present-requires t) (λ c. search needs)
+    (ending-returns-3 t) (ending-block-requires t) (λ c. search needs) (λ c. search needs) (λ c. search needs) (ending-returns-4 t)
+    (ending-end-before-requires t) (ending-put-span-requires t) (ending-follows-requires t) (ending-same-length-5 t) (ending-returns-5 t))
+    λ t. sentence-lts.spec (sentence-claims t) (sentence-at t) sentence.Post sentence-Inv-loop sentence-μ-loop (sentence-add-row t)
+    (sentence-clause-requires t) (λ c. search needs) (λ c. search needs) (λ c. search needs) (sentence-returns t) (sentence-loop-holds t)
+    (sentence-kind-requires t) (sentence-condition-requires t) (λ c. search needs) (λ c. search needs) (sentence-same-length-2 t)
+    (sentence-returns-2 t) (sentence-loop-less t) (sentence-loop-again t) (sentence-add-after t) (sentence-ending-requires t) (λ c. search needs)
+    (λ c. search needs) (sentence-same-length-3 t) (sentence-returns-3 t) (sentence-put-sentence-requires t) (sentence-same-length-4 t)
+    (sentence-returns-4 t)
