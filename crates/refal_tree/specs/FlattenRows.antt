@@ -11,13 +11,15 @@ use Rattle.refal_ast.specs.Kinds.{tokComma, tokColon, tokEquals, tokSemicolon}
 use Rattle.refal_ast.specs.Kinds.{nodeDeclaration, nodeName, nodeFunction, nodeSentence, nodeCondition, nodeTerms, nodeEndingBlock, nodeConditionBlock}
 use Rattle.refal_ast.specs.Kinds.{nodeIdentifier, nodeNumber, nodeChar, nodeVariable, nodeBracket, nodeCall}
 use Rattle.refal_ast.specs.Tree.{Leaf, symbol, variable, Term, leaf, bracket, call, Terms, t0, tMore, Right, rTerms, rBlock, Condition, condition, Conditions, c0, cMore}
-use Rattle.refal_ast.specs.Tree.{End, eTerms, eBlock, Sentence, sentence, Sentences, s0, sMore, Names, nOne, nMore, Item, declaration, function, Program, p0, pMore}
-use Rattle.refal_ast.specs.Flatten.{Flat, flatToken, mark, nameOf, flatLeaf, flattenTerm, flattenT, flattenRight, flattenCondition, flattenC, flattenEnd, flattenSentence, flattenS, flattenN}
-use Rattle.refal_ast.specs.Flatten.{flatEntry, flattenItem, flattenP}
+use Rattle.refal_ast.specs.Tree.{End, eTerms, eBlock, Sentence, sentence, Sentences, s0, sMore, Body, bAll, bOff, Names, nOne, nMore, Item, declaration, function, Program, p0, pMore}
+use Rattle.refal_ast.specs.Flatten.{Flat, flatToken, mark, nameOf, flatLeaf, flattenTerm, flattenT, flattenRight, flattenCondition, flattenC, flattenEnd, flattenSentence, flattenS, flattenB, flattenN}
+use Rattle.refal_ast.specs.Flatten.{flatOff, flatEntry, flattenItem, flattenP}
+use Rattle.refal_ast.specs.Encode.{offDetail}
 use Rattle.refal_ast.specs.declared.tree.Symbol.the-variants.{Char, Identifier, Number}
 use Rattle.refal_tree.specs.Forest.{Row, row, Forest, empty, tree}
-use Rattle.refal_tree.specs.States.{termKind, atItems, atName, atNames, atSentences, atPattern, atConditions, atCondition, atColon, atTerms, atArgument, atEnding, closed, stateInside, stateAfter}
-use Rattle.refal_tree.specs.Typed.{leafR, plain, forTerm, forT, forTerms, forRight, forCondition, forC, forEnd, forSentence, forS, nameR, forN, forItem, forP, toForest}
+use Rattle.refal_tree.specs.States.{termKind, atItems, atName, atNames, atSentences, atPattern, atConditions, atCondition, atColon, atTerms, atArgument, atEnding, closed, pickState, stateInside, stateAfter, stateNext}
+use Rattle.refal_tree.specs.Typed.{leafR, plain, forTerm, forT, forTerms, forRight, forCondition, forC, forEnd, sentenceR, forSentence, forS, forB, nameR, forN, forItem, forP, toForest}
+use Rattle.refal_tree.specs.TypedRules.{flag-back}
 
 abbrev pub pickF : Bool → List Flat → List Flat → List Flat
 pickF true x y = x
@@ -51,12 +53,12 @@ openRest st r =
 abbrev pub openTokens : ℕ → Row → List Flat
 openTokens st r = pickF (termKind (r .kind)) (openTerm r) (openRest st r)
 
--- after the children of a row of the kind k
-abbrev pub closeTokens : ℕ → ℕ → List Flat
-closeTokens st k =
+-- after the children of a row of the kind k and the detail d
+abbrev pub closeTokens : ℕ → ℕ → ℕ → List Flat
+closeTokens st k d =
     onF k nodeDeclaration (mark tokSemicolon ∷ [])
     (onF k nodeFunction (mark tokRBrace ∷ [])
-    (onF k nodeSentence (mark tokSemicolon ∷ [])
+    (onF k nodeSentence (flatOff (eqb d 1))
     (onF k nodeTerms (onF st atCondition (mark tokColon ∷ []) (onF st atArgument (mark tokColon ∷ mark tokLBrace ∷ []) []))
     (onF k nodeEndingBlock (mark tokRBrace ∷ [])
     (onF k nodeConditionBlock (mark tokRBrace ∷ [])
@@ -66,7 +68,7 @@ closeTokens st k =
 unfoldable pub flattenG : ℕ → Forest → List Flat
 flattenG st empty = []
 flattenG st (tree r f g) =
-    openTokens st r ++ (flattenG (stateInside (r .kind)) f ++ (closeTokens st (r .kind) ++ flattenG (stateAfter st (r .kind)) g))
+    openTokens st r ++ (flattenG (stateInside (r .kind)) f ++ (closeTokens st (r .kind) (r .detail) ++ flattenG (stateNext st (r .kind) (r .detail)) g))
 
 -- the sentences of an ending block flatten as those of a function
 flat-ending : (f : Forest) → flattenG atEnding f ≡ flattenG atSentences f
@@ -74,8 +76,12 @@ unfolding flattenG
 flat-ending empty = refl
 flat-ending (tree r f g) = go (flat-ending g) (eqb (r .kind) nodeSentence) refl
   where
+    next : flattenG atEnding g ≡ flattenG atSentences g → (b : Bool) → flattenG (pickState b closed atEnding) g ≡ flattenG (pickState b closed atSentences) g
+    next ih true = refl
+    next ih false = ih
+
     go : flattenG atEnding g ≡ flattenG atSentences g → (b : Bool) → eqb (r .kind) nodeSentence ≡ b → flattenG atEnding (tree r f g) ≡ flattenG atSentences (tree r f g)
-    go ih true e = rw (eqb-true (r .kind) nodeSentence e) (ap (λ (l : List Flat). flattenG atPattern f ++ (mark tokSemicolon ∷ l)) ih)
+    go ih true e = rw (eqb-true (r .kind) nodeSentence e) (ap (λ (l : List Flat). flattenG atPattern f ++ (flatOff (eqb (r .detail) 1) ++ l)) (next ih (eqb (r .detail) 1)))
     go ih false e = rw e refl
 
 -- ---- a tree's flattening
@@ -92,15 +98,20 @@ flows-then {st₁} {st₂} {st₃} {op₁} {op₂} {E₁} {E₂} p q = record {
   flat = λ g. p .flat (op₂ g) ∙ ap (λ (l : List Flat). E₁ ++ l) (q .flat g) ∙ sym (append-assoc E₁ E₂ (flattenG st₃ g));
 }
 
--- a row above what op puts
-flows-row : {st' : ℕ} {op : Forest → Forest} {E : List Flat} (st : ℕ) (r : Row) → Flows (stateInside (r .kind)) st' op E
-    → Flows st (stateAfter st (r .kind)) (λ (g : Forest). tree r (op empty) g) (openTokens st r ++ (E ++ closeTokens st (r .kind)))
+-- all of it, where nothing stands after
+flows-all : {st st' : ℕ} {op : Forest → Forest} {E : List Flat} → Flows st st' op E → flattenG st (op empty) ≡ E
 unfolding flattenG
-flows-row {st'} {op} {E} st r p = record {
+flows-all {st} {st'} {op} {E} p = p .flat empty ∙ append-nil E
+
+-- a row and its children
+flows-row : {f : Forest} {E : List Flat} (st : ℕ) (r : Row) → flattenG (stateInside (r .kind)) f ≡ E
+    → Flows st (stateNext st (r .kind) (r .detail)) (λ (g : Forest). tree r f g) (openTokens st r ++ (E ++ closeTokens st (r .kind) (r .detail)))
+unfolding flattenG
+flows-row {f} {E} st r e = record {
   flat = λ g.
-      let R : List Flat = flattenG (stateAfter st (r .kind)) g in
-      let Z : List Flat = closeTokens st (r .kind) in
-      ap (λ (l : List Flat). openTokens st r ++ (l ++ (Z ++ R))) (p .flat empty ∙ append-nil E)
+      let R : List Flat = flattenG (stateNext st (r .kind) (r .detail)) g in
+      let Z : List Flat = closeTokens st (r .kind) (r .detail) in
+      ap (λ (l : List Flat). openTokens st r ++ (l ++ (Z ++ R))) e
       ∙ ap (λ (l : List Flat). openTokens st r ++ l) (sym (append-assoc E Z R))
       ∙ sym (append-assoc (openTokens st r) (E ++ Z) R);
 }
@@ -120,16 +131,16 @@ mutual
 
   flows-term : (x : Term) → Flows atTerms atTerms (forTerm x) (flattenTerm x)
   flows-term (leaf x a b) = flows-leaf x a b
-  flows-term (bracket a f b) = flows-row atTerms (plain nodeBracket a b) (flows-T f)
-  flows-term (call a s l f b) = flows-row atTerms (row nodeCall 0 s l a b) (flows-T f)
+  flows-term (bracket a f b) = flows-row atTerms (plain nodeBracket a b) (flows-all (flows-T f))
+  flows-term (call a s l f b) = flows-row atTerms (row nodeCall 0 s l a b) (flows-all (flows-T f))
 
   flows-T : (f : Terms) → Flows atTerms atTerms (forT f) (flattenT f)
   flows-T t0 = flows-none atTerms
   flows-T (tMore f x) = flows-then (flows-T f) (flows-term x)
 
 -- a Terms row, in each place
-flows-terms : (st : ℕ) (f : Terms) → Flows st (stateAfter st nodeTerms) (forTerms f) (openTokens st (plain nodeTerms 0 0) ++ (flattenT f ++ closeTokens st nodeTerms))
-flows-terms st f = flows-row st (plain nodeTerms 0 0) (flows-T f)
+flows-terms : (st : ℕ) (f : Terms) → Flows st (stateAfter st nodeTerms) (forTerms f) (openTokens st (plain nodeTerms 0 0) ++ (flattenT f ++ closeTokens st nodeTerms 0))
+flows-terms st f = flows-row st (plain nodeTerms 0 0) (flows-all (flows-T f))
 
 at-pattern : (f : Terms) → Flows atPattern atConditions (forTerms f) (flattenT f)
 at-pattern f = flows-as (append-nil (flattenT f)) (flows-terms atPattern f)
@@ -140,19 +151,16 @@ at-colon f = flows-as (append-nil (flattenT f)) (flows-terms atColon f)
 at-result : (f : Terms) → Flows atConditions closed (forTerms f) (mark tokEquals ∷ flattenT f)
 at-result f = flows-as (ap (λ (l : List Flat). mark tokEquals ∷ l) (append-nil (flattenT f))) (flows-terms atConditions f)
 
-flows-ending : {op : Forest → Forest} {E : List Flat} → Flows atSentences atSentences op E → Flows atEnding atEnding op E
-flows-ending {op} {E} p = record { flat = λ g. flat-ending (op g) ∙ p .flat g ∙ ap (λ (l : List Flat). E ++ l) (sym (flat-ending g)) }
-
 mutual
   unfolding flattenC forC
 
   flows-right : (r : Right) → Flows atColon closed (forRight r) (flattenRight r)
   flows-right (rTerms f) = at-colon f
-  flows-right (rBlock a v b) = flows-row atColon (plain nodeConditionBlock a b) (flows-S v)
+  flows-right (rBlock a v b) = flows-row atColon (plain nodeConditionBlock a b) (flat-B v)
 
   flows-condition : (x : Condition) → Flows atConditions atConditions (forCondition x) (flattenCondition x)
   flows-condition (condition a f r b) =
-      flows-as (simp (append-assoc, append-nil)) (flows-row atConditions (plain nodeCondition a b) (flows-then (flows-terms atCondition f) (flows-right r)))
+      flows-as (simp (append-assoc, append-nil)) (flows-row atConditions (plain nodeCondition a b) (flows-all (flows-then (flows-terms atCondition f) (flows-right r))))
 
   flows-C : (cs : Conditions) → Flows atConditions atConditions (forC cs) (flattenC cs)
   flows-C c0 = flows-none atConditions
@@ -161,15 +169,24 @@ mutual
   flows-end : (x : End) → Flows atConditions closed (forEnd x) (mark tokEquals ∷ flattenEnd x)
   flows-end (eTerms f) = at-result f
   flows-end (eBlock a f v b) =
-      flows-as (simp append-assoc) (flows-row atConditions (plain nodeEndingBlock a b) (flows-then (flows-terms atArgument f) (flows-ending (flows-S v))))
+      let E : List Flat = flattenT f ++ (mark tokColon ∷ mark tokLBrace ∷ []) in
+      flows-as (simp append-assoc)
+      (flows-row atConditions (plain nodeEndingBlock a b)
+      (flows-terms atArgument f .flat (forB v empty) ∙ ap (λ (l : List Flat). E ++ l) (flat-ending (forB v empty) ∙ flat-B v)))
 
-  flows-sentence : (x : Sentence) → Flows atSentences atSentences (forSentence x) (flattenSentence x)
-  flows-sentence (sentence a f cs x b) =
-      flows-as (simp append-assoc) (flows-row atSentences (plain nodeSentence a b) (flows-then (at-pattern f) (flows-then (flows-C cs) (flows-end x))))
+  flows-sentence : (off : Bool) (x : Sentence) → Flows atSentences (stateNext atSentences nodeSentence (offDetail off)) (forSentence off x) (flattenSentence off x)
+  flows-sentence off (sentence a f cs x b) =
+      let e : eqb (offDetail off) 1 ≡ off = flag-back offDetail refl refl off in
+      flows-as (simp (append-assoc, e))
+      (flows-row atSentences (sentenceR off a b) (flows-all (flows-then (at-pattern f) (flows-then (flows-C cs) (flows-end x)))))
 
   flows-S : (s : Sentences) → Flows atSentences atSentences (forS s) (flattenS s)
   flows-S s0 = flows-none atSentences
-  flows-S (sMore s x) = flows-then (flows-S s) (flows-sentence x)
+  flows-S (sMore s x) = flows-then (flows-S s) (flows-sentence false x)
+
+  flat-B : (v : Body) → flattenG atSentences (forB v empty) ≡ flattenB v
+  flat-B (bAll s) = flows-all (flows-S s)
+  flat-B (bOff s x) = flows-all (flows-then (flows-S s) (flows-sentence true x))
 
 flows-name : (s l : ℕ) → Flows atName atNames (λ (g : Forest). tree (nameR s l) empty g) (nameOf s l ∷ [])
 unfolding flattenG
@@ -185,9 +202,9 @@ flows-N (nOne s l) = flows-name s l
 flows-N (nMore ns s l) = flows-then (flows-N ns) (flows-more s l)
 
 flows-item : (x : Item) → Flows atItems atItems (forItem x) (flattenItem x)
-flows-item (declaration a ns b) = flows-row atItems (plain nodeDeclaration a b) (flows-N ns)
-flows-item (function a true s l v b) = flows-row atItems (row nodeFunction 1 s l a b) (flows-S v)
-flows-item (function a false s l v b) = flows-row atItems (row nodeFunction 0 s l a b) (flows-S v)
+flows-item (declaration a ns b) = flows-row atItems (plain nodeDeclaration a b) (flows-all (flows-N ns))
+flows-item (function a true s l v b) = flows-row atItems (row nodeFunction 1 s l a b) (flat-B v)
+flows-item (function a false s l v b) = flows-row atItems (row nodeFunction 0 s l a b) (flat-B v)
 
 flows-P : (p : Program) → Flows atItems atItems (forP p) (flattenP p)
 unfolding flattenP forP
@@ -195,5 +212,4 @@ flows-P p0 = flows-none atItems
 flows-P (pMore p x) = flows-then (flows-P p) (flows-item x)
 
 pub flatten-tree : (p : Program) → flattenG atItems (toForest p) ≡ flattenP p
-unfolding flattenG
-flatten-tree p = flows-P p .flat empty ∙ append-nil (flattenP p)
+flatten-tree p = flows-all (flows-P p)

@@ -11,11 +11,11 @@ use native.Mathlib.Numerals.{add-one}
 use lib.ListN.{length, take, drop, length-append, take-append-drop}
 use lib.Seq.{slice, slice-empty, slice-cons, length-slice, take-take, take-all, drop-append-le, length-take-le, take-at, drop-at}
 use borrow.Author.Tests.{eq-eqb}
-use Rattle.refal_ast.specs.Nodes.{Node, nodeWidth, colKind, colNext, wordAt, nodeAt, nodesOf}
+use Rattle.refal_ast.specs.Nodes.{Node, nodeWidth, colKind, colDetail, colNext, wordAt, nodeAt, nodesOf}
 use Rattle.refal_ast.specs.NodeLaws.{count-nodes, node-at}
 use Rattle.refal_tree.specs.Forest.{Row, Forest, empty, tree, sizeG, withNext, own, forestN, pickForest, forestOf}
 use Rattle.refal_tree.specs.ForestLaws.{nodesG, length-forest, forest-nodes, nodes-forest}
-use Rattle.refal_tree.specs.States.{mayEnd, stateInside, stateAfter, below}
+use Rattle.refal_tree.specs.States.{mayEnd, stateInside, stateNext, below}
 use Rattle.refal_tree.specs.Rules.{rowOk, okG}
 
 -- ---- definitions
@@ -24,12 +24,15 @@ use Rattle.refal_tree.specs.Rules.{rowOk, okG}
 abbrev pub nodesAt : List ℕ → ℕ → ℕ → List Node
 nodesAt w i j = slice i j (nodesOf w)
 
--- the own words of row i, its kind, and its next row
+-- the own words of row i, its kind, its detail, and its next row
 abbrev pub rowAt : List ℕ → ℕ → Row
 rowAt w i = own (nodeAt w i)
 
 abbrev pub kindAt : List ℕ → ℕ → ℕ
 kindAt w i = wordAt w i colKind
+
+abbrev pub detailAt : List ℕ → ℕ → ℕ
+detailAt w i = wordAt w i colDetail
 
 abbrev pub nextAt : List ℕ → ℕ → ℕ
 nextAt w i = wordAt w i colNext
@@ -181,7 +184,7 @@ forest-all w n e =
 -- ---- the rules, along a walk
 
 ok-joined : (st left : ℕ) (r : Row) (o p : Option Forest)
-    → okIn st left (joined r o p) ≡ rowOk st left r && (okIn (stateInside (r .kind)) (below st (r .kind) left) o && okIn (stateAfter st (r .kind)) left p)
+    → okIn st left (joined r o p) ≡ rowOk st left r && (okIn (stateInside (r .kind)) (below st (r .kind) left) o && okIn (stateNext st (r .kind) (r .detail)) left p)
 unfolding okG
 ok-joined st left r none p = sym (and-false (rowOk st left r))
 ok-joined st left r (some f) none =
@@ -189,7 +192,7 @@ ok-joined st left r (some f) none =
 ok-joined st left r (some f) (some g) = refl
 
 pub ok-turn : (w : List ℕ) (i j st left : ℕ) → nodeWidth * j ≤ length w → i < nextAt w i → nextAt w i ≤ j
-    → okAt w i j st left ≡ rowOk st left (rowAt w i) && (okAt w (i + 1) (nextAt w i) (stateInside (kindAt w i)) (below st (kindAt w i) left) && okAt w (nextAt w i) j (stateAfter st (kindAt w i)) left)
+    → okAt w i j st left ≡ rowOk st left (rowAt w i) && (okAt w (i + 1) (nextAt w i) (stateInside (kindAt w i)) (below st (kindAt w i) left) && okAt w (nextAt w i) j (stateNext st (kindAt w i) (detailAt w i)) left)
 ok-turn w i j st left l lo hi =
     ap (okIn st left) (forest-turn w i j l lo hi) ∙ ok-joined st left (rowAt w i) (forestAt w (i + 1) (nextAt w i)) (forestAt w (nextAt w i) j)
 
@@ -200,29 +203,31 @@ ok-end w i j st left e = ap (okIn st left) (forest-end w i j e)
 pub ok-bad : (w : List ℕ) (i j st left : ℕ) → nodeWidth * j ≤ length w → i < j → (i < nextAt w i → nextAt w i ≤ j → ⊥) → okAt w i j st left ≡ false
 ok-bad w i j st left l h bad = ap (okIn st left) (forest-bad w i j l h bad)
 
--- a turn of the check at row i, of the kind k and with the next row x
-module _ (w : List ℕ) (i j st left k x : ℕ) (kind : k ≡ kindAt w i) (next : x ≡ nextAt w i) (long : nodeWidth * j ≤ length w) (lo : i < x) (hi : x ≤ j) where
-  turn : okAt w i j st left ≡ rowOk st left (rowAt w i) && (okAt w (i + 1) x (stateInside k) (below st k left) && okAt w x j (stateAfter st k) left)
+-- a turn of the check at row i, of the kind k and the detail d, and with the next row x
+module _ (w : List ℕ) (i j st left k d x : ℕ) (kind : k ≡ kindAt w i) (detail : d ≡ detailAt w i) (next : x ≡ nextAt w i) (long : nodeWidth * j ≤ length w) (lo : i < x) (hi : x ≤ j) where
+  turn : okAt w i j st left ≡ rowOk st left (rowAt w i) && (okAt w (i + 1) x (stateInside k) (below st k left) && okAt w x j (stateNext st k d) left)
   turn =
       let K : ℕ = kindAt w i in
+      let D : ℕ = detailAt w i in
       ok-turn w i j st left long (subst (λ (y : ℕ). i < y) next lo) (subst (λ (y : ℕ). y ≤ j) next hi)
-      ∙ ap (λ (y : ℕ). rowOk st left (rowAt w i) && (okAt w (i + 1) y (stateInside K) (below st K left) && okAt w y j (stateAfter st K) left)) (sym next)
-      ∙ ap (λ (y : ℕ). rowOk st left (rowAt w i) && (okAt w (i + 1) x (stateInside y) (below st y left) && okAt w x j (stateAfter st y) left)) (sym kind)
+      ∙ ap (λ (y : ℕ). rowOk st left (rowAt w i) && (okAt w (i + 1) y (stateInside K) (below st K left) && okAt w y j (stateNext st K D) left)) (sym next)
+      ∙ ap (λ (y : ℕ). rowOk st left (rowAt w i) && (okAt w (i + 1) x (stateInside y) (below st y left) && okAt w x j (stateNext st y D) left)) (sym kind)
+      ∙ ap (λ (y : ℕ). rowOk st left (rowAt w i) && (okAt w (i + 1) x (stateInside k) (below st k left) && okAt w x j (stateNext st k y) left)) (sym detail)
 
   pub stop-row : rowOk st left (rowAt w i) ≡ false → okAt w i j st left ≡ false
-  stop-row h = turn ∙ ap (λ (b : Bool). b && (okAt w (i + 1) x (stateInside k) (below st k left) && okAt w x j (stateAfter st k) left)) h
+  stop-row h = turn ∙ ap (λ (b : Bool). b && (okAt w (i + 1) x (stateInside k) (below st k left) && okAt w x j (stateNext st k d) left)) h
 
   pub stop-kids : okAt w (i + 1) x (stateInside k) (below st k left) ≡ false → okAt w i j st left ≡ false
   stop-kids h =
       turn
-      ∙ ap (λ (b : Bool). rowOk st left (rowAt w i) && (b && okAt w x j (stateAfter st k) left)) h
+      ∙ ap (λ (b : Bool). rowOk st left (rowAt w i) && (b && okAt w x j (stateNext st k d) left)) h
       ∙ and-false (rowOk st left (rowAt w i))
 
-  pub go-on : rowOk st left (rowAt w i) ≡ true → okAt w (i + 1) x (stateInside k) (below st k left) ≡ true → okAt w i j st left ≡ okAt w x j (stateAfter st k) left
+  pub go-on : rowOk st left (rowAt w i) ≡ true → okAt w (i + 1) x (stateInside k) (below st k left) ≡ true → okAt w i j st left ≡ okAt w x j (stateNext st k d) left
   go-on h h' =
       turn
-      ∙ ap (λ (b : Bool). b && (okAt w (i + 1) x (stateInside k) (below st k left) && okAt w x j (stateAfter st k) left)) h
-      ∙ ap (λ (b : Bool). b && okAt w x j (stateAfter st k) left) h'
+      ∙ ap (λ (b : Bool). b && (okAt w (i + 1) x (stateInside k) (below st k left) && okAt w x j (stateNext st k d) left)) h
+      ∙ ap (λ (b : Bool). b && okAt w x j (stateNext st k d) left) h'
 
 -- what a check of the children found, from a state and levels that are those inside the row
 pub kids-are : (w : List ℕ) (i x st left k s l : ℕ) (b : Bool) → b ≡ okAt w (i + 1) x s l → s ≡ stateInside k → l ≡ below st k left → okAt w (i + 1) x (stateInside k) (below st k left) ≡ b

@@ -2,11 +2,11 @@
 use Prim.Native.Nat.{ℕ}
 use mathlib.Core.Bool.{Bool, true, not, _&&_, _||_}
 use lib.Dec.{eqb, leb}
-use Rattle.refal_ast.specs.Kinds.{nodeName, nodeFunction, nodeTerms, nodeChar, nodeVariable}
+use Rattle.refal_ast.specs.Kinds.{nodeName, nodeFunction, nodeSentence, nodeTerms, nodeChar, nodeVariable}
 use Rattle.refal_ast.specs.Nodes.{hasText}
 use Rattle.refal_ast.specs.Check.{pickBool}
 use Rattle.refal_tree.specs.Forest.{Row, Forest, empty, tree}
-use Rattle.refal_tree.specs.States.{mayStand, room, mayEnd, stateInside, stateAfter, below}
+use Rattle.refal_tree.specs.States.{mayStand, room, mayEnd, stateInside, stateNext, below}
 
 -- the kinds whose span is 0
 abbrev pub spanless : ℕ → Bool
@@ -16,10 +16,14 @@ spanless k = eqb k nodeName || eqb k nodeTerms
 abbrev pub variableLetter : ℕ → Bool
 variableLetter d = (eqb d 115 || eqb d 116) || eqb d 101
 
--- a function's detail is 0 or 1, a Char's any word, a Variable's a letter, all others 0
+-- the kinds whose detail is 0 or 1: a Function, 1 for an entry, and a Sentence, 1 where its `;` is left off
+abbrev pub yesOrNo : ℕ → Bool
+yesOrNo k = eqb k nodeFunction || eqb k nodeSentence
+
+-- those details, a Char's any word, a Variable's a letter, all others 0
 abbrev pub detailOk : ℕ → ℕ → Bool
 detailOk k d =
-    pickBool (eqb k nodeFunction) (leb d 1) (pickBool (eqb k nodeChar) true (pickBool (eqb k nodeVariable) (variableLetter d) (eqb d 0)))
+    pickBool (yesOrNo k) (leb d 1) (pickBool (eqb k nodeChar) true (pickBool (eqb k nodeVariable) (variableLetter d) (eqb d 0)))
 
 abbrev pub textOk : ℕ → ℕ → ℕ → Bool
 textOk k s l = hasText k || (eqb s 0 && eqb l 0)
@@ -39,4 +43,4 @@ rowOk st left r =
 unfoldable pub okG : ℕ → ℕ → Forest → Bool
 okG st left empty = mayEnd st
 okG st left (tree r f g) =
-    rowOk st left r && (okG (stateInside (r .kind)) (below st (r .kind) left) f && okG (stateAfter st (r .kind)) left g)
+    rowOk st left r && (okG (stateInside (r .kind)) (below st (r .kind) left) f && okG (stateNext st (r .kind) (r .detail)) left g)

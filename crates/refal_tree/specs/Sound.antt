@@ -1,24 +1,24 @@
 -- A forest that keeps the rules is the forest of a tree that is no deeper than the levels.
 use Prim.Native.Nat.{ℕ, zero, suc, _≤_}
-use mathlib.Core.Bool.{Bool, true, _&&_}
+use mathlib.Core.Bool.{Bool, true, false, _&&_}
 use mathlib.Core.Path.{_≡_, refl, sym, ap, subst, _∙_}
 use native.Mathlib.Omega.{arith}
 use lib.Dec.{eqb, leb}
 use borrow.Author.Tests.{leb-true}
 use Rattle.refal_rows.specs.Tests.{and-left, and-right}
-use Rattle.refal_ast.specs.Kinds.{nodeDeclaration, nodeFunction, nodeSentence, nodeCondition, nodeTerms, nodeEndingBlock, nodeConditionBlock, nodeBracket, nodeCall}
+use Rattle.refal_ast.specs.Kinds.{nodeDeclaration, nodeFunction, nodeCondition, nodeTerms, nodeEndingBlock, nodeConditionBlock, nodeBracket, nodeCall}
 use Rattle.refal_ast.specs.Tree.{Leaf, symbol, variable, Term, leaf, bracket, call, Terms, t0, tMore, Conditions, c0, cMore}
 use Rattle.refal_ast.specs.Tree.{Sentences, s0, sMore, Names, nOne, nMore, declaration, function, Program, p0, pMore}
-use Rattle.refal_ast.specs.Tree.{depthT, depthRight, depthCondition, depthC, depthEnd, depthSentence, depthS, depthP}
+use Rattle.refal_ast.specs.Tree.{depthT, depthRight, depthCondition, depthC, depthEnd, depthSentence, depthS, depthB, depthP}
 use Rattle.refal_ast.specs.Encode.{entryDetail}
 use Rattle.refal_ast.specs.declared.tree.Symbol.the-variants.{Char, Identifier, Number}
 use Rattle.refal_tree.specs.Forest.{Row, row, Forest, empty, tree}
-use Rattle.refal_tree.specs.States.{atItems, atName, atNames, atSentences, atPattern, atConditions, atCondition, atColon, atTerms, atArgument, closed, stateInside, stateAfter, below, lower}
+use Rattle.refal_tree.specs.States.{atItems, atName, atNames, atSentences, atPattern, atConditions, atCondition, atColon, atTerms, atArgument, closed, stateInside, stateNext, below, lower}
 use Rattle.refal_tree.specs.Rules.{rowOk, okG}
-use Rattle.refal_tree.specs.Typed.{leafR, plain, forT, forTerms, forRight, forCondition, forC, forEnd, forSentence, forS, nameR, forN, forP, toForest}
-use Rattle.refal_tree.specs.Typed.{getT, getS, getSentence, getTail, getBlock, getCondition, getRight, getNs, getN, getP, programOf}
-use Rattle.refal_tree.specs.TypedRules.{ending-is, leaf-back, entry-back}
-use Rattle.refal_tree.specs.Views.{never, TermRow, isLeaf, isBracket, isCall, ItemRow, isDeclaration, isFunction, NameRow, isName, PlainRow, isPlain, TermsRow}
+use Rattle.refal_tree.specs.Typed.{leafR, plain, forT, forTerms, forRight, forCondition, forC, forEnd, sentenceR, forSentence, forS, forB, nameR, forN, forP, toForest}
+use Rattle.refal_tree.specs.Typed.{getT, getB, getSentence, getTail, getBlock, getCondition, getRight, getNs, getN, getP, programOf}
+use Rattle.refal_tree.specs.TypedRules.{ending-is, leaf-back, flag-back}
+use Rattle.refal_tree.specs.Views.{never, TermRow, isLeaf, isBracket, isCall, ItemRow, isDeclaration, isFunction, NameRow, isName, SentenceRow, isSentence, TermsRow}
 use Rattle.refal_tree.specs.Views.{isTerms, TailRow, isCondition, isResult, isEnding, RightRow, isRight, isBlock, Kept, kept, item-row, name-row, names-row}
 use Rattle.refal_tree.specs.Views.{sentence-row, pattern-row, condition-row, argument-row, tail-row, right-row, term-row}
 
@@ -26,14 +26,14 @@ use Rattle.refal_tree.specs.Views.{sentence-row, pattern-row, condition-
 pub record Parts (st left : ℕ) (r : Row) (f g : Forest) : Type 0 where
   pub here : Kept st left r
   pub kids : okG (stateInside (r .kind)) (below st (r .kind) left) f ≡ true
-  pub rest : okG (stateAfter st (r .kind)) left g ≡ true
+  pub rest : okG (stateNext st (r .kind) (r .detail)) left g ≡ true
 
 pub parts : (st left : ℕ) (r : Row) (f g : Forest) → okG st left (tree r f g) ≡ true → Parts st left r f g
 unfolding okG
 parts st left r f g h =
     let x : Bool = rowOk st left r in
     let y : Bool = okG (stateInside (r .kind)) (below st (r .kind) left) f in
-    let z : Bool = okG (stateAfter st (r .kind)) left g in
+    let z : Bool = okG (stateNext st (r .kind) (r .detail)) left g in
     record { here = kept st left r (and-left x (y && z) h); kids = and-left y z (and-right x (y && z) h); rest = and-right y z (and-right x (y && z) h) }
 
 pub closed-empty : (left : ℕ) (f : Forest) → okG closed left f ≡ true → f ≡ empty
@@ -56,7 +56,7 @@ leaf-kids (symbol (Identifier s l)) a b left f h = closed-empty left f h
 leaf-kids (symbol (Number s l)) a b left f h = closed-empty left f h
 leaf-kids (variable v s l) a b left f h = closed-empty left f h
 
-leaf-after : (x : Leaf) (a b : ℕ) → stateAfter atTerms (leafR x a b .kind) ≡ atTerms
+leaf-after : (x : Leaf) (a b : ℕ) → stateNext atTerms (leafR x a b .kind) (leafR x a b .detail) ≡ atTerms
 leaf-after (symbol (Char x)) a b = refl
 leaf-after (symbol (Identifier s l)) a b = refl
 leaf-after (symbol (Number s l)) a b = refl
@@ -108,18 +108,20 @@ unfolding depthT
 terms-deep f left h = sound-T f left t0 h .deep (omega arith)
 
 -- ---- sentences and conditions
-pub record SentencesOf (left : ℕ) (s : Sentences) (f : Forest) : Type 0 where
-  pub forest : forS (getS s f) empty ≡ forS s f
-  pub deep : depthS s ≤ left → depthS (getS s f) ≤ left
+
+-- a body, after the sentences s
+pub record BodyOf (left : ℕ) (s : Sentences) (f : Forest) : Type 0 where
+  pub forest : forB (getB s f) empty ≡ forS s f
+  pub deep : depthS s ≤ left → depthB (getB s f) ≤ left
 
 -- a sentence, of the row r
 pub record SentenceOf (left : ℕ) (r : Row) (f : Forest) : Type 0 where
-  pub forest : (g : Forest) → forSentence (getSentence r f) g ≡ tree (plain nodeSentence (r .from) (r .to)) f g
+  pub forest : (off : Bool) (g : Forest) → forSentence off (getSentence r f) g ≡ tree (sentenceR off (r .from) (r .to)) f g
   pub deep : depthSentence (getSentence r f) ≤ left
 
 -- the rest of a sentence, after its pattern p and conditions cs
 pub record TailOf (left : ℕ) (r : Row) (p : Terms) (cs : Conditions) (f : Forest) : Type 0 where
-  pub forest : (g : Forest) → forSentence (getTail r p cs f) g ≡ tree (plain nodeSentence (r .from) (r .to)) (forTerms p (forC cs f)) g
+  pub forest : (off : Bool) (g : Forest) → forSentence off (getTail r p cs f) g ≡ tree (sentenceR off (r .from) (r .to)) (forTerms p (forC cs f)) g
   pub deep : depthT p ≤ left → depthC cs ≤ left → depthSentence (getTail r p cs f) ≤ left
 
 -- an ending block, of the row q
@@ -138,8 +140,8 @@ pub record RightOf (left : ℕ) (f : Forest) : Type 0 where
   pub deep : depthRight (getRight f) ≤ left
 
 -- the same for a forest's part, whatever stands before it
-abbrev AllS : Forest → Type 0
-AllS f = (left : ℕ) (s : Sentences) → okG atSentences left f ≡ true → SentencesOf left s f
+abbrev AllB : Forest → Type 0
+AllB f = (left : ℕ) (s : Sentences) → okG atSentences left f ≡ true → BodyOf left s f
 
 abbrev AllSentence : Forest → Type 0
 AllSentence f = (left : ℕ) (r : Row) → okG atPattern left f ≡ true → SentenceOf left r f
@@ -156,13 +158,20 @@ AllCondition f = (left : ℕ) (r : Row) → okG atCondition left f ≡ true → 
 abbrev AllRight : Forest → Type 0
 AllRight f = (left : ℕ) → okG atColon left f ≡ true → RightOf left f
 
-sentence-step : (r : Row) (f g : Forest) (left : ℕ) (s : Sentences) → PlainRow nodeSentence r → Parts atSentences left r f g → AllSentence f → AllS g → SentencesOf left s (tree r f g)
-unfolding getS forS depthS
-sentence-step _ f g left s (isPlain a b) p kids rest =
-    let k = kids left (plain nodeSentence a b) (p .kids) in
-    let n = rest left (sMore s (getSentence (plain nodeSentence a b) f)) (p .rest) in
-    let e : depthSentence (getSentence (plain nodeSentence a b) f) ≤ left = k .deep in
-    record { forest = n .forest ∙ ap (forS s) (k .forest g); deep = λ d. n .deep (omega arith) }
+sentence-step : (r : Row) (f g : Forest) (left : ℕ) (s : Sentences) → SentenceRow r → Parts atSentences left r f g → AllSentence f → AllB g → BodyOf left s (tree r f g)
+unfolding getB forS depthS
+sentence-step _ f g left s (isSentence false a b) p kids rest =
+    let k = kids left (sentenceR false a b) (p .kids) in
+    let n = rest left (sMore s (getSentence (sentenceR false a b) f)) (p .rest) in
+    let e : depthSentence (getSentence (sentenceR false a b) f) ≤ left = k .deep in
+    record { forest = n .forest ∙ ap (forS s) (k .forest false g); deep = λ d. n .deep (omega arith) }
+sentence-step _ f g left s (isSentence true a b) p kids rest =
+    let k = kids left (sentenceR true a b) (p .kids) in
+    let e : depthSentence (getSentence (sentenceR true a b) f) ≤ left = k .deep in
+    record {
+      forest = ap (forS s) (k .forest true empty ∙ ap (λ (y : Forest). tree (sentenceR true a b) f y) (sym (closed-empty left g (p .rest))));
+      deep = λ d. omega arith;
+    }
 
 pattern-step : (z : Row) (f g : Forest) (left : ℕ) (r : Row) → TermsRow z → Parts atPattern left z f g → AllTail g → SentenceOf left r (tree z f g)
 unfolding getSentence forC depthC
@@ -170,7 +179,7 @@ pattern-step _ f g left r isTerms p rest =
     let n = rest left r (getT t0 f) c0 (p .rest) in
     let t = terms-deep f left (p .kids) in
     record {
-      forest = λ h. n .forest h ∙ ap (λ (y : Forest). tree (plain nodeSentence (r .from) (r .to)) (tree (plain nodeTerms 0 0) y g) h) (terms-of f left (p .kids));
+      forest = λ off h. n .forest off h ∙ ap (λ (y : Forest). tree (sentenceR off (r .from) (r .to)) (tree (plain nodeTerms 0 0) y g) h) (terms-of f left (p .kids));
       deep = n .deep t (omega arith);
     }
 
@@ -182,37 +191,37 @@ tail-step _ f g left r p cs (isCondition a b) q kids blocks rest =
     let n = rest left r p (cMore cs (getCondition (plain nodeCondition a b) f)) (q .rest) in
     let e : depthCondition (getCondition (plain nodeCondition a b) f) ≤ left = k .deep in
     record {
-      forest = λ h. n .forest h ∙ ap (λ (y : Forest). tree (plain nodeSentence (r .from) (r .to)) (forTerms p (forC cs y)) h) (k .forest g);
+      forest = λ off h. n .forest off h ∙ ap (λ (y : Forest). tree (sentenceR off (r .from) (r .to)) (forTerms p (forC cs y)) h) (k .forest g);
       deep = λ t c. n .deep t (omega arith);
     }
 tail-step _ f g left r p cs isResult q kids blocks rest =
     let t = terms-deep f left (q .kids) in
     record {
-      forest = λ h.
-          ap (λ (y : Forest). tree (plain nodeSentence (r .from) (r .to)) (forTerms p (forC cs (tree (plain nodeTerms 0 0) y empty))) h) (terms-of f left (q .kids))
-          ∙ ap (λ (y : Forest). tree (plain nodeSentence (r .from) (r .to)) (forTerms p (forC cs (tree (plain nodeTerms 0 0) f y))) h) (sym (closed-empty left g (q .rest)));
+      forest = λ off h.
+          ap (λ (y : Forest). tree (sentenceR off (r .from) (r .to)) (forTerms p (forC cs (tree (plain nodeTerms 0 0) y empty))) h) (terms-of f left (q .kids))
+          ∙ ap (λ (y : Forest). tree (sentenceR off (r .from) (r .to)) (forTerms p (forC cs (tree (plain nodeTerms 0 0) f y))) h) (sym (closed-empty left g (q .rest)));
       deep = λ u c. omega arith;
     }
 tail-step _ f g left r p cs (isEnding a b) q kids blocks rest =
     let k = blocks left (plain nodeEndingBlock a b) (q .kids) in
     let d : depthEnd (getBlock (plain nodeEndingBlock a b) f) ≤ left = k .deep (q .here .deep) in
     record {
-      forest = λ h.
-          ap (λ (y : Forest). tree (plain nodeSentence (r .from) (r .to)) (forTerms p (forC cs y)) h) (k .forest)
-          ∙ ap (λ (y : Forest). tree (plain nodeSentence (r .from) (r .to)) (forTerms p (forC cs (tree (plain nodeEndingBlock a b) f y))) h) (sym (closed-empty left g (q .rest)));
+      forest = λ off h.
+          ap (λ (y : Forest). tree (sentenceR off (r .from) (r .to)) (forTerms p (forC cs y)) h) (k .forest)
+          ∙ ap (λ (y : Forest). tree (sentenceR off (r .from) (r .to)) (forTerms p (forC cs (tree (plain nodeEndingBlock a b) f y))) h) (sym (closed-empty left g (q .rest)));
       deep = λ u c. omega arith;
     }
 
-block-step : (z : Row) (f g : Forest) (left : ℕ) (q : Row) → TermsRow z → Parts atArgument left z f g → AllS g → BlockOf left q (tree z f g)
+block-step : (z : Row) (f g : Forest) (left : ℕ) (q : Row) → TermsRow z → Parts atArgument left z f g → AllB g → BlockOf left q (tree z f g)
 unfolding getBlock forS depthS
 block-step _ f g left q isTerms o rest =
     let t = terms-deep f left (o .kids) in
     let n = rest (lower left) s0 (sym (ending-is left g) ∙ o .rest) in
     record {
       forest =
-          ap (λ (y : Forest). tree (plain nodeEndingBlock (q .from) (q .to)) (tree (plain nodeTerms 0 0) y (forS (getS s0 g) empty)) empty) (terms-of f left (o .kids))
+          ap (λ (y : Forest). tree (plain nodeEndingBlock (q .from) (q .to)) (tree (plain nodeTerms 0 0) y (forB (getB s0 g) empty)) empty) (terms-of f left (o .kids))
           ∙ ap (λ (y : Forest). tree (plain nodeEndingBlock (q .from) (q .to)) (tree (plain nodeTerms 0 0) f y) empty) (n .forest);
-      deep = λ some. let v = raise (depthS (getS s0 g)) left some (n .deep (omega arith)) in omega arith;
+      deep = λ some. let v = raise (depthB (getB s0 g)) left some (n .deep (omega arith)) in omega arith;
     }
 
 condition-step : (z : Row) (f g : Forest) (left : ℕ) (r : Row) → TermsRow z → Parts atCondition left z f g → AllRight g → ConditionOf left r (tree z f g)
@@ -228,7 +237,7 @@ condition-step _ f g left r isTerms q rest =
       deep = omega arith;
     }
 
-right-step : (z : Row) (f g : Forest) (left : ℕ) → RightRow z → Parts atColon left z f g → AllS f → RightOf left (tree z f g)
+right-step : (z : Row) (f g : Forest) (left : ℕ) → RightRow z → Parts atColon left z f g → AllB f → RightOf left (tree z f g)
 unfolding getRight forS depthS
 right-step _ f g left isRight q kids = record {
   forest =
@@ -240,18 +249,18 @@ right-step _ f g left (isBlock a b) q kids =
     let n = kids (lower left) s0 (q .kids) in
     record {
       forest = ap (λ (y : Forest). tree (plain nodeConditionBlock a b) y empty) (n .forest) ∙ ap (λ (y : Forest). tree (plain nodeConditionBlock a b) f y) (sym (closed-empty left g (q .rest)));
-      deep = raise (depthS (getS s0 f)) left (q .here .deep) (n .deep (omega arith));
+      deep = raise (depthB (getB s0 f)) left (q .here .deep) (n .deep (omega arith));
     }
 
 mutual
-  unfolding getS okG
+  unfolding getB forS depthS okG
 
-  pub sound-S : (f : Forest) (left : ℕ) (s : Sentences) → okG atSentences left f ≡ true → SentencesOf left s f
-  sound-S empty left s h = record { forest = refl; deep = λ d. d }
-  sound-S (tree r f g) left s h =
+  pub sound-B : (f : Forest) (left : ℕ) (s : Sentences) → okG atSentences left f ≡ true → BodyOf left s f
+  sound-B empty left s h = record { forest = refl; deep = λ d. d }
+  sound-B (tree r f g) left s h =
       let p = parts atSentences left r f g h in
       sentence-step r f g left s (sentence-row (p .here)) p
-      (λ (l : ℕ) (r : Row). λ h. sound-sentence f l r h) (λ (l : ℕ) (s : Sentences). λ h. sound-S g l s h)
+      (λ (l : ℕ) (r : Row). λ h. sound-sentence f l r h) (λ (l : ℕ) (s : Sentences). λ h. sound-B g l s h)
 
   sound-sentence : (f : Forest) (left : ℕ) (r : Row) → okG atPattern left f ≡ true → SentenceOf left r f
   sound-sentence empty left r h = never h
@@ -270,7 +279,7 @@ mutual
   sound-block : (f : Forest) (left : ℕ) (q : Row) → okG atArgument left f ≡ true → BlockOf left q f
   sound-block empty left q h = never h
   sound-block (tree z f g) left q h =
-      let o = parts atArgument left z f g h in block-step z f g left q (argument-row (o .here)) o (λ (l : ℕ) (s : Sentences). λ h. sound-S g l s h)
+      let o = parts atArgument left z f g h in block-step z f g left q (argument-row (o .here)) o (λ (l : ℕ) (s : Sentences). λ h. sound-B g l s h)
 
   sound-condition : (f : Forest) (left : ℕ) (r : Row) → okG atCondition left f ≡ true → ConditionOf left r f
   sound-condition empty left r h = never h
@@ -280,7 +289,7 @@ mutual
   sound-right : (f : Forest) (left : ℕ) → okG atColon left f ≡ true → RightOf left f
   sound-right empty left h = never h
   sound-right (tree z f g) left h =
-      let q = parts atColon left z f g h in right-step z f g left (right-row (q .here)) q (λ (l : ℕ) (s : Sentences). λ h. sound-S f l s h)
+      let q = parts atColon left z f g h in right-step z f g left (right-row (q .here)) q (λ (l : ℕ) (s : Sentences). λ h. sound-B f l s h)
 
 -- ---- names
 names-step : (r : Row) (f g : Forest) (left : ℕ) (ns : Names) → NameRow r → Parts atNames left r f g → ((ns : Names) → okG atNames left g ≡ true → forN (getNs ns g) empty ≡ forN ns g)
@@ -320,15 +329,15 @@ item-step _ f g left p (isDeclaration a b) q rest =
       deep = λ d. n .deep (omega arith);
     }
 item-step _ f g left p (isFunction x s l a b) q rest =
-    let k = sound-S f left s0 (q .kids) in
-    let n = rest (pMore p (function a x s l (getS s0 f) b)) (q .rest) in
-    let e : eqb (entryDetail x) 1 ≡ x = entry-back x in
+    let k = sound-B f left s0 (q .kids) in
+    let n = rest (pMore p (function a x s l (getB s0 f) b)) (q .rest) in
+    let e : eqb (entryDetail x) 1 ≡ x = flag-back entryDetail refl refl x in
     record {
       forest =
-          ap (λ (y : Bool). forP (getP (pMore p (function a y s l (getS s0 f) b)) g) empty) e
+          ap (λ (y : Bool). forP (getP (pMore p (function a y s l (getB s0 f) b)) g) empty) e
           ∙ n .forest
           ∙ ap (λ (y : Forest). forP p (tree (row nodeFunction (entryDetail x) s l a b) y g)) (k .forest);
-      deep = λ d. subst (λ (y : Bool). depthP (getP (pMore p (function a y s l (getS s0 f) b)) g) ≤ left) (sym e)
+      deep = λ d. subst (λ (y : Bool). depthP (getP (pMore p (function a y s l (getB s0 f) b)) g) ≤ left) (sym e)
           (let i = k .deep (omega arith) in n .deep (omega arith));
     }
 

@@ -1,6 +1,6 @@
 -- Which rows may stand where. A state says what a node's children, from here on, may be; `after` reads one child.
 use Prim.Native.Nat.{ℕ, zero, suc}
-use mathlib.Core.Bool.{Bool, true, false, not, _||_}
+use mathlib.Core.Bool.{Bool, true, false, not, _&&_, _||_}
 use lib.Dec.{eqb, leb}
 use Rattle.refal_ast.specs.Kinds.{nodeDeclaration, nodeName, nodeFunction, nodeSentence, nodeCondition, nodeTerms, nodeEndingBlock, nodeConditionBlock, nodeIdentifier}
 use Rattle.refal_ast.specs.Kinds.{nodeNumber, nodeChar, nodeVariable, nodeBracket, nodeCall}
@@ -83,6 +83,14 @@ stateAfter st k =
     (onState st atTerms (pickState (termKind k) atTerms wrong)
     (onState st atArgument (onState k nodeTerms atEnding wrong)
     (onState st atEnding (onState k nodeSentence atEnding wrong) wrong))))))))))
+
+-- whether a row of the kind k and the detail d is a sentence whose `;` is left off
+abbrev pub leavesOff : ℕ → ℕ → Bool
+leavesOff k d = eqb k nodeSentence && eqb d 1
+
+-- the state after a row of the kind k and the detail d: a sentence whose `;` is left off is the last of its function or block
+abbrev pub stateNext : ℕ → ℕ → ℕ → ℕ
+stateNext st k d = pickState (leavesOff k d) closed (stateAfter st k)
 
 -- the state before the first child of a node of the kind k
 abbrev pub stateInside : ℕ → ℕ

@@ -5,8 +5,8 @@ use lib.Dec.{eqb}
 use Rattle.refal_ast.specs.Kinds.{nodeDeclaration, nodeName, nodeFunction, nodeSentence, nodeCondition, nodeTerms, nodeEndingBlock, nodeConditionBlock, nodeIdentifier}
 use Rattle.refal_ast.specs.Kinds.{nodeNumber, nodeChar, nodeVariable, nodeBracket, nodeCall}
 use Rattle.refal_ast.specs.Tree.{Leaf, symbol, variable, Term, leaf, bracket, call, Terms, t0, tMore, Right, rTerms, rBlock, Condition, condition, Conditions, c0, cMore}
-use Rattle.refal_ast.specs.Tree.{End, eTerms, eBlock, Sentence, sentence, Sentences, s0, sMore, Names, nOne, nMore, Item, declaration, function, Program, p0, pMore}
-use Rattle.refal_ast.specs.Encode.{letterOf, entryDetail}
+use Rattle.refal_ast.specs.Tree.{End, eTerms, eBlock, Sentence, sentence, Sentences, s0, sMore, Body, bAll, bOff, Names, nOne, nMore, Item, declaration, function, Program, p0, pMore}
+use Rattle.refal_ast.specs.Encode.{letterOf, entryDetail, offDetail}
 use Rattle.refal_ast.specs.declared.tree.Symbol.the-variants.{Char, Identifier, Number}
 use Rattle.refal_ast.specs.declared.tree.VariableKind.{VariableKind}
 use Rattle.refal_ast.specs.declared.tree.VariableKind.the-variants.{Symbol as kindS, Term as kindT, Expression as kindE}
@@ -39,10 +39,14 @@ unfoldable mutual
 abbrev pub forTerms : Terms → Forest → Forest
 forTerms f g = tree (plain nodeTerms 0 0) (forT f empty) g
 
+-- a sentence's row: whether its `;` is left off, the span
+abbrev pub sentenceR : Bool → ℕ → ℕ → Row
+sentenceR off a b = row nodeSentence (offDetail off) 0 0 a b
+
 unfoldable mutual
   pub forRight : Right → Forest → Forest
   forRight (rTerms f) g = forTerms f g
-  forRight (rBlock a v b) g = tree (plain nodeConditionBlock a b) (forS v empty) g
+  forRight (rBlock a v b) g = tree (plain nodeConditionBlock a b) (forB v empty) g
 
   pub forCondition : Condition → Forest → Forest
   forCondition (condition a f r b) g = tree (plain nodeCondition a b) (forTerms f (forRight r empty)) g
@@ -53,14 +57,18 @@ unfoldable mutual
 
   pub forEnd : End → Forest → Forest
   forEnd (eTerms f) g = forTerms f g
-  forEnd (eBlock a f v b) g = tree (plain nodeEndingBlock a b) (forTerms f (forS v empty)) g
+  forEnd (eBlock a f v b) g = tree (plain nodeEndingBlock a b) (forTerms f (forB v empty)) g
 
-  pub forSentence : Sentence → Forest → Forest
-  forSentence (sentence a f cs x b) g = tree (plain nodeSentence a b) (forTerms f (forC cs (forEnd x empty))) g
+  pub forSentence : Bool → Sentence → Forest → Forest
+  forSentence off (sentence a f cs x b) g = tree (sentenceR off a b) (forTerms f (forC cs (forEnd x empty))) g
 
   pub forS : Sentences → Forest → Forest
   forS s0 g = g
-  forS (sMore s x) g = forS s (forSentence x g)
+  forS (sMore s x) g = forS s (forSentence false x g)
+
+  pub forB : Body → Forest → Forest
+  forB (bAll s) g = forS s g
+  forB (bOff s x) g = forS s (forSentence true x g)
 
 abbrev pub nameR : ℕ → ℕ → Row
 nameR s l = row nodeName 0 s l 0 0
@@ -71,7 +79,7 @@ forN (nMore ns s l) g = forN ns (tree (nameR s l) empty g)
 
 abbrev pub forItem : Item → Forest → Forest
 forItem (declaration a ns b) g = tree (plain nodeDeclaration a b) (forN ns empty) g
-forItem (function a x s l v b) g = tree (row nodeFunction (entryDetail x) s l a b) (forS v empty) g
+forItem (function a x s l v b) g = tree (row nodeFunction (entryDetail x) s l a b) (forB v empty) g
 
 unfoldable pub forP : Program → Forest → Forest
 forP p0 g = g
@@ -128,10 +136,15 @@ abbrev pub pickSentence : Bool → Sentence → Sentence → Sentence
 pickSentence true x y = x
 pickSentence false x y = y
 
+abbrev pub pickBody : Bool → Body → Body → Body
+pickBody true x y = x
+pickBody false x y = y
+
 unfoldable mutual
-  pub getS : Sentences → Forest → Sentences
-  getS s empty = s
-  getS s (tree r f g) = getS (sMore s (getSentence r f)) g
+  -- a body, after the sentences s; the sentence whose `;` is left off ends it
+  pub getB : Sentences → Forest → Body
+  getB s empty = bAll s
+  getB s (tree r f g) = pickBody (eqb (r .detail) 1) (bOff s (getSentence r f)) (getB (sMore s (getSentence r f)) g)
 
   -- the sentence of the row r, from its pattern on
   pub getSentence : Row → Forest → Sentence
@@ -148,7 +161,7 @@ unfoldable mutual
   -- the ending block of the row q
   pub getBlock : Row → Forest → End
   getBlock q empty = eTerms t0
-  getBlock q (tree z f g) = eBlock (q .from) (getT t0 f) (getS s0 g) (q .to)
+  getBlock q (tree z f g) = eBlock (q .from) (getT t0 f) (getB s0 g) (q .to)
 
   -- the condition of the row r
   pub getCondition : Row → Forest → Condition
@@ -158,7 +171,7 @@ unfoldable mutual
   -- what stands after its first terms
   pub getRight : Forest → Right
   getRight empty = rTerms t0
-  getRight (tree q f g) = pickRight (eqb (q .kind) nodeConditionBlock) (rBlock (q .from) (getS s0 f) (q .to)) (rTerms (getT t0 f))
+  getRight (tree q f g) = pickRight (eqb (q .kind) nodeConditionBlock) (rBlock (q .from) (getB s0 f) (q .to)) (rTerms (getT t0 f))
 
 -- names after others
 unfoldable pub getNs : Names → Forest → Names
@@ -177,7 +190,7 @@ pickItem false x y = y
 abbrev pub itemOf : Row → Forest → Item
 itemOf r f =
     pickItem (eqb (r .kind) nodeDeclaration) (declaration (r .from) (getN f) (r .to))
-    (function (r .from) (eqb (r .detail) 1) (r .start) (r .len) (getS s0 f) (r .to))
+    (function (r .from) (eqb (r .detail) 1) (r .start) (r .len) (getB s0 f) (r .to))
 
 unfoldable pub getP : Program → Forest → Program
 getP p empty = p

@@ -1,16 +1,17 @@
 -- A tree's words are those of its forest.
 use Prim.Native.Nat.{ℕ, _+_}
+use mathlib.Core.Bool.{Bool, true, false}
 use mathlib.Core.List.{List, [], _++_, append-assoc, append-nil}
 use mathlib.Core.Path.{_≡_, refl, sym, ap, subst, _∙_}
 use native.Mathlib.Omega.{arith}
-use Rattle.refal_ast.specs.Kinds.{nodeDeclaration, nodeFunction, nodeSentence, nodeCondition, nodeTerms, nodeEndingBlock, nodeConditionBlock, nodeBracket, nodeCall}
+use Rattle.refal_ast.specs.Kinds.{nodeDeclaration, nodeFunction, nodeCondition, nodeTerms, nodeEndingBlock, nodeConditionBlock, nodeBracket, nodeCall}
 use Rattle.refal_ast.specs.Tree.{Leaf, symbol, variable, Term, leaf, bracket, call, Terms, t0, tMore, Right, rTerms, rBlock, Condition, condition, Conditions, c0, cMore}
-use Rattle.refal_ast.specs.Tree.{End, eTerms, eBlock, Sentence, sentence, Sentences, s0, sMore, Names, nOne, nMore, Item, declaration, function, Program, p0, pMore}
-use Rattle.refal_ast.specs.Tree.{sizeTerm, sizeT, sizeRight, sizeCondition, sizeC, sizeEnd, sizeSentence, sizeS, sizeN, sizeItem, sizeP}
-use Rattle.refal_ast.specs.Encode.{entryDetail, leafRow, endTerms, encTerm, encT, encTerms, encRight, encCondition, encC, encEnd, encSentence, encS, encN, encItem, encP}
+use Rattle.refal_ast.specs.Tree.{End, eTerms, eBlock, Sentence, sentence, Sentences, s0, sMore, Body, bAll, bOff, Names, nOne, nMore, Item, declaration, function, Program, p0, pMore}
+use Rattle.refal_ast.specs.Tree.{sizeTerm, sizeT, sizeRight, sizeCondition, sizeC, sizeEnd, sizeSentence, sizeS, sizeB, sizeN, sizeItem, sizeP}
+use Rattle.refal_ast.specs.Encode.{entryDetail, leafRow, endTerms, encTerm, encT, encTerms, encRight, encCondition, encC, encEnd, encSentence, encS, encB, encN, encItem, encP}
 use Rattle.refal_ast.specs.declared.tree.Symbol.the-variants.{Char, Identifier, Number}
 use Rattle.refal_tree.specs.Forest.{Row, row, Forest, empty, tree, sizeG, rowWords, encG}
-use Rattle.refal_tree.specs.Typed.{leafR, plain, forTerm, forT, forTerms, forRight, forCondition, forC, forEnd, forSentence, forS, nameR, forN, forItem, forP, toForest}
+use Rattle.refal_tree.specs.Typed.{leafR, plain, forTerm, forT, forTerms, forRight, forCondition, forC, forEnd, sentenceR, forSentence, forS, forB, nameR, forN, forItem, forP, toForest}
 
 -- op puts k rows, with the words E, before a forest; the first is row n
 pub record Part (op : Forest → Forest) (n k : ℕ) (E : List ℕ) : Type 0 where
@@ -81,7 +82,7 @@ mutual
 
   part-right : (r : Right) (n : ℕ) → Part (forRight r) n (sizeRight r) (encRight r n)
   part-right (rTerms f) n = part-terms f n
-  part-right (rBlock a v b) n = part-row (plain nodeConditionBlock a b) refl refl (part-S v (n + 1))
+  part-right (rBlock a v b) n = part-row (plain nodeConditionBlock a b) refl refl (part-B v (n + 1))
 
   part-condition : (x : Condition) (n : ℕ) → Part (forCondition x) n (sizeCondition x) (encCondition x n)
   part-condition (condition a f r b) n =
@@ -96,18 +97,22 @@ mutual
   part-end (eTerms f) n = part-terms f n
   part-end (eBlock a f v b) n =
       part-size (omega arith)
-      (part-row (plain nodeEndingBlock a b) refl (omega arith) (part-then (part-terms f (n + 1)) (omega arith) (part-S v (endTerms f (n + 1)))))
+      (part-row (plain nodeEndingBlock a b) refl (omega arith) (part-then (part-terms f (n + 1)) (omega arith) (part-B v (endTerms f (n + 1)))))
 
-  part-sentence : (x : Sentence) (n : ℕ) → Part (forSentence x) n (sizeSentence x) (encSentence x n)
-  part-sentence (sentence a f cs x b) n =
+  part-sentence : (off : Bool) (x : Sentence) (n : ℕ) → Part (forSentence off x) n (sizeSentence x) (encSentence off x n)
+  part-sentence off (sentence a f cs x b) n =
       part-size (omega arith)
-      (part-row (plain nodeSentence a b) refl (omega arith)
+      (part-row (sentenceR off a b) refl (omega arith)
       (part-then (part-terms f (n + 1)) (omega arith)
       (part-then (part-C cs (endTerms f (n + 1))) refl (part-end x (endTerms f (n + 1) + sizeC cs)))))
 
   pub part-S : (s : Sentences) (n : ℕ) → Part (forS s) n (sizeS s) (encS s n)
   part-S s0 n = part-none n
-  part-S (sMore s x) n = part-then (part-S s n) refl (part-sentence x (n + sizeS s))
+  part-S (sMore s x) n = part-then (part-S s n) refl (part-sentence false x (n + sizeS s))
+
+  pub part-B : (v : Body) (n : ℕ) → Part (forB v) n (sizeB v) (encB v n)
+  part-B (bAll s) n = part-S s n
+  part-B (bOff s x) n = part-then (part-S s n) refl (part-sentence true x (n + sizeS s))
 
 part-N : (ns : Names) (n : ℕ) → Part (forN ns) n (sizeN ns) (encN ns n)
 unfolding forN sizeN encN
@@ -116,7 +121,7 @@ part-N (nMore ns s l) n = part-then (part-N ns n) refl (part-leaf (nameR s l) (n
 
 part-item : (x : Item) (n : ℕ) → Part (forItem x) n (sizeItem x) (encItem x n)
 part-item (declaration a ns b) n = part-row (plain nodeDeclaration a b) refl refl (part-N ns (n + 1))
-part-item (function a x s l v b) n = part-row (row nodeFunction (entryDetail x) s l a b) refl refl (part-S v (n + 1))
+part-item (function a x s l v b) n = part-row (row nodeFunction (entryDetail x) s l a b) refl refl (part-B v (n + 1))
 
 pub part-P : (p : Program) (n : ℕ) → Part (forP p) n (sizeP p) (encP p n)
 unfolding forP sizeP encP

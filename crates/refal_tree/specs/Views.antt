@@ -8,14 +8,14 @@ use borrow.Author.Tests.{eqb-true, eqb-false, leb-true}
 use Rattle.refal_rows.specs.Tests.{and-left, and-right}
 use Rattle.refal_ast.specs.Kinds.{nodeDeclaration, nodeName, nodeFunction, nodeSentence, nodeCondition, nodeTerms, nodeEndingBlock, nodeConditionBlock, nodeIdentifier, nodeNumber, nodeChar, nodeVariable, nodeBracket, nodeCall}
 use Rattle.refal_ast.specs.Tree.{Leaf, symbol, variable}
-use Rattle.refal_ast.specs.Encode.{entryDetail, letterOf}
+use Rattle.refal_ast.specs.Encode.{entryDetail, offDetail, letterOf}
 use Rattle.refal_ast.specs.declared.tree.Symbol.the-variants.{Char, Identifier, Number}
 use Rattle.refal_ast.specs.declared.tree.VariableKind.{VariableKind}
 use Rattle.refal_ast.specs.declared.tree.VariableKind.the-variants.{Symbol as kindS, Term as kindT, Expression as kindE}
 use Rattle.refal_tree.specs.Forest.{Row, row}
 use Rattle.refal_tree.specs.States.{wrong, atItems, atName, atNames, atSentences, atPattern, atConditions, atCondition, atColon, atTerms, atArgument, atEnding, closed, pickState, onState, mayStand, room}
 use Rattle.refal_tree.specs.Rules.{variableLetter, fieldsOk, rowOk}
-use Rattle.refal_tree.specs.Typed.{leafR, plain, nameR}
+use Rattle.refal_tree.specs.Typed.{leafR, plain, sentenceR, nameR}
 
 pub never : {A : Type 0} → false ≡ true → A
 never {A} e = let z : _≡_ {A = ℕ} 0 1 = cc in absurd (omega arith)
@@ -32,6 +32,9 @@ pub data ItemRow : Row → Type 0 where
 
 pub data NameRow : Row → Type 0 where
   isName : (s l : ℕ) → NameRow (nameR s l)
+
+pub data SentenceRow : Row → Type 0 where
+  isSentence : (off : Bool) (a b : ℕ) → SentenceRow (sentenceR off a b)
 
 -- a row of the kind k, with a span only
 pub data PlainRow (k : ℕ) : Row → Type 0 where
@@ -88,12 +91,13 @@ letter-is d h = go (eqb d 115) (eqb d 116) (eqb d 101) refl refl refl h
     go false false true ex ey ez h = (kindE, eqb-true d 101 ez)
     go false false false ex ey ez h = never h
 
-entry-is : (d : ℕ) → d ≤ 1 → (x : Bool) × (d ≡ entryDetail x)
-entry-is d h = go (eqb d 1) refl
+-- a detail that is 1 for yes and 0 for no
+flag-is : (of : Bool → ℕ) → of true ≡ 1 → of false ≡ 0 → (d : ℕ) → d ≤ 1 → (x : Bool) × (d ≡ of x)
+flag-is of one nought d h = go (eqb d 1) refl
   where
-    go : (b : Bool) → eqb d 1 ≡ b → (x : Bool) × (d ≡ entryDetail x)
-    go true e = (true, eqb-true d 1 e)
-    go false e = let n : (d ≡ 1 → ⊥) = eqb-false d 1 e in (false, (let z : d ≡ 0 = omega arith in z))
+    go : (b : Bool) → eqb d 1 ≡ b → (x : Bool) × (d ≡ of x)
+    go true e = (true, eqb-true d 1 e ∙ sym one)
+    go false e = let n : (d ≡ 1 → ⊥) = eqb-false d 1 e in (false, (let z : d ≡ 0 = omega arith in z ∙ sym nought))
 
 module _ (r : Row) where
   -- the fields of a row are good, if it is of the kind k
@@ -124,8 +128,16 @@ module _ (r : Row) where
 
   function-is : r .kind ≡ 3 → Fields 3 → ItemRow r
   function-is e h =
-      let q = entry-is (r .detail) (leb-true (r .detail) 1 (and-left (leb (r .detail) 1) true h)) in
+      let q = flag-is entryDetail refl refl (r .detail) (leb-true (r .detail) 1 (and-left (leb (r .detail) 1) true h)) in
       subst ItemRow (sym (row-is r 3 (entryDetail (q .0)) (r .start) (r .len) (r .from) (r .to) e (q .1) refl refl refl refl)) (isFunction (q .0) (r .start) (r .len) (r .from) (r .to))
+
+  sentence-is : r .kind ≡ 4 → Fields 4 → SentenceRow r
+  sentence-is e h =
+      let x : Bool = leb (r .detail) 1 in
+      let y : Bool = eqb (r .start) 0 && eqb (r .len) 0 in
+      let q = flag-is offDetail refl refl (r .detail) (leb-true (r .detail) 1 (and-left x (y && true) h)) in
+      let t = zeros (r .start) (r .len) (and-left y true (and-right x (y && true) h)) in
+      subst SentenceRow (sym (row-is r 4 (offDetail (q .0)) 0 0 (r .from) (r .to) e (q .1) (t .0) (t .1) refl refl)) (isSentence (q .0) (r .from) (r .to))
 
   -- a row of the kind k, with a text and a span
   texted-is : (k : ℕ) → r .kind ≡ k → eqb (r .detail) 0 && true ≡ true → r ≡ row k 0 (r .start) (r .len) (r .from) (r .to)
@@ -185,8 +197,8 @@ module _ {left : ℕ} {r : Row} where
   pub names-row : Kept atNames left r → NameRow r
   names-row p = let e = only (r .kind) nodeName atNames (p .fit) in name-is r e (at r (p .good) nodeName e)
 
-  pub sentence-row : Kept atSentences left r → PlainRow nodeSentence r
-  sentence-row p = let e = only (r .kind) nodeSentence atSentences (p .fit) in plain-is r nodeSentence e (at r (p .good) nodeSentence e)
+  pub sentence-row : Kept atSentences left r → SentenceRow r
+  sentence-row p = let e = only (r .kind) nodeSentence atSentences (p .fit) in sentence-is r e (at r (p .good) nodeSentence e)
 
   pub pattern-row : Kept atPattern left r → TermsRow r
   pattern-row p = let e = only (r .kind) nodeTerms atConditions (p .fit) in terms-is r e (at r (p .good) nodeTerms e)

@@ -13,14 +13,14 @@ use Rattle.refal_ast.specs.Tree.{Program}
 use Rattle.refal_ast.specs.Flatten.{Flat, flattenP}
 use Rattle.refal_tree.specs.Forest.{Row, Forest, forestOf}
 use Rattle.refal_tree.specs.ForestLaws.{forest-enc}
-use Rattle.refal_tree.specs.States.{atItems, stateInside, stateAfter, below}
+use Rattle.refal_tree.specs.States.{atItems, stateInside, stateNext, below}
 use Rattle.refal_tree.specs.Rules.{rowOk}
 use Rattle.refal_tree.specs.Typed.{toForest}
 use Rattle.refal_tree.specs.TypedWords.{enc-tree}
 use Rattle.refal_tree.specs.Views.{never}
 use Rattle.refal_tree.specs.Lawful.{treeOf, of-tree}
 use Rattle.refal_tree.specs.FlattenRows.{openTokens, closeTokens, flattenG, flatten-tree}
-use Rattle.refal_tree.specs.Ranges.{rowAt, kindAt, nextAt, forestAt, joined, okIn, okAt, forest-turn, forest-end, forest-all, ok-turn, ok-bad}
+use Rattle.refal_tree.specs.Ranges.{rowAt, kindAt, detailAt, nextAt, forestAt, joined, okIn, okAt, forest-turn, forest-end, forest-all, ok-turn, ok-bad}
 
 -- the tokens of rows i to j, from the state st on
 abbrev pub flatIn : ℕ → Option Forest → List Flat
@@ -36,7 +36,7 @@ pub record Step (w : List ℕ) (i j st left : ℕ) : Type 0 where
   pub hi : nextAt w i ≤ j
   pub here : rowOk st left (rowAt w i) ≡ true
   pub kids : okAt w (i + 1) (nextAt w i) (stateInside (kindAt w i)) (below st (kindAt w i) left) ≡ true
-  pub rest : okAt w (nextAt w i) j (stateAfter st (kindAt w i)) left ≡ true
+  pub rest : okAt w (nextAt w i) j (stateNext st (kindAt w i) (detailAt w i)) left ≡ true
 
 pub step : (w : List ℕ) (i j st left : ℕ) → nodeWidth * j ≤ length w → i < j → okAt w i j st left ≡ true → Step w i j st left
 step w i j st left l h ok = go (decLe (i + 1) (nextAt w i)) (decLe (nextAt w i) j)
@@ -51,12 +51,12 @@ step w i j st left l h ok = go (decLe (i + 1) (nextAt w i)) (decLe (nextAt w i) 
         let k : ℕ = kindAt w i in
         let x : Bool = rowOk st left (rowAt w i) in
         let y : Bool = okAt w (i + 1) (nextAt w i) (stateInside k) (below st k left) in
-        let z : Bool = okAt w (nextAt w i) j (stateAfter st k) left in
+        let z : Bool = okAt w (nextAt w i) j (stateNext st k (detailAt w i)) left in
         let q : x && (y && z) ≡ true = sym (ok-turn w i j st left l (omega arith) b) ∙ ok in
         record { lo = omega arith; hi = b; here = and-left x (y && z) q; kids = and-left y z (and-right x (y && z) q); rest = and-right y z (and-right x (y && z) q) }
 
 flat-joined : (st s₁ l₁ s₂ l₂ : ℕ) (r : Row) (o p : Option Forest) → okIn s₁ l₁ o ≡ true → okIn s₂ l₂ p ≡ true
-    → flatIn st (joined r o p) ≡ openTokens st r ++ (flatIn (stateInside (r .kind)) o ++ (closeTokens st (r .kind) ++ flatIn (stateAfter st (r .kind)) p))
+    → flatIn st (joined r o p) ≡ openTokens st r ++ (flatIn (stateInside (r .kind)) o ++ (closeTokens st (r .kind) (r .detail) ++ flatIn (stateNext st (r .kind) (r .detail)) p))
 unfolding flattenG
 flat-joined st s₁ l₁ s₂ l₂ r none p h h' = never h
 flat-joined st s₁ l₁ s₂ l₂ r (some f) none h h' = never h'
@@ -64,7 +64,7 @@ flat-joined st s₁ l₁ s₂ l₂ r (some f) (some g) h h' = refl
 
 -- its tokens: the row's opening ones, its children's, its closing ones, and those of what follows
 pub flat-step : (w : List ℕ) (i j st left : ℕ) → nodeWidth * j ≤ length w → Step w i j st left
-    → flatAt w i j st ≡ openTokens st (rowAt w i) ++ (flatAt w (i + 1) (nextAt w i) (stateInside (kindAt w i)) ++ (closeTokens st (kindAt w i) ++ flatAt w (nextAt w i) j (stateAfter st (kindAt w i))))
+    → flatAt w i j st ≡ openTokens st (rowAt w i) ++ (flatAt w (i + 1) (nextAt w i) (stateInside (kindAt w i)) ++ (closeTokens st (kindAt w i) (detailAt w i) ++ flatAt w (nextAt w i) j (stateNext st (kindAt w i) (detailAt w i))))
 flat-step w i j st left l S =
     ap (flatIn st) (forest-turn w i j l (S .lo) (S .hi))
     ∙ flat-joined st _ _ _ _ (rowAt w i) (forestAt w (i + 1) (nextAt w i)) (forestAt w (nextAt w i) j) (S .kids) (S .rest)

@@ -2,7 +2,7 @@
 use refal_ast::kinds::node;
 use refal_ast::nodes::has_text;
 ghost use mathlib.Core.Path.{_≡_};
-ghost use Rattle.refal_tree.specs.Rules.{spanless as hasNoSpan, variableLetter as isLetter, detailOk, textOk, spanOk};
+ghost use Rattle.refal_tree.specs.Rules.{spanless as hasNoSpan, variableLetter as isLetter, yesOrNo, detailOk, textOk, spanOk};
 
 fn spanless(k: u32) -> bool
     ensures { λ r. ⌜ r ≡ hasNoSpan k ⌝ }
@@ -17,10 +17,17 @@ fn letter(d: u32) -> bool
     ((d == 115) | (d == 116)) | (d == 101)
 }
 
+// The kinds whose detail is 0 or 1.
+fn yes_or_no(k: u32) -> bool
+    ensures { λ r. ⌜ r ≡ yesOrNo k ⌝ }
+{
+    (k == node::FUNCTION) | (k == node::SENTENCE)
+}
+
 pub fn detail_ok(k: u32, d: u32) -> bool
     ensures { λ r. ⌜ r ≡ detailOk k d ⌝ }
 {
-    if k == node::FUNCTION {
+    if yes_or_no(k) {
         return d <= 1;
     }
     if k == node::CHAR {

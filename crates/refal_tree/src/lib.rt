@@ -55,7 +55,7 @@ fn check(tree: &[u32], from: usize, to: usize, start: u32, left: usize) -> bool
         ) {
             return false;
         }
-        st = states::after(st, k);
+        st = states::after_row(st, k, nodes::detail(tree, i));
         i = end;
     }
     states::ends(st)

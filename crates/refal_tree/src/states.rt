@@ -1,8 +1,7 @@
 // Which rows may stand where. A state says what a node's children, from here on, may be.
 use refal_ast::kinds::node;
 ghost use mathlib.Core.Path.{_≡_};
-ghost use Rattle.refal_ast.specs.Kinds.{nodeTerms};
-ghost use Rattle.refal_tree.specs.States.{onState, lower as oneLess, termKind, atItems, atConditions, atColon, atTerms, stateAfter as nextState, stateInside as firstState, mayEnd as mayEnd};
+ghost use Rattle.refal_tree.specs.States.{onState, lower as oneLess, termKind, atItems, atConditions, atColon, atTerms, stateAfter as afterChild, leavesOff, stateNext as nextState, stateInside as firstState, mayEnd as mayEnd};
 ghost use Rattle.refal_tree.specs.States.{mayStand as mayStand, counts as isLevel, opens as lowers, room as hasRoom, below as levelsInside};
 
 // No tree has come this far.
@@ -60,7 +59,7 @@ pub fn is_term(k: u32) -> bool
 
 // After a term.
 fn after_term(k: u32) -> u32
-    ensures { λ r. ⌜ r ≡ nextState atTerms k ⌝ }
+    ensures { λ r. ⌜ r ≡ afterChild atTerms k ⌝ }
 {
     if is_term(k) {
         return TERMS;
@@ -70,7 +69,7 @@ fn after_term(k: u32) -> u32
 
 // After an item.
 fn after_item(k: u32) -> u32
-    ensures { λ r. ⌜ r ≡ nextState atItems k ⌝ }
+    ensures { λ r. ⌜ r ≡ afterChild atItems k ⌝ }
 {
     if k == node::DECLARATION {
         return ITEMS;
@@ -80,7 +79,7 @@ fn after_item(k: u32) -> u32
 
 // After a condition, or what ends a sentence.
 fn after_condition(k: u32) -> u32
-    ensures { λ r. ⌜ r ≡ nextState atConditions k ⌝ }
+    ensures { λ r. ⌜ r ≡ afterChild atConditions k ⌝ }
 {
     if k == node::CONDITION {
         return CONDITIONS;
@@ -93,7 +92,7 @@ fn after_condition(k: u32) -> u32
 
 // After what follows a condition's first terms.
 fn after_colon(k: u32) -> u32
-    ensures { λ r. ⌜ r ≡ nextState atColon k ⌝ }
+    ensures { λ r. ⌜ r ≡ afterChild atColon k ⌝ }
 {
     if k == node::TERMS {
         return CLOSED;
@@ -102,8 +101,8 @@ fn after_colon(k: u32) -> u32
 }
 
 // The state after a child of the kind k.
-pub fn after(st: u32, k: u32) -> u32
-    ensures { λ r. ⌜ r ≡ nextState st k ⌝ }
+fn after(st: u32, k: u32) -> u32
+    ensures { λ r. ⌜ r ≡ afterChild st k ⌝ }
 {
     if st == TERMS {
         return after_term(k);
@@ -139,6 +138,24 @@ pub fn after(st: u32, k: u32) -> u32
         return only(k, node::NAME, NAMES);
     }
     WRONG
+}
+
+// Whether a row of the kind k and the detail d is a sentence whose `;` is left off.
+fn leaves_off(k: u32, d: u32) -> bool
+    ensures { λ r. ⌜ r ≡ leavesOff k d ⌝ }
+{
+    (k == node::SENTENCE) & (d == 1)
+}
+
+// The state after a row of the kind k and the detail d: a sentence whose `;` is left off is the last of its function or
+// block.
+pub fn after_row(st: u32, k: u32, d: u32) -> u32
+    ensures { λ r. ⌜ r ≡ nextState st k d ⌝ }
+{
+    if leaves_off(k, d) {
+        return CLOSED;
+    }
+    after(st, k)
 }
 
 // The state before the first child of a node of the kind k.

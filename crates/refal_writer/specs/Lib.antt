@@ -1,4 +1,4 @@
--- Definitions: Write (what `write` answers and leaves), Words (what a row puts before and after its children).
+-- Definitions: Write (what `write` answers and leaves), Words (what a row puts before and after its children), Puts (what a writer of bytes leaves).
 -- Laws of writers of bytes: Puts. Of tokens: Token, TextPuts. Of the walk over rows: Walk. Of `write`: WriteLaws.
 pub mod Write
 pub mod Puts

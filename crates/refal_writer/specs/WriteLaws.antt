@@ -2,11 +2,11 @@
 use Prim.Native.Nat.{ℕ, _*_, _/_, _%_, _≤_}
 use native.Mathlib.Omega.{arith}
 use mathlib.Core.Bool.{Bool, true, false, _&&_, true≢false}
-use mathlib.Core.List.{List}
+use mathlib.Core.List.{List, _++_}
 use mathlib.Core.Option.{Option, none, some}
-use mathlib.Core.Path.{_≡_, refl, ap, sym, _∙_}
+use mathlib.Core.Path.{_≡_, refl, ap, sym, subst, _∙_}
 use lib.Dec.{eqb, leb}
-use lib.ListN.{length, replicate}
+use lib.ListN.{length, drop, replicate}
 use borrow.Author.Tests.{eqb-true, leb-true}
 use Rattle.refal_rows.specs.Tests.{and-left, and-right}
 use Rattle.refal_ast.specs.Tree.{Program}
@@ -20,7 +20,7 @@ use Rattle.refal_tree.specs.Whole.{all-rows}
 use Rattle.refal_tree.specs.Walk.{flatAt, flat-tree-rows}
 use Rattle.refal_spelling.specs.Spellings.{allSpelled}
 use Rattle.refal_writer.specs.Write.{written, treeText, refuse, writeAnswer, writeBytes, left}
-use Rattle.refal_writer.specs.Puts.{Puts}
+use Rattle.refal_writer.specs.Puts.{poured, poured-fits}
 use Rattle.refal_writer.specs.Token.{textOf}
 use Rattle.refal_writer.specs.Walk.{Walks}
 
@@ -82,6 +82,8 @@ module _ (w src old new : List ℕ) where
     unfolding writeAnswer
     too-long t f = decided (refuse 42 n) (rw (h, s, ← c, t) refl) f
 
-    pub done : leb n (length old) && leb n mostBytes ≡ true → Puts (written w src) n old new → Answers (Done n) w src old new
+    pub done : leb n (length old) && leb n mostBytes ≡ true → new ≡ poured (written w src) old → Answers (Done n) w src old new
     unfolding writeAnswer
-    done t p = decided (Done n) (rw (h, s, ← c, t) refl) (p .bytes (leb-true _ _ (and-left (leb n (length old)) (leb n mostBytes) t)))
+    done t p =
+        let fits : length (written w src) ≤ length old = subst (λ (k : ℕ). k ≤ length old) c (leb-true _ _ (and-left (leb n (length old)) (leb n mostBytes) t)) in
+        decided (Done n) (rw (h, s, ← c, t) refl) (p ∙ poured-fits (written w src) old fits ∙ ap (λ (k : ℕ). written w src ++ drop k old) (sym c))

@@ -1,31 +1,21 @@
-// Bytes at the front of a slice: put where they all fit, their count in any case.
+// Bytes put over a slice from its front on, as far as it goes; the answer is their count in any case.
+use refal_rows::least;
 ghost use mathlib.Core.Path.{_≡_};
-ghost use mathlib.Core.List.{[], _∷_, _++_};
+ghost use mathlib.Core.List.{[], _∷_};
 ghost use Prim.Native.Nat.{_≤_};
-ghost use lib.ListN.{length, drop};
 ghost use Rattle.refal_writer.specs.Puts.{Puts};
-
-// A word that fits, copied to the front of out.
-fn copy(word: &[u8], out: &mut [u8])
-    requires { ⌜ length (now word) ≤ length (now out) ⌝ }
-    ensures { λ _. ⌜ now (out .exit) ≡ now (word .entry) ++ drop (length (now (word .entry))) (now (out .entry)) ⌝ }
-{
-    let mut i = 0;
-    while i < word.len() {
-        out[i] = word[i];
-        i += 1;
-    }
-}
 
 // The bytes of a word.
 pub fn put_word(word: &[u8], out: &mut [u8]) -> usize
     ensures { λ r. ⌜ Puts (now (word .entry)) r (now (out .entry)) (now (out .exit)) ⌝ }
 {
-    let n = word.len();
-    if n <= out.len() {
-        copy(word, out);
+    let n = least(word.len(), out.len());
+    let mut i = 0;
+    while i < n {
+        out[i] = word[i];
+        i += 1;
     }
-    n
+    word.len()
 }
 
 // One to four bytes.
@@ -44,6 +34,8 @@ pub fn put2(a: u8, b: u8, out: &mut [u8]) -> usize
     if 2 <= out.len() {
         out[0] = a;
         out[1] = b;
+    } else {
+        put1(a, out);
     }
     2
 }
@@ -55,6 +47,8 @@ pub fn put3(a: u8, b: u8, c: u8, out: &mut [u8]) -> usize
         out[0] = a;
         out[1] = b;
         out[2] = c;
+    } else {
+        put2(a, b, out);
     }
     3
 }
@@ -67,6 +61,8 @@ pub fn put4(a: u8, b: u8, c: u8, d: u8, out: &mut [u8]) -> usize
         out[1] = b;
         out[2] = c;
         out[3] = d;
+    } else {
+        put3(a, b, c, out);
     }
     4
 }

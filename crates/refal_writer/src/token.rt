@@ -1,6 +1,6 @@
-// The writers of tokens: a token's spelling and one space at the front of out if they fit; their length in any case. A
-// token's text is lent as the word to be written. Each lends the rest of out, after the bytes written, to the writer of
-// what comes next.
+// The writers of tokens: a token's spelling and one space put over out from its front on, as far as it goes; their length in
+// any case. A token's text is lent as the word to be written. Each lends the rest of out, after the bytes put, to the writer
+// of what comes next.
 use crate::bytes::put_word;
 use crate::bytes::put1;
 use crate::bytes::put2;

@@ -10,10 +10,11 @@ use borrow.Fn.PlainCycle.{Measures, is, falls, and}
 use Rattle.refal_tree.proofs.check.Reads as check
 use Rattle.refal_tree.proofs.check.Kinds as check-kinds
 use Rattle.refal_tree.proofs.+check.Lts-check as check-lts
+use Rattle.refal_ast.proofs.nodes.detail.Reads as detail-reads
 use Rattle.refal_ast.proofs.nodes.kind.Reads as kind-reads
 use Rattle.refal_ast.proofs.nodes.next.Reads as next-reads
 use Rattle.refal_tree.proofs.row_ok.Reads as row-ok-reads
-use Rattle.refal_tree.proofs.states.after.Reads as after-reads
+use Rattle.refal_tree.proofs.states.after_row.Reads as after-row-reads
 use Rattle.refal_tree.proofs.states.below.Reads as below-reads
 use Rattle.refal_tree.proofs.states.ends.Reads as ends-reads
 use Rattle.refal_tree.proofs.states.inside.Reads as inside-reads
@@ -30,7 +31,7 @@ abbrev check-below : ℕ → In 1 check-kinds.ps
 check-below t = and 1 check-kinds.ps (falls 1 check-kinds.ps _<_ μ-check t) check.Pre
 
 abbrev check-claims : ℕ → check-lts.Claims
-check-claims t = (next-reads.Asked, next-reads.Learnt, row-ok-reads.Asked, row-ok-reads.Learnt, kind-reads.Asked, kind-reads.Learnt, inside-reads.Asked, inside-reads.Learnt, below-reads.Asked, below-reads.Learnt, check-below t, check.Post, after-reads.Asked, after-reads.Learnt, ends-reads.Asked, ends-reads.Learnt)
+check-claims t = (next-reads.Asked, next-reads.Learnt, row-ok-reads.Asked, row-ok-reads.Learnt, kind-reads.Asked, kind-reads.Learnt, inside-reads.Asked, inside-reads.Learnt, below-reads.Asked, below-reads.Learnt, check-below t, check.Post, detail-reads.Asked, detail-reads.Learnt, after-row-reads.Asked, after-row-reads.Learnt, ends-reads.Asked, ends-reads.Learnt)
 
 abbrev check-Inv-loop : check-lts.InvT-loop
 check-Inv-loop tree from to start left i₀ st₀ i st = (from ≤ i) × (i ≤ to) × (okAt tree from to start left ≡ okAt tree i to st left)
@@ -58,7 +59,7 @@ check-row-ok-requires t c κs = search needs
 check-returns-3 : (t : ℕ) → check-lts.Need-returns-3 (check-claims t) (check-at t) check.Post check-Inv-loop check-μ-loop
 check-returns-3 t c = let a = c .before .before .before .before .before .before .before .before .args in
     sym (c .before .before .before .before .before .before .loop .inv .2
-    ∙ stop-row (a .tree .now) (c .before .before .before .before .before .before .loop .i) (a .to) (c .before .before .before .before .before .before .loop .st) (a .left) _ (c .before .before .before .before .next .result) refl (c .before .before .before .before .next .ensures) (c .before .before .before .before .before .before .before .before .pre .1 .1) (omega arith) (omega arith)
+    ∙ stop-row (a .tree .now) (c .before .before .before .before .before .before .loop .i) (a .to) (c .before .before .before .before .before .before .loop .st) (a .left) _ _ (c .before .before .before .before .next .result) refl refl (c .before .before .before .before .next .ensures) (c .before .before .before .before .before .before .before .before .pre .1 .1) (omega arith) (omega arith)
     (sym (c .before .row-ok .ensures) ∙ not-true _ (c .if3 .taken)))
 
 check-kind-requires : (t : ℕ) → check-lts.Need-kind-requires (check-claims t) (check-at t) check.Post check-Inv-loop check-μ-loop
@@ -79,26 +80,29 @@ check-check-requires t c κs = (omega arith, (omega arith, omega arith))
 check-returns-4 : (t : ℕ) → check-lts.Need-returns-4 (check-claims t) (check-at t) check.Post check-Inv-loop check-μ-loop
 check-returns-4 t c = let a = c .before .before .before .before .before .before .before .before .before .before .before .before .before .args in let k = c .before .before .before .before .kind .result in let x = c .before .before .before .before .before .before .before .before .before .next .result in
     sym (c .before .before .before .before .before .before .before .before .before .before .before .loop .inv .2
-    ∙ stop-kids (a .tree .now) (c .before .before .before .before .before .before .before .before .before .before .before .loop .i) (a .to) (c .before .before .before .before .before .before .before .before .before .before .before .loop .st) (a .left) k x (c .before .before .before .before .kind .ensures) (c .before .before .before .before .before .before .before .before .before .next .ensures) (c .before .before .before .before .before .before .before .before .before .before .before .before .before .pre .1 .1) (omega arith) (omega arith)
+    ∙ stop-kids (a .tree .now) (c .before .before .before .before .before .before .before .before .before .before .before .loop .i) (a .to) (c .before .before .before .before .before .before .before .before .before .before .before .loop .st) (a .left) k _ x (c .before .before .before .before .kind .ensures) refl (c .before .before .before .before .before .before .before .before .before .next .ensures) (c .before .before .before .before .before .before .before .before .before .before .before .before .before .pre .1 .1) (omega arith) (omega arith)
     (kids-are (a .tree .now) (c .before .before .before .before .before .before .before .before .before .before .before .loop .i) x (c .before .before .before .before .before .before .before .before .before .before .before .loop .st) (a .left) k (c .before .before .before .inside .result) (c .before .before .below .result) (c .before .check .result) (c .before .check .ensures) (c .before .before .before .inside .ensures) (c .before .before .below .ensures)
     ∙ not-true _ (c .if4 .taken)))
 
-check-after-requires : (t : ℕ) → check-lts.Need-after-requires (check-claims t) (check-at t) check.Post check-Inv-loop check-μ-loop
-check-after-requires t c κs = search needs
+check-detail-requires : (t : ℕ) → check-lts.Need-detail-requires (check-claims t) (check-at t) check.Post check-Inv-loop check-μ-loop
+check-detail-requires t c κs = search needs
+
+check-after-row-requires : (t : ℕ) → check-lts.Need-after-row-requires (check-claims t) (check-at t) check.Post check-Inv-loop check-μ-loop
+check-after-row-requires t c κs = search needs
 
 check-loop-less : (t : ℕ) → check-lts.Need-loop-less (check-claims t) (check-at t) check.Post check-Inv-loop check-μ-loop
 check-loop-less t c = search needs
 
 check-loop-again : (t : ℕ) → check-lts.Need-loop-again (check-claims t) (check-at t) check.Post check-Inv-loop check-μ-loop
-check-loop-again t c = let a = c .before .before .before .before .before .before .before .before .before .before .before .before .before .before .args in let k = c .before .before .before .before .before .kind .result in let x = c .before .before .before .before .before .before .before .before .before .before .next .result in (
+check-loop-again t c = let a = c .before .before .before .before .before .before .before .before .before .before .before .before .before .before .before .args in let k = c .before .before .before .before .before .before .kind .result in let d = c .before .detail .result in let x = c .before .before .before .before .before .before .before .before .before .before .before .next .result in (
   omega arith,
   omega arith,
-  c .before .before .before .before .before .before .before .before .before .before .before .before .loop .inv .2
-      ∙ go-on (a .tree .now) (c .before .before .before .before .before .before .before .before .before .before .before .before .loop .i) (a .to) (c .before .before .before .before .before .before .before .before .before .before .before .before .loop .st) (a .left) k x (c .before .before .before .before .before .kind .ensures) (c .before .before .before .before .before .before .before .before .before .before .next .ensures) (c .before .before .before .before .before .before .before .before .before .before .before .before .before .before .pre .1 .1) (omega arith) (omega arith)
-      (sym (c .before .before .before .before .before .before .before .row-ok .ensures) ∙ not-false _ (c .before .before .before .before .before .before .if3 .left))
-      (kids-are (a .tree .now) (c .before .before .before .before .before .before .before .before .before .before .before .before .loop .i) x (c .before .before .before .before .before .before .before .before .before .before .before .before .loop .st) (a .left) k (c .before .before .before .before .inside .result) (c .before .before .before .below .result) (c .before .before .check .result) (c .before .before .check .ensures) (c .before .before .before .before .inside .ensures) (c .before .before .before .below .ensures)
-      ∙ not-false _ (c .before .if4 .left))
-      ∙ ap (λ (y : ℕ). okAt (a .tree .now) x (a .to) y (a .left)) (sym (c .after .ensures)),
+  c .before .before .before .before .before .before .before .before .before .before .before .before .before .loop .inv .2
+      ∙ go-on (a .tree .now) (c .before .before .before .before .before .before .before .before .before .before .before .before .before .loop .i) (a .to) (c .before .before .before .before .before .before .before .before .before .before .before .before .before .loop .st) (a .left) k d x (c .before .before .before .before .before .before .kind .ensures) (c .before .detail .ensures) (c .before .before .before .before .before .before .before .before .before .before .before .next .ensures) (c .before .before .before .before .before .before .before .before .before .before .before .before .before .before .before .pre .1 .1) (omega arith) (omega arith)
+      (sym (c .before .before .before .before .before .before .before .before .row-ok .ensures) ∙ not-false _ (c .before .before .before .before .before .before .before .if3 .left))
+      (kids-are (a .tree .now) (c .before .before .before .before .before .before .before .before .before .before .before .before .before .loop .i) x (c .before .before .before .before .before .before .before .before .before .before .before .before .before .loop .st) (a .left) k (c .before .before .before .before .before .inside .result) (c .before .before .before .before .below .result) (c .before .before .before .check .result) (c .before .before .before .check .ensures) (c .before .before .before .before .before .inside .ensures) (c .before .before .before .before .below .ensures)
+      ∙ not-false _ (c .before .before .if4 .left))
+      ∙ ap (λ (y : ℕ). okAt (a .tree .now) x (a .to) y (a .left)) (sym (c .after-row .ensures)),
 )
 
 check-ends-requires : (t : ℕ) → check-lts.Need-ends-requires (check-claims t) (check-at t) check.Post check-Inv-loop check-μ-loop
@@ -128,7 +132,8 @@ pub +check-spec : {M : Type 1} → statement M
     (check-below-requires t)
     (check-check-requires t)
     (check-returns-4 t)
-    (check-after-requires t)
+    (check-detail-requires t)
+    (check-after-row-requires t)
     (check-loop-less t)
     (check-loop-again t)
     (check-ends-requires t)

@@ -58,7 +58,7 @@ returns-3 c = let a = c .before .before .before .before .before .before .before 
     let s = sym (c .before .before .before .before .before .before .spellings .ensures) ∙ not-false _ (c .before .before .before .before .before .if2 .left) in
     let e = written-is (a .tree .now) (a .src .now) h in
     let p = puts-as _ _ e (c .before .before .before .write-rows .ensures .0) in
-    let d = done (a .tree .now) (a .src .now) (a .out .now) _ (c .before .before .before .write-rows .result) h s (p .count) (c .if3 .taken) p in
+    let d = done (a .tree .now) (a .src .now) (a .out .now) _ (c .before .before .before .write-rows .result) h s (p .count) (c .if3 .taken) (p .bytes) in
     (d .answer, d .bytes)
 
 clear-bytes-requires-3 : tie.Need-clear-bytes-requires-3

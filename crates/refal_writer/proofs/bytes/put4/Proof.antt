@@ -1,8 +1,9 @@
 -- `refal_writer::bytes::put4` meets its contract.
 use native.Mathlib.Omega.{arith}
+use mathlib.Core.List.{[], _∷_}
+use mathlib.Core.Path.{refl, sym, _∙_}
 use lib.ListN.{length-set}
-use mathlib.Core.Path.{refl}
-use Rattle.refal_writer.specs.Puts.{four-set}
+use Rattle.refal_writer.specs.Puts.{four-set, poured-full}
 use borrow.Author.Needs.{needs}
 use Rattle.refal_writer.proofs.bytes.put4.Statement.{statement}
 use Rattle.refal_writer.proofs.bytes.put4.Tie as tie
@@ -19,14 +20,20 @@ slice-write-out-3 c = simp length-set (omega arith)
 slice-write-out-4 : tie.Need-slice-write-out-4
 slice-write-out-4 c = simp length-set (omega arith)
 
+put3-requires : tie.Need-put3-requires
+put3-requires c κs = search needs
+
 same-length : tie.Need-same-length
 same-length c = simp length-set
 
 returns : tie.Need-returns
-returns c = (record { count = refl; bytes = λ h. four-set (c .before .args .out .now) _ _ _ _ h }, omega arith)
+returns c = (record { count = refl; bytes = four-set (c .before .before .args .out .now) _ _ _ _ }, omega arith)
+
+same-length-2 : tie.Need-same-length-2
+same-length-2 c = search needs
 
 returns-2 : tie.Need-returns-2
-returns-2 c = (record { count = refl; bytes = λ h. absurd (omega arith) }, omega arith)
+returns-2 c = (record { count = refl; bytes = c .before .before .put3 .ensures .0 .bytes ∙ sym (poured-full (_ ∷ _ ∷ _ ∷ []) (_ ∷ []) (c .before .before .before .before .before .before .args .out .now) (omega arith)) }, omega arith)
 
 pub put4-spec : {M : Type 1} → statement M
 put4-spec =
@@ -36,6 +43,8 @@ put4-spec =
     slice-write-out-2
     slice-write-out-3
     slice-write-out-4
+    put3-requires
     same-length
     returns
+    same-length-2
     returns-2)

@@ -37,7 +37,7 @@ same-length c = search needs
 
 returns : tie.Need-returns
 returns c = let a = c .before .before .before .before .before .before .before .before .before .before .before .args in
-    (text-two (nameWord (a .word .now) ∷ []) (markWord tokLBrace ∷ []) _ _ _ _ _ _ (puts-as _ _ (name-text _ 0 (a .word .now) refl) (c .before .before .before .before .before .before .before .write-word .ensures .0)) (c .before .before .before .before .before .before .before .write-word .kept .1 .0) (c .before .before .before .before .least .ensures) (c .before .before .write-mark .ensures .0), omega arith)
+    (text-two (nameWord (a .word .now) ∷ []) (markWord tokLBrace ∷ []) _ _ _ _ _ _ (puts-as _ _ (name-text _ 0 (a .word .now) refl) (c .before .before .before .before .before .before .before .write-word .ensures .0)) (c .before .before .before .before .least .ensures) (c .before .before .write-mark .ensures .0), omega arith)
 
 pub write-body-spec : {M : Type 1} → statement M
 write-body-spec =

@@ -36,7 +36,7 @@ same-length c = search needs
 
 returns : tie.Need-returns
 returns c = let a = c .before .before .before .before .before .before .before .before .before .before .before .before .args in
-    (simp (eq-eqb _ _ (c .before .before .before .before .before .before .before .before .before .if1 .taken)) (text-two (markWord tokEntry ∷ []) (headWords false (a .word .now)) _ _ _ _ _ _ (c .before .before .before .before .before .before .before .write-mark .ensures .0) (c .before .before .before .before .before .before .before .write-mark .kept .1 .0) (c .before .before .before .before .least .ensures) (c .before .before .write-body .ensures .0)), omega arith)
+    (simp (eq-eqb _ _ (c .before .before .before .before .before .before .before .before .before .if1 .taken)) (text-two (markWord tokEntry ∷ []) (headWords false (a .word .now)) _ _ _ _ _ _ (c .before .before .before .before .before .before .before .write-mark .ensures .0) (c .before .before .before .before .least .ensures) (c .before .before .write-body .ensures .0)), omega arith)
 
 write-body-requires-2 : tie.Need-write-body-requires-2
 write-body-requires-2 c κs = search needs

@@ -33,7 +33,7 @@ same-length c = search needs
 
 returns : tie.Need-returns
 returns c = let a = c .before .before .before .before .before .before .before .before .before .before .args in
-    (text-two (markWord (a .a) ∷ []) (markWord (a .b) ∷ []) _ _ _ _ _ _ (c .before .before .before .before .before .before .before .write-mark .ensures .0) (c .before .before .before .before .before .before .before .write-mark .kept .1 .0) (c .before .before .before .before .least .ensures) (c .before .before .write-mark2 .ensures .0), omega arith)
+    (text-two (markWord (a .a) ∷ []) (markWord (a .b) ∷ []) _ _ _ _ _ _ (c .before .before .before .before .before .before .before .write-mark .ensures .0) (c .before .before .before .before .least .ensures) (c .before .before .write-mark2 .ensures .0), omega arith)
 
 pub write-marks-spec : {M : Type 1} → statement M
 write-marks-spec =

@@ -36,7 +36,7 @@ same-length c = search needs
 
 returns : tie.Need-returns
 returns c = let a = c .before .before .before .before .before .before .before .before .before .before .before .args in
-    (text-two (markWord (a .mark) ∷ []) (nameWord (a .word .now) ∷ []) _ _ _ _ _ _ (c .before .before .before .before .before .before .before .write-mark .ensures .0) (c .before .before .before .before .before .before .before .write-mark .kept .1 .0) (c .before .before .before .before .least .ensures) (puts-as _ _ (name-text _ 0 (a .word .now) refl) (c .before .before .write-word .ensures .0)), omega arith)
+    (text-two (markWord (a .mark) ∷ []) (nameWord (a .word .now) ∷ []) _ _ _ _ _ _ (c .before .before .before .before .before .before .before .write-mark .ensures .0) (c .before .before .before .before .least .ensures) (puts-as _ _ (name-text _ 0 (a .word .now) refl) (c .before .before .write-word .ensures .0)), omega arith)
 
 pub write-named-spec : {M : Type 1} → statement M
 write-named-spec =

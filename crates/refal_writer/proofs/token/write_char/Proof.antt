@@ -1,8 +1,7 @@
 -- `refal_writer::token::write_char` meets its contract.
 use native.Mathlib.Omega.{arith}
-use mathlib.Core.List.{[], _∷_, _++_}
-use mathlib.Core.Path.{_∙_}
-use Rattle.refal_writer.specs.Puts.{puts-as, pours-first, pours-on, pours-end}
+use mathlib.Core.List.{[], _∷_}
+use Rattle.refal_writer.specs.Puts.{puts-as, puts-two}
 use Rattle.refal_writer.specs.Token.{quoted-text}
 use Rattle.refal_spelling.specs.Spell.{body}
 use borrow.Author.Needs.{needs}
@@ -53,10 +52,9 @@ same-length c = search needs
 
 returns : tie.Need-returns
 returns c = let x = c .before .before .before .before .before .before .before .before .before .before .before .before .before .before .before .args .x in
-    let p1 = pours-first (39 ∷ []) (body x ++ 39 ∷ 32 ∷ []) _ _ _ (c .before .before .before .before .before .before .before .before .before .before .before .before .put1 .ensures .0) in
-    let p2 = pours-on _ (body x) (39 ∷ 32 ∷ []) _ _ _ _ _ _ p1 (c .before .before .before .before .before .before .before .before .before .before .before .before .put1 .kept .1 .0) (c .before .before .before .before .before .before .before .before .before .least .ensures) (c .before .before .before .before .before .before .before .put-code .ensures .0) in
-    let p3 = pours-on _ (39 ∷ 32 ∷ []) [] _ _ _ _ _ _ p2 (c .before .before .before .before .before .before .out2 .given .1 ∙ c .before .before .before .before .before .before .before .before .before .before .before .before .put1 .kept .1 .0) (c .before .before .before .before .least2 .ensures) (c .before .before .put2 .ensures .0) in
-    (puts-as _ _ (quoted-text x) (pours-end _ _ _ _ p3), omega arith)
+    let p = puts-two (39 ∷ []) (body x) _ _ _ _ _ _ (c .before .before .before .before .before .before .before .before .before .before .before .before .put1 .ensures .0) (c .before .before .before .before .before .before .before .before .before .least .ensures) (c .before .before .before .before .before .before .before .put-code .ensures .0) in
+    let q = puts-two (39 ∷ body x) (39 ∷ 32 ∷ []) _ _ _ _ _ _ p (c .before .before .before .before .least2 .ensures) (c .before .before .put2 .ensures .0) in
+    (puts-as _ _ (quoted-text x) q, omega arith)
 
 pub write-char-spec : {M : Type 1} → statement M
 write-char-spec =

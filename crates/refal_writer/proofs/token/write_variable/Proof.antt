@@ -35,7 +35,7 @@ same-length c = search needs
 
 returns : tie.Need-returns
 returns c = let a = c .before .before .before .before .before .before .before .before .before .before .before .args in
-    (puts-two (a .letter ∷ 46 ∷ []) (a .index .now ++ 32 ∷ []) _ _ _ _ _ _ (c .before .before .before .before .before .before .before .put2 .ensures .0) (c .before .before .before .before .before .before .before .put2 .kept .1 .1 .0) (c .before .before .before .before .least .ensures) (c .before .before .write-word .ensures .0), omega arith)
+    (puts-two (a .letter ∷ 46 ∷ []) (a .index .now ++ 32 ∷ []) _ _ _ _ _ _ (c .before .before .before .before .before .before .before .put2 .ensures .0) (c .before .before .before .before .least .ensures) (c .before .before .write-word .ensures .0), omega arith)
 
 pub write-variable-spec : {M : Type 1} → statement M
 write-variable-spec =

@@ -31,7 +31,7 @@ same-length : tie.Need-same-length
 same-length c = search needs
 
 returns : tie.Need-returns
-returns c = (puts-two (c .before .before .before .before .before .before .before .before .before .before .before .args .word .now) (32 ∷ []) _ _ _ _ _ _ (c .before .before .before .before .before .before .before .put-word .ensures) (c .before .before .before .before .before .before .before .put-word .kept .1 .0) (c .before .before .before .before .least .ensures) (c .before .before .put1 .ensures .0), omega (arith, c .before .before .before .before .before .before .before .put-word .ensures .count, c .before .before .put1 .ensures .0 .count))
+returns c = (puts-two (c .before .before .before .before .before .before .before .before .before .before .before .args .word .now) (32 ∷ []) _ _ _ _ _ _ (c .before .before .before .before .before .before .before .put-word .ensures) (c .before .before .before .before .least .ensures) (c .before .before .put1 .ensures .0), omega (arith, c .before .before .before .before .before .before .before .put-word .ensures .count, c .before .before .put1 .ensures .0 .count))
 
 pub write-word-spec : {M : Type 1} → statement M
 write-word-spec =

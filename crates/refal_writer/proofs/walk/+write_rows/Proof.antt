@@ -141,9 +141,9 @@ write-rows-loop-again t c = let a = c .before .before .before .before .before .b
     let e = T .parts (a .src .now) (c .before .before .before .before .before .before .before .before .before .before .inside .result) (c .after .result) (c .before .before .before .before .before .before .before .before .before .before .inside .ensures) (c .after .ensures) in
     let X : List ℕ = textOf (a .src .now) (flatAt (a .tree .now) (a .from) (a .to) (a .start)) in
     let p = subst (λ (r : List ℕ). Pours X r (g .at) (g .out) (a .out .now)) e (g .inv .5) in
-    let p1 = pours-on _ _ _ _ _ _ _ _ _ p (g .inv .2) (c .before .before .before .before .before .before .before .before .before .before .before .before .before .before .before .before .least .ensures) (c .before .before .before .before .before .before .before .before .before .before .before .before .before .before .open-row .ensures .0) in
-    let p2 = pours-on _ _ _ _ _ _ _ _ _ p1 (c .before .before .before .before .before .before .before .before .before .before .before .before .before .out .given .1 ∙ g .inv .2) (c .before .before .before .before .before .before .before .before .before .before .before .least2 .ensures) (c .before .before .before .before .before .before .before .before .write-rows .ensures .0) in
-    let p3 = pours-on _ _ _ _ _ _ _ _ _ p2 (c .before .before .before .before .before .before .before .out2 .given .1 ∙ c .before .before .before .before .before .before .before .before .before .before .before .before .before .out .given .1 ∙ g .inv .2) (c .before .before .before .before .before .least3 .ensures) (c .before .before .before .write-closing .ensures .0) in
+    let p1 = pours-on _ _ _ _ _ _ _ _ _ p (c .before .before .before .before .before .before .before .before .before .before .before .before .before .before .before .before .least .ensures) (c .before .before .before .before .before .before .before .before .before .before .before .before .before .before .open-row .ensures .0) in
+    let p2 = pours-on _ _ _ _ _ _ _ _ _ p1 (c .before .before .before .before .before .before .before .before .before .before .before .least2 .ensures) (c .before .before .before .before .before .before .before .before .write-rows .ensures .0) in
+    let p3 = pours-on _ _ _ _ _ _ _ _ _ p2 (c .before .before .before .before .before .least3 .ensures) (c .before .before .before .write-closing .ensures .0) in
     let f : a .from ≤ c .before .before .before .before .before .before .before .before .before .before .before .before .before .before .before .before .before .next .result = let i = g .inv .0 in let l = T .low in omega arith in
     (f, T .high, c .before .before .out3 .given .1 ∙ c .before .before .before .before .before .before .before .out2 .given .1 ∙ c .before .before .before .before .before .before .before .before .before .before .before .before .before .out .given .1 ∙ g .inv .2, b, T .rest (c .after .result) (c .after .ensures), p3)
 
