@@ -10,12 +10,12 @@ use borrow.Author.Tests.{eqb-true}
 use Rattle.refal_rows.specs.Tests.{and-left, and-right}
 use Rattle.refal_ast.specs.Kinds.{nodeVariable}
 use Rattle.refal_ast.specs.Limits.{mostRows}
-use Rattle.refal_ast.specs.Nodes.{nodeWidth, colDetail, wordAt}
+use Rattle.refal_ast.specs.Nodes.{nodeWidth}
 use Rattle.refal_ast.specs.Flatten.{Flat}
 use Rattle.refal_tree.specs.Forest.{Row}
-use Rattle.refal_tree.specs.States.{stateInside, stateAfter, below, mayStand, room}
+use Rattle.refal_tree.specs.States.{stateInside, stateNext, below, mayStand, room}
 use Rattle.refal_tree.specs.Rules.{variableLetter, fieldsOk, rowOk}
-use Rattle.refal_tree.specs.Ranges.{rowAt, kindAt, nextAt, okAt}
+use Rattle.refal_tree.specs.Ranges.{rowAt, kindAt, detailAt, nextAt, okAt}
 use Rattle.refal_tree.specs.FlattenRows.{openTokens, closeTokens}
 use Rattle.refal_tree.specs.Walk.{flatAt, Step, step, flat-step, flat-end}
 use Rattle.refal_spelling.specs.Spell.{text}
@@ -44,39 +44,39 @@ lettered st left r h e =
     let g : Bool = fieldsOk (r .kind) (r .detail) (r .start) (r .len) (r .from) (r .to) in
     letter-small (r .detail) (and-left _ true (ap (λ (k : ℕ). fieldsOk k (r .detail) (r .start) (r .len) (r .from) (r .to)) (sym e) ∙ and-right f g h))
 
--- ---- a turn of the walk at row i, of the kind k and with the next row x, among the rows to j
-pub record Turn (w : List ℕ) (i j st k x : ℕ) : Type 0 where
+-- ---- a turn of the walk at row i, of the kind k and the detail d, and with the next row x, among the rows to j
+pub record Turn (w : List ℕ) (i j st k d x : ℕ) : Type 0 where
   pub low : i < x
   pub high : x ≤ j
-  pub letter : kindAt w i ≡ nodeVariable → wordAt w i colDetail < 256
+  pub letter : kindAt w i ≡ nodeVariable → detailAt w i < 256
   -- s is the state of the children, and u the state of what follows
   pub kids : (s : ℕ) → s ≡ stateInside k → Walks w (i + 1) x s
-  pub rest : (u : ℕ) → u ≡ stateAfter st k → Walks w x j u
+  pub rest : (u : ℕ) → u ≡ stateNext st k d → Walks w x j u
   -- the text of a turn, part by part
-  pub parts : (src : List ℕ) (s u : ℕ) → s ≡ stateInside k → u ≡ stateAfter st k
-      → textOf src (flatAt w i j st) ≡ textOf src (openTokens st (rowAt w i)) ++ (textOf src (flatAt w (i + 1) x s) ++ (text (closeWords st k) ++ textOf src (flatAt w x j u)))
+  pub parts : (src : List ℕ) (s u : ℕ) → s ≡ stateInside k → u ≡ stateNext st k d
+      → textOf src (flatAt w i j st) ≡ textOf src (openTokens st (rowAt w i)) ++ (textOf src (flatAt w (i + 1) x s) ++ (text (closeWords st k d) ++ textOf src (flatAt w x j u)))
 
-pub turn : (w : List ℕ) (i j st k x : ℕ) → k ≡ kindAt w i → x ≡ nextAt w i → nodeWidth * j ≤ length w → i < j → Walks w i j st → Turn w i j st k x
-turn w i j st k x kind next long more W =
+pub turn : (w : List ℕ) (i j st k d x : ℕ) → k ≡ kindAt w i → d ≡ detailAt w i → x ≡ nextAt w i → nodeWidth * j ≤ length w → i < j → Walks w i j st → Turn w i j st k d x
+turn w i j st k d x kind detail next long more W =
     let here : Step w i j st (W .left) = step w i j st (W .left) long more (W .ok) in
     record {
       low = let l = here .lo in omega arith;
       high = let l = here .hi in omega arith;
       letter = lettered st (W .left) (rowAt w i) (here .here);
       kids = λ s first. record { left = below st (kindAt w i) (W .left); ok = rw (first, kind, next) (here .kids) };
-      rest = λ u then. record { left = W .left; ok = rw (then, kind, next) (here .rest) };
+      rest = λ u then. record { left = W .left; ok = rw (then, kind, detail, next) (here .rest) };
       parts = λ src s u first then.
           let K : ℕ = kindAt w i in
           let z : ℕ = nextAt w i in
           let A : List Flat = openTokens st (rowAt w i) in
           let B : List Flat = flatAt w (i + 1) z (stateInside K) in
-          let C : List Flat = closeTokens st K in
-          let D : List Flat = flatAt w z j (stateAfter st K) in
+          let C : List Flat = closeTokens st K (detailAt w i) in
+          let D : List Flat = flatAt w z j (stateNext st K (detailAt w i)) in
           ap (textOf src) (flat-step w i j st (W .left) long here)
           ∙ text-of-append src A (B ++ (C ++ D))
           ∙ ap (λ (l : List ℕ). textOf src A ++ l) (text-of-append src B (C ++ D) ∙ ap (λ (l : List ℕ). textOf src B ++ l) (text-of-append src C D))
-          ∙ ap (λ (l : List ℕ). textOf src A ++ (textOf src B ++ (l ++ textOf src D))) (sym (close-text src st K))
-          ∙ sym (rw (first, then, kind, next) refl);
+          ∙ ap (λ (l : List ℕ). textOf src A ++ (textOf src B ++ (l ++ textOf src D))) (sym (close-text src st K (detailAt w i)))
+          ∙ sym (rw (first, then, kind, detail, next) refl);
     }
 
 -- the text of no rows

@@ -10,7 +10,7 @@ use Rattle.refal_ast.specs.Kinds.{tokEntry, tokExtern, tokIdentifier, tokVariab
 use Rattle.refal_ast.specs.Kinds.{tokComma, tokColon, tokEquals, tokSemicolon}
 use Rattle.refal_ast.specs.Kinds.{nodeDeclaration, nodeName, nodeFunction, nodeSentence, nodeCondition, nodeTerms, nodeEndingBlock, nodeConditionBlock}
 use Rattle.refal_ast.specs.Kinds.{nodeIdentifier, nodeNumber, nodeChar, nodeVariable, nodeBracket, nodeCall}
-use Rattle.refal_ast.specs.Flatten.{Flat, flatEntry}
+use Rattle.refal_ast.specs.Flatten.{Flat, flatOff, flatEntry}
 use Rattle.refal_tree.specs.Forest.{Row}
 use Rattle.refal_tree.specs.States.{termKind, atNames, atConditions, atCondition, atArgument}
 use Rattle.refal_tree.specs.FlattenRows.{pickF, openTokens, closeTokens}
@@ -52,12 +52,12 @@ restWords st kind detail word =
     (onS kind nodeEndingBlock (markWord tokEquals ∷ markWord tokComma ∷ [])
     (onS kind nodeConditionBlock (markWord tokLBrace ∷ []) []))))))
 
--- after the children of a row of the kind
-abbrev pub closeWords : ℕ → ℕ → List Spelled
-closeWords st kind =
+-- after the children of a row of the kind and the detail
+abbrev pub closeWords : ℕ → ℕ → ℕ → List Spelled
+closeWords st kind detail =
     onS kind nodeDeclaration (markWord tokSemicolon ∷ [])
     (onS kind nodeFunction (markWord tokRBrace ∷ [])
-    (onS kind nodeSentence (markWord tokSemicolon ∷ [])
+    (onS kind nodeSentence (onS detail 1 [] (markWord tokSemicolon ∷ []))
     (onS kind nodeTerms (onS st atCondition (markWord tokColon ∷ []) (onS st atArgument (markWord tokColon ∷ markWord tokLBrace ∷ []) []))
     (onS kind nodeEndingBlock (markWord tokRBrace ∷ [])
     (onS kind nodeConditionBlock (markWord tokRBrace ∷ [])
@@ -73,8 +73,12 @@ views-entry : (src : List ℕ) (b : Bool) (x : List Flat) → views src (flatEnt
 views-entry src true x = refl
 views-entry src false x = refl
 
-views-closing : (src : List ℕ) (st kind : ℕ) → views src (closeTokens st kind) ≡ closeWords st kind
-views-closing src st kind = simp views-pick
+views-off : (src : List ℕ) (b : Bool) → views src (flatOff b) ≡ pick b [] (markWord tokSemicolon ∷ [])
+views-off src true = refl
+views-off src false = refl
+
+views-closing : (src : List ℕ) (st kind detail : ℕ) → views src (closeTokens st kind detail) ≡ closeWords st kind detail
+views-closing src st kind detail = simp (views-pick, views-off)
 
 -- k, d and w are the kind, the detail and the text of the row r, which stands in the state st
 module _ (src : List ℕ) (st : ℕ) (r : Row) (k d : ℕ) (w : List ℕ) (kind : k ≡ r .kind) (detail : d ≡ r .detail) (word : w ≡ textAt src (r .start) (r .len)) where
@@ -90,5 +94,5 @@ module _ (src : List ℕ) (st : ℕ) (r : Row) (k d : ℕ) (w : List ℕ) (kind 
   pub rest-text : termKind k ≡ false → text (restWords st k d w) ≡ text (views src (openTokens st r))
   rest-text t = rw (detail, word) (ap (λ (x : ℕ). text (restWords st x (r .detail) (textAt src (r .start) (r .len)))) kind ∙ ap text (sym (rest-views (ap termKind (sym kind) ∙ t))))
 
-pub close-text : (src : List ℕ) (st kind : ℕ) → text (closeWords st kind) ≡ text (views src (closeTokens st kind))
-close-text src st kind = ap text (sym (views-closing src st kind))
+pub close-text : (src : List ℕ) (st kind detail : ℕ) → text (closeWords st kind detail) ≡ text (views src (closeTokens st kind detail))
+close-text src st kind detail = ap text (sym (views-closing src st kind detail))

@@ -137,7 +137,7 @@ pub fn write_rest(st: u32, kind: u32, detail: u32, word: &[u8], out: &mut [u8]) 
 
 // After a Terms row: `:` in a condition, `:` and `{` in an ending block.
 fn write_colon(st: u32, out: &mut [u8]) -> usize
-    ensures { λ r. ⌜ Puts (text (closeWords st nodeTerms)) r (now (out .entry)) (now (out .exit)) × (r ≤ 16) ⌝ }
+    ensures { λ r. ⌜ Puts (text (closeWords st nodeTerms 0)) r (now (out .entry)) (now (out .exit)) × (r ≤ 16) ⌝ }
 {
     if st == states::CONDITION {
         return write_mark(token::COLON, out);
@@ -148,9 +148,9 @@ fn write_colon(st: u32, out: &mut [u8]) -> usize
     0
 }
 
-// After the children of a row of the kind.
-pub fn write_closing(st: u32, kind: u32, out: &mut [u8]) -> usize
-    ensures { λ r. ⌜ Puts (text (closeWords st kind)) r (now (out .entry)) (now (out .exit)) × (r ≤ 16) ⌝ }
+// After the children of a row of the kind and the detail; a sentence's `;` may be left off.
+pub fn write_closing(st: u32, kind: u32, detail: u32, out: &mut [u8]) -> usize
+    ensures { λ r. ⌜ Puts (text (closeWords st kind detail)) r (now (out .entry)) (now (out .exit)) × (r ≤ 16) ⌝ }
 {
     if kind == node::TERMS {
         return write_colon(st, out);
@@ -162,6 +162,9 @@ pub fn write_closing(st: u32, kind: u32, out: &mut [u8]) -> usize
         return write_mark(token::RANGLE, out);
     }
     if kind == node::SENTENCE {
+        if detail == 1 {
+            return 0;
+        }
         return write_mark(token::SEMICOLON, out);
     }
     if kind == node::DECLARATION {

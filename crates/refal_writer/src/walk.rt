@@ -49,6 +49,7 @@ pub fn write_rows(
     let mut at = 0;
     while i < to {
         let k = nodes::kind(tree, i);
+        let d = nodes::detail(tree, i);
         let end = nodes::next(tree, i);
         let first = i + 1;
         let p = least(at, out.len());
@@ -58,9 +59,9 @@ pub fn write_rows(
         let b = write_rows(tree, src, first, end, states::inside(k), &mut out[q..]);
         let filled = opened + b;
         let s = least(filled, out.len());
-        let c = write_closing(st, k, &mut out[s..]);
+        let c = write_closing(st, k, d, &mut out[s..]);
         at = filled + c;
-        st = states::after(st, k);
+        st = states::after_row(st, k, d);
         i = end;
     }
     at
