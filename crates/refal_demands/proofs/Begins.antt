@@ -79,6 +79,6 @@ pub enters-matching : (L : ℕ) (d : ℕ) (b : Block) (s : Begun) (o : ℕ) (g :
     → Not tokLBrace tokLBrace (t .kind) → step L (matched d b s o g) t x y ≡ step L (within d (matching b s o g) t0) t x y
 enters-matching L d b s o g t x y h = rw (ne-eqb (t .kind) tokLBrace (h .0)) refl
 
-pub enters-result : (L : ℕ) (d : ℕ) (b : Block) (s : Begun) (t : Token) (x y : ℕ)
-    → Not tokComma tokComma (t .kind) → step L (equated d b s) t x y ≡ step L (within d (result b s) t0) t x y
-enters-result L d b s t x y h = rw (ne-eqb (t .kind) tokComma (h .0)) refl
+pub enters-result : (L : ℕ) (d : ℕ) (b : Block) (s : Begun) (q : ℕ) (t : Token) (x y : ℕ)
+    → Not tokComma tokComma (t .kind) → step L (equated d b s q) t x y ≡ step L (within d (result b s q) t0) t x y
+enters-result L d b s q t x y h = rw (ne-eqb (t .kind) tokComma (h .0)) refl

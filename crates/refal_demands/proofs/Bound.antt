@@ -2,7 +2,7 @@
 use mathlib.Core.Path.{_≡_, refl, ap}
 use Prim.Native.Nat.{ℕ, _+_, _*_, _%_, _≤_}
 use mathlib.Core.List.{List, [], _∷_}
-use mathlib.Core.Bool.{true, _&&_}
+use mathlib.Core.Bool.{Bool, true, false, _&&_}
 use native.Mathlib.Omega.{arith}
 use lib.Dec.{leb, eqb}
 use lib.ListN.{length, length-append}
@@ -12,9 +12,9 @@ use Rattle.refal_ast.specs.Kinds.{tokEof}
 use Rattle.refal_ast.specs.Tokens.{Token, tokensOf}
 use Rattle.refal_ast.specs.Check.{okTokens, wellFormed}
 use Rattle.refal_ast.specs.Tree.{Term, leaf, bracket, call, Terms, t0, tMore, Right, rTerms, rBlock, Condition, condition, Conditions, c0, cMore}
-use Rattle.refal_ast.specs.Tree.{End, eTerms, eBlock, Sentence, sentence, Sentences, s0, sMore, Names, nOne, nMore, Item, declaration, function, Program}
-use Rattle.refal_ast.specs.Tree.{sizeTerm, sizeT, sizeRight, sizeCondition, sizeC, sizeEnd, sizeSentence, sizeS, sizeN, sizeItem, sizeP}
-use Rattle.refal_ast.specs.Flatten.{Flat, mark, flatsOf, flattenTerm, flattenT, flattenRight, flattenCondition, flattenC, flattenEnd, flattenSentence, flattenS, flattenN, flattenItem}
+use Rattle.refal_ast.specs.Tree.{End, eTerms, eBlock, Sentence, sentence, Sentences, s0, sMore, Body, bAll, bOff, Names, nOne, nMore, Item, declaration, function, Program}
+use Rattle.refal_ast.specs.Tree.{sizeTerm, sizeT, sizeRight, sizeCondition, sizeC, sizeEnd, sizeSentence, sizeS, sizeB, sizeN, sizeItem, sizeP}
+use Rattle.refal_ast.specs.Flatten.{Flat, mark, flatsOf, flattenTerm, flattenT, flattenRight, flattenCondition, flattenC, flattenEnd, flattenSentence, flattenS, flattenB, flattenN, flattenItem}
 use Rattle.refal_ast.specs.Flatten.{Loose, loose-none, loose-semicolon, loose-item}
 use Rattle.refal_parser.specs.Machine.{tree}
 use Rattle.refal_parser.specs.Parse.{parsed}
@@ -32,13 +32,17 @@ mutual
   boundT t0 = omega arith
   boundT (tMore f x) = let h = boundT f in let i = boundTerm x in simp length-append (omega arith)
 
+abbrev spare : Bool → ℕ
+spare true = 1
+spare false = 0
+
 -- what stands after `:` and after `=` has a row more than these bounds; the `:` and the `=` make it good
 mutual
   unfolding sizeC flattenC
 
   boundRight : (x : Right) → sizeRight x ≤ 1 + 2 * length (flattenRight x)
   boundRight (rTerms f) = let h = boundT f in omega arith
-  boundRight (rBlock a v b) = let h = boundS v in simp length-append (omega arith)
+  boundRight (rBlock a v b) = let h = boundB v in simp length-append (omega arith)
 
   boundCondition : (x : Condition) → sizeCondition x ≤ 2 * length (flattenCondition x)
   boundCondition (condition a f x b) = let h = boundT f in let i = boundRight x in simp length-append (omega arith)
@@ -49,14 +53,20 @@ mutual
 
   boundEnd : (x : End) → sizeEnd x ≤ 1 + 2 * length (flattenEnd x)
   boundEnd (eTerms f) = let h = boundT f in omega arith
-  boundEnd (eBlock a f v b) = let h = boundT f in let i = boundS v in simp length-append (omega arith)
+  boundEnd (eBlock a f v b) = let h = boundT f in let i = boundB v in simp length-append (omega arith)
 
-  boundSentence : (x : Sentence) → sizeSentence x ≤ 2 * length (flattenSentence x)
-  boundSentence (sentence a f cs x b) = let h = boundT f in let i = boundC cs in let j = boundEnd x in simp length-append (omega arith)
+  -- a sentence without its `;` has a row more than these bounds; the braces that it stands in make it good
+  boundSentence : (x : Sentence) (off : Bool) → sizeSentence x ≤ spare off + 2 * length (flattenSentence off x)
+  boundSentence (sentence a f cs x b) true = let h = boundT f in let i = boundC cs in let j = boundEnd x in simp length-append (omega arith)
+  boundSentence (sentence a f cs x b) false = let h = boundT f in let i = boundC cs in let j = boundEnd x in simp length-append (omega arith)
 
   boundS : (s : Sentences) → sizeS s ≤ 2 * length (flattenS s)
   boundS s0 = omega arith
-  boundS (sMore s x) = let h = boundS s in let i = boundSentence x in simp length-append (omega arith)
+  boundS (sMore s x) = let h = boundS s in let i = boundSentence x false in simp length-append (omega arith)
+
+  boundB : (v : Body) → sizeB v ≤ 1 + 2 * length (flattenB v)
+  boundB (bAll s) = let h = boundS s in omega arith
+  boundB (bOff s x) = let h = boundS s in let i = boundSentence x true in simp length-append (omega arith)
 
 boundN : (ns : Names) → sizeN ns ≤ length (flattenN ns)
 unfolding sizeN flattenN
@@ -65,7 +75,7 @@ boundN (nMore ns s l) = let h = boundN ns in simp length-append (omega arith)
 
 boundItem : (x : Item) → sizeItem x ≤ 2 * length (flattenItem x)
 boundItem (declaration a ns b) = let h = boundN ns in simp length-append (omega arith)
-boundItem (function a x s l v b) = let h = boundS v in simp length-append (omega arith)
+boundItem (function a x s l v b) = let h = boundB v in simp length-append (omega arith)
 
 -- a tree has at most twice as many rows as the tokens that it flattens to
 pub bound : {p : Program} {l : List Flat} → Loose p l → sizeP p ≤ 2 * length l

@@ -7,15 +7,15 @@ use native.Mathlib.Omega.{arith}
 use Rattle.refal_ast.specs.Kinds.{tokEntry, tokExtern, tokLBrace, tokRBrace}
 use Rattle.refal_ast.specs.Kinds.{tokComma, tokSemicolon, tokEof}
 use Rattle.refal_ast.specs.Tokens.{Token}
-use Rattle.refal_ast.specs.Tree.{Sentences}
+use Rattle.refal_ast.specs.Tree.{Body}
 use Rattle.refal_ast.specs.Tree.{Names, nOne, nMore, Item, declaration, function, Program, p0, pMore, depthItem, depthP}
 use Rattle.refal_ast.specs.Flatten.{Flat, mark, nameOf, flatsOf, flatEntry, flattenItem}
 use Rattle.refal_ast.specs.Flatten.{Loose, loose-none, loose-semicolon, loose-item}
-use Rattle.refal_parser.specs.Machine.{Heading, body, outside, wantsName, wantsMore, named, entered, headed, between, tree, run}
-use Rattle.refal_demands.proofs.Flats.{flatS, flatN, flatItem, flatItem-is}
+use Rattle.refal_parser.specs.Machine.{Heading, body, outside, wantsName, wantsMore, named, entered, headed, tree, run}
+use Rattle.refal_demands.proofs.Flats.{flatB, flatN, flatItem, flatItem-is}
 use Rattle.refal_demands.proofs.Respan.{respanP, eraseItem, eraseP}
 use Rattle.refal_demands.proofs.Eat.{runAt, eat}
-use Rattle.refal_demands.proofs.ReadsSentences.{readsS, useS}
+use Rattle.refal_demands.proofs.ReadsSentences.{readsB, useB}
 
 -- ---- names, which have no spans
 record ReadsN (L : ℕ) (p : Program) (ts : List Token) (a : ℕ) (ns : Names) (r : List Flat) : Type 0 where
@@ -62,12 +62,11 @@ readsI (declaration a ns b) L p ts r l e =
     eat L p ts₂ (mark tokSemicolon) r (named a₁ ns) k₂ (λ a₃ b₃ ts₃ k₃ e₃.
     record { y = declaration a₁ ns b₃; rest = ts₃; same = refl; after = k₃; means = e₁ ∙ e₂ ∙ e₃ })))
 readsI (function a x m n v b) L p ts r l e =
-    reads-head x L p ts m n (mark tokLBrace ∷ flatS v (mark tokRBrace ∷ r)) e (λ a₀ ts₀ k₀ e₀.
+    reads-head x L p ts m n (mark tokLBrace ∷ flatB v (mark tokRBrace ∷ r)) e (λ a₀ ts₀ k₀ e₀.
     let h : Heading = record { from = a₀; entry = x; start = m; len = n } in
-    eat L p ts₀ (mark tokLBrace) (flatS v (mark tokRBrace ∷ r)) (headed h) k₀ (λ a₁ b₁ ts₁ k₁ e₁.
-    useS (readsS v L p ts₁ L (body h) (mark tokRBrace ∷ r) l k₁) (λ v₂ ts₂ m₂ k₂ e₂.
-    eat L p ts₂ (mark tokRBrace) r (between L (body h) v₂) k₂ (λ a₃ b₃ ts₃ k₃ e₃.
-    record { y = function a₀ x m n v₂ b₃; rest = ts₃; same = ap (λ (y : Sentences). function 0 x m n y 0) m₂; after = k₃; means = e₀ ∙ e₁ ∙ e₂ ∙ e₃ }))))
+    eat L p ts₀ (mark tokLBrace) (flatB v (mark tokRBrace ∷ r)) (headed h) k₀ (λ a₁ b₁ ts₁ k₁ e₁.
+    useB (readsB v L p ts₁ L (body h) r l k₁) (λ v₂ b₂ ts₂ m₂ k₂ e₂.
+    record { y = function a₀ x m n v₂ b₂; rest = ts₂; same = ap (λ (y : Body). function 0 x m n y 0) m₂; after = k₂; means = e₀ ∙ e₁ ∙ e₂ })))
 
 -- ---- programs
 record ReadsP (L : ℕ) (ts : List Token) (s : Program) (r : List Flat) : Type 0 where

@@ -1,5 +1,5 @@
 -- The machine takes the first token of a list of which the flattened form is known.
-use mathlib.Core.Path.{_≡_, ap}
+use mathlib.Core.Path.{_≡_, sym, ap, _∙_}
 use Prim.Native.Nat.{ℕ}
 use mathlib.Core.List.{List, [], _∷_}
 use native.Mathlib.Omega.{arith}
@@ -44,3 +44,14 @@ pub eat : {A : Type 0} (L : ℕ) (p : Program) (ts : List Token) (c : Flat) (r :
     → ((a b : ℕ) (rest : List Token) → flatsOf rest ≡ r → runAt L p ts st ≡ afterwards L p rest (stepOn L rest st (made c a b)) → A) → A
 unfolding run
 eat L p ts c r st e k = let h = first ts c r e in k (h .a) (h .b) (h .rest) (h .after) (ap (λ (l : List Token). runAt L p l st) (h .is))
+
+-- two states that do the same at the first token
+pub alike : (L : ℕ) (p : Program) (ts : List Token) (c : Flat) (r : List Flat) (st st' : State) → flatsOf ts ≡ c ∷ r
+    → ((a b x y : ℕ) → step L st (made c a b) x y ≡ step L st' (made c a b) x y) → runAt L p ts st ≡ runAt L p ts st'
+unfolding run
+alike L p ts c r st st' e u =
+    let h = first ts c r e in
+    let t = made c (h .a) (h .b) in
+    ap (λ (l : List Token). runAt L p l st) (h .is)
+    ∙ ap (λ (z : Step). afterwards L p (h .rest) z) (u (h .a) (h .b) (nextFrom t (h .rest)) (nextTo t (h .rest)))
+    ∙ sym (ap (λ (l : List Token). runAt L p l st') (h .is))

@@ -2,18 +2,19 @@
 -- that agree in every word but the two of the span, and a tree's rows from row k on are its rows from row 0 on, shifted.
 use mathlib.Core.Path.{_≡_, refl, sym, subst, _∙_}
 use Prim.Native.Nat.{ℕ, zero, suc, _+_}
+use mathlib.Core.Bool.{Bool, true, false}
 use mathlib.Core.List.{List, [], _∷_, _++_}
 use native.Mathlib.Omega.{arith}
 use lib.ListN.{length, getD}
 use Rattle.refal_ast.specs.Tree.{Leaf, symbol, variable, Term, leaf, bracket, call, Terms, t0, tMore, Right, rTerms, rBlock, Condition, condition, Conditions, c0, cMore}
-use Rattle.refal_ast.specs.Tree.{End, eTerms, eBlock, Sentence, sentence, Sentences, s0, sMore, Names, nOne, nMore, Item, declaration, function, Program, p0, pMore}
-use Rattle.refal_ast.specs.Tree.{sizeT, sizeRight, sizeC, sizeEnd, sizeS, sizeN, sizeP}
-use Rattle.refal_ast.specs.Encode.{leafRow, endTerms, encTerm, encT, encTerms, encRight, encCondition, encC, encEnd, encSentence, encS, encN, encItem, encP}
+use Rattle.refal_ast.specs.Tree.{End, eTerms, eBlock, Sentence, sentence, Sentences, s0, sMore, Body, bAll, bOff, Names, nOne, nMore, Item, declaration, function, Program, p0, pMore}
+use Rattle.refal_ast.specs.Tree.{sizeT, sizeRight, sizeC, sizeEnd, sizeS, sizeB, sizeN, sizeP}
+use Rattle.refal_ast.specs.Encode.{leafRow, endTerms, encTerm, encT, encTerms, encRight, encCondition, encC, encEnd, encSentence, encS, encB, encN, encItem, encP}
 use Rattle.refal_ast.specs.declared.tree.Symbol.the-variants.{Char, Identifier, Number}
 use Rattle.refal_demands.specs.Spans.{OutsideSpan, SameButSpans}
 use Rattle.refal_demands.specs.Edge.{shift}
-use Rattle.refal_demands.proofs.Respan.{respanTerm, respanT, respanRight, respanCondition, respanC, respanEnd, respanSentence, respanS, respanItem, respanP, eraseP, sameP}
-use Rattle.refal_demands.proofs.Respan.{size-respanT, size-respanRight, size-respanC, size-respanEnd, size-respanS, size-respanP}
+use Rattle.refal_demands.proofs.Respan.{respanTerm, respanT, respanRight, respanCondition, respanC, respanEnd, respanSentence, respanS, respanB, respanItem, respanP, eraseP, sameP}
+use Rattle.refal_demands.proofs.Respan.{size-respanT, size-respanRight, size-respanC, size-respanEnd, size-respanS, size-respanB, size-respanP}
 
 -- row by row
 data Moved (h : ℕ → ℕ) (k : ℕ) : List ℕ → List ℕ → Type 0 where
@@ -57,7 +58,7 @@ module _ (h : ℕ → ℕ) (z : 0 ≡ h 0) (k : ℕ) where
     movedRight : (x : Right) (n n' : ℕ) → n' ≡ k + n → Moved h k (encRight x n) (encRight (respanRight x h) n')
     movedRight (rTerms f) n n' e = moved-terms f n n' e
     movedRight (rBlock a v b) n n' e =
-        let i = size-respanS h v in let q : n' + 1 + sizeS (respanS v h) ≡ k + (n + 1 + sizeS v) = omega arith in moved-row refl refl q (movedS v (n + 1) (n' + 1) (omega arith))
+        let i = size-respanB h v in let q : n' + 1 + sizeB (respanB v h) ≡ k + (n + 1 + sizeB v) = omega arith in moved-row refl refl q (movedB v (n + 1) (n' + 1) (omega arith))
 
     movedCondition : (x : Condition) (n n' : ℕ) → n' ≡ k + n → Moved h k (encCondition x n) (encCondition (respanCondition x h) n')
     movedCondition (condition a f x b) n n' e =
@@ -73,13 +74,13 @@ module _ (h : ℕ → ℕ) (z : 0 ≡ h 0) (k : ℕ) where
     movedEnd : (x : End) (n n' : ℕ) → n' ≡ k + n → Moved h k (encEnd x n) (encEnd (respanEnd x h) n')
     movedEnd (eTerms f) n n' e = moved-terms f n n' e
     movedEnd (eBlock a f v b) n n' e =
-        let i = size-respanT h f in let j = size-respanS h v in
-        let q : endTerms (respanT f h) (n' + 1) + sizeS (respanS v h) ≡ k + (endTerms f (n + 1) + sizeS v) = omega arith in
+        let i = size-respanT h f in let j = size-respanB h v in
+        let q : endTerms (respanT f h) (n' + 1) + sizeB (respanB v h) ≡ k + (endTerms f (n + 1) + sizeB v) = omega arith in
         moved-row refl refl q
-        (then-moved (moved-terms f (n + 1) (n' + 1) (omega arith)) (movedS v (endTerms f (n + 1)) (endTerms (respanT f h) (n' + 1)) (omega arith)))
+        (then-moved (moved-terms f (n + 1) (n' + 1) (omega arith)) (movedB v (endTerms f (n + 1)) (endTerms (respanT f h) (n' + 1)) (omega arith)))
 
-    movedSentence : (x : Sentence) (n n' : ℕ) → n' ≡ k + n → Moved h k (encSentence x n) (encSentence (respanSentence x h) n')
-    movedSentence (sentence a f cs x b) n n' e =
+    movedSentence : (off : Bool) (x : Sentence) (n n' : ℕ) → n' ≡ k + n → Moved h k (encSentence off x n) (encSentence off (respanSentence x h) n')
+    movedSentence off (sentence a f cs x b) n n' e =
         let i = size-respanT h f in let j = size-respanC h cs in let l = size-respanEnd h x in
         let m = endTerms f (n + 1) in
         let m' = endTerms (respanT f h) (n' + 1) in
@@ -90,7 +91,11 @@ module _ (h : ℕ → ℕ) (z : 0 ≡ h 0) (k : ℕ) where
 
     movedS : (s : Sentences) (n n' : ℕ) → n' ≡ k + n → Moved h k (encS s n) (encS (respanS s h) n')
     movedS s0 n n' e = moved-none
-    movedS (sMore s x) n n' e = let i = size-respanS h s in then-moved (movedS s n n' e) (movedSentence x (n + sizeS s) (n' + sizeS (respanS s h)) (omega arith))
+    movedS (sMore s x) n n' e = let i = size-respanS h s in then-moved (movedS s n n' e) (movedSentence false x (n + sizeS s) (n' + sizeS (respanS s h)) (omega arith))
+
+    movedB : (v : Body) (n n' : ℕ) → n' ≡ k + n → Moved h k (encB v n) (encB (respanB v h) n')
+    movedB (bAll s) n n' e = movedS s n n' e
+    movedB (bOff s x) n n' e = let i = size-respanS h s in then-moved (movedS s n n' e) (movedSentence true x (n + sizeS s) (n' + sizeS (respanS s h)) (omega arith))
 
   movedN : (ns : Names) (n n' : ℕ) → n' ≡ k + n → Moved h k (encN ns n) (encN ns n')
   unfolding encN
@@ -102,7 +107,7 @@ module _ (h : ℕ → ℕ) (z : 0 ≡ h 0) (k : ℕ) where
   movedItem (declaration a ns b) n n' e =
       let q : n' + 1 + sizeN ns ≡ k + (n + 1 + sizeN ns) = omega arith in moved-row refl refl q (movedN ns (n + 1) (n' + 1) (omega arith))
   movedItem (function a x s l v b) n n' e =
-      let i = size-respanS h v in let q : n' + 1 + sizeS (respanS v h) ≡ k + (n + 1 + sizeS v) = omega arith in moved-row refl refl q (movedS v (n + 1) (n' + 1) (omega arith))
+      let i = size-respanB h v in let q : n' + 1 + sizeB (respanB v h) ≡ k + (n + 1 + sizeB v) = omega arith in moved-row refl refl q (movedB v (n + 1) (n' + 1) (omega arith))
 
   movedP : (p : Program) (n n' : ℕ) → n' ≡ k + n → Moved h k (encP p n) (encP (respanP p h) n')
   unfolding encP respanP

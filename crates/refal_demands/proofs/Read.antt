@@ -2,12 +2,12 @@
 use mathlib.Core.Path.{_≡_}
 use Prim.Native.Nat.{ℕ, suc, _≤_}
 use mathlib.Core.List.{List, _∷_, _++_}
-use Rattle.refal_ast.specs.Kinds.{tokEntry, tokExtern, tokLBrace, tokRBrace, tokLParen, tokLAngle, tokComma, tokColon, tokEquals}
-use Rattle.refal_ast.specs.Tree.{depthT, depthC, depthS}
+use Rattle.refal_ast.specs.Kinds.{tokEntry, tokExtern, tokLBrace, tokLParen, tokLAngle, tokComma, tokColon, tokEquals}
+use Rattle.refal_ast.specs.Tree.{depthT, depthC, depthEnd, depthS}
 use Rattle.refal_ast.specs.Flatten.{Flat, mark, nameOf, flatEntry}
 use Rattle.refal_parser.specs.Machine.{Heading, Begun, Argument, Block, body, inCondition, inEnding, Place, pattern, argument, matching, result, ending, inBracket, inCall}
 use Rattle.refal_parser.specs.Machine.{State, outside, wantsName, wantsMore, named, entered, headed, between, within, calling, matched, conditioned, equated, blocked, ended}
-use Rattle.refal_demands.proofs.Flats.{flatT, flatC, flatS, flatN}
+use Rattle.refal_demands.proofs.Flats.{flatT, flatC, flatEnd, flatS, flatN}
 
 -- a heading; a sentence so far, after those before it; the argument of a condition and of an ending block, with its `:`
 abbrev pub readH : Heading → List Flat → List Flat
@@ -31,7 +31,7 @@ abbrev pub readX : Place → List Flat → List Flat
 readX (pattern b s a) l = readB b (flatS s l)
 readX (argument b r o) l = readB b (readS r (mark tokComma ∷ l))
 readX (matching b r o g) l = readB b (readG r g l)
-readX (result b r) l = readB b (readS r (mark tokEquals ∷ l))
+readX (result b r q) l = readB b (readS r (mark tokEquals ∷ l))
 readX (ending b r) l = readB b (readS r (mark tokEquals ∷ mark tokComma ∷ l))
 readX (inBracket c f a) l = readX c (flatT f (mark tokLParen ∷ l))
 readX (inCall c f a s n) l = readX c (flatT f (mark tokLAngle ∷ nameOf s n ∷ l))
@@ -48,9 +48,9 @@ read (within d c f) l = readX c (flatT f l)
 read (calling d c f a) l = readX c (flatT f (mark tokLAngle ∷ l))
 read (matched d b r o g) l = readB b (readG r g l)
 read (conditioned d b r) l = readB b (readS r l)
-read (equated d b r) l = readB b (readS r (mark tokEquals ∷ l))
+read (equated d b r q) l = readB b (readS r (mark tokEquals ∷ l))
 read (blocked d b r g) l = readB b (readE r g l)
-read (ended d b r g v e) l = readB b (readE r g (mark tokLBrace ∷ flatS v (mark tokRBrace ∷ l)))
+read (ended d b r z e) l = readB b (readS r (mark tokEquals ∷ flatEnd z l))
 
 -- of L levels d are left: each part is no deeper than the levels left where it stands
 pub record Deep (d : ℕ) (r : Begun) : Type 0 where
@@ -67,7 +67,7 @@ abbrev pub OkX : ℕ → ℕ → Place → Type 0
 OkX L d (pattern b s a) = (depthS s ≤ d) × OkB L d b
 OkX L d (argument b r o) = Deep d r × OkB L d b
 OkX L d (matching b r o g) = Deep d r × (depthT (g .terms) ≤ d) × OkB L d b
-OkX L d (result b r) = Deep d r × OkB L d b
+OkX L d (result b r q) = Deep d r × OkB L d b
 OkX L d (ending b r) = Deep d r × OkB L d b
 OkX L d (inBracket c f a) = (depthT f ≤ suc d) × OkX L (suc d) c
 OkX L d (inCall c f a s n) = (depthT f ≤ suc d) × OkX L (suc d) c
@@ -88,6 +88,6 @@ Ok L (within d c f) = (depthT f ≤ d) × OkX L d c
 Ok L (calling d c f a) = (depthT f ≤ suc d) × OkX L (suc d) c
 Ok L (matched d b r o g) = Deep d r × (depthT (g .terms) ≤ d) × OkB L d b
 Ok L (conditioned d b r) = Deep d r × OkB L d b
-Ok L (equated d b r) = Deep d r × OkB L d b
+Ok L (equated d b r q) = Deep d r × OkB L d b
 Ok L (blocked d b r g) = Deep d r × (depthT (g .terms) ≤ d) × OkB L d b
-Ok L (ended d b r g v e) = Deep d r × (depthT (g .terms) ≤ d) × (suc (depthS v) ≤ d) × OkB L d b
+Ok L (ended d b r z e) = Deep d r × (depthEnd z ≤ d) × OkB L d b

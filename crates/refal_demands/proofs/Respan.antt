@@ -4,8 +4,8 @@ use mathlib.Core.Path.{_≡_, refl}
 use Prim.Native.Nat.{ℕ}
 use native.Mathlib.Omega.{arith}
 use Rattle.refal_ast.specs.Tree.{Term, leaf, bracket, call, Terms, t0, tMore, Right, rTerms, rBlock, Condition, condition, Conditions, c0, cMore}
-use Rattle.refal_ast.specs.Tree.{End, eTerms, eBlock, Sentence, sentence, Sentences, s0, sMore, Item, declaration, function, Program, p0, pMore}
-use Rattle.refal_ast.specs.Tree.{sizeTerm, sizeT, sizeRight, sizeCondition, sizeC, sizeEnd, sizeSentence, sizeS, sizeItem, sizeP}
+use Rattle.refal_ast.specs.Tree.{End, eTerms, eBlock, Sentence, sentence, Sentences, s0, sMore, Body, bAll, bOff, Item, declaration, function, Program, p0, pMore}
+use Rattle.refal_ast.specs.Tree.{sizeTerm, sizeT, sizeRight, sizeCondition, sizeC, sizeEnd, sizeSentence, sizeS, sizeB, sizeItem, sizeP}
 
 unfoldable mutual
   pub respanTerm : Term → (ℕ → ℕ) → Term
@@ -20,7 +20,7 @@ unfoldable mutual
 unfoldable mutual
   pub respanRight : Right → (ℕ → ℕ) → Right
   respanRight (rTerms f) h = rTerms (respanT f h)
-  respanRight (rBlock a v b) h = rBlock (h a) (respanS v h) (h b)
+  respanRight (rBlock a v b) h = rBlock (h a) (respanB v h) (h b)
 
   pub respanCondition : Condition → (ℕ → ℕ) → Condition
   respanCondition (condition a f x b) h = condition (h a) (respanT f h) (respanRight x h) (h b)
@@ -31,7 +31,7 @@ unfoldable mutual
 
   pub respanEnd : End → (ℕ → ℕ) → End
   respanEnd (eTerms f) h = eTerms (respanT f h)
-  respanEnd (eBlock a f v b) h = eBlock (h a) (respanT f h) (respanS v h) (h b)
+  respanEnd (eBlock a f v b) h = eBlock (h a) (respanT f h) (respanB v h) (h b)
 
   pub respanSentence : Sentence → (ℕ → ℕ) → Sentence
   respanSentence (sentence a f cs x b) h = sentence (h a) (respanT f h) (respanC cs h) (respanEnd x h) (h b)
@@ -40,9 +40,13 @@ unfoldable mutual
   respanS s0 h = s0
   respanS (sMore s x) h = sMore (respanS s h) (respanSentence x h)
 
+  pub respanB : Body → (ℕ → ℕ) → Body
+  respanB (bAll s) h = bAll (respanS s h)
+  respanB (bOff s x) h = bOff (respanS s h) (respanSentence x h)
+
 abbrev pub respanItem : Item → (ℕ → ℕ) → Item
 respanItem (declaration a ns b) h = declaration (h a) ns (h b)
-respanItem (function a x s l v b) h = function (h a) x s l (respanS v h) (h b)
+respanItem (function a x s l v b) h = function (h a) x s l (respanB v h) (h b)
 
 unfoldable pub respanP : Program → (ℕ → ℕ) → Program
 respanP p0 h = p0
@@ -58,8 +62,17 @@ eraseT f = respanT f (λ (x : ℕ). 0)
 abbrev pub eraseC : Conditions → Conditions
 eraseC cs = respanC cs (λ (x : ℕ). 0)
 
+abbrev pub eraseEnd : End → End
+eraseEnd x = respanEnd x (λ (x : ℕ). 0)
+
 abbrev pub eraseS : Sentences → Sentences
 eraseS s = respanS s (λ (x : ℕ). 0)
+
+abbrev pub eraseSentence : Sentence → Sentence
+eraseSentence x = respanSentence x (λ (x : ℕ). 0)
+
+abbrev pub eraseB : Body → Body
+eraseB v = respanB v (λ (x : ℕ). 0)
 
 abbrev pub eraseItem : Item → Item
 eraseItem x = respanItem x (λ (x : ℕ). 0)
@@ -85,7 +98,7 @@ mutual
 
   sameRight : (x : Right) → respanRight x (λ (x : ℕ). x) ≡ x
   sameRight (rTerms f) = let h = sameT f in cc
-  sameRight (rBlock a v b) = let h = sameS v in cc
+  sameRight (rBlock a v b) = let h = sameB v in cc
 
   sameCondition : (x : Condition) → respanCondition x (λ (x : ℕ). x) ≡ x
   sameCondition (condition a f x b) = let h = sameT f in let i = sameRight x in cc
@@ -96,7 +109,7 @@ mutual
 
   sameEnd : (x : End) → respanEnd x (λ (x : ℕ). x) ≡ x
   sameEnd (eTerms f) = let h = sameT f in cc
-  sameEnd (eBlock a f v b) = let h = sameT f in let i = sameS v in cc
+  sameEnd (eBlock a f v b) = let h = sameT f in let i = sameB v in cc
 
   sameSentence : (x : Sentence) → respanSentence x (λ (x : ℕ). x) ≡ x
   sameSentence (sentence a f cs x b) = let h = sameT f in let i = sameC cs in let j = sameEnd x in cc
@@ -105,9 +118,13 @@ mutual
   sameS s0 = refl
   sameS (sMore s x) = let h = sameS s in let i = sameSentence x in cc
 
+  sameB : (v : Body) → respanB v (λ (x : ℕ). x) ≡ v
+  sameB (bAll s) = let h = sameS s in cc
+  sameB (bOff s x) = let h = sameS s in let i = sameSentence x in cc
+
 sameItem : (x : Item) → respanItem x (λ (x : ℕ). x) ≡ x
 sameItem (declaration a ns b) = refl
-sameItem (function a x s l v b) = let h = sameS v in cc
+sameItem (function a x s l v b) = let h = sameB v in cc
 
 pub sameP : (p : Program) → respanP p (λ (x : ℕ). x) ≡ p
 unfolding respanP
@@ -133,7 +150,7 @@ module _ (h : ℕ → ℕ) where
 
     pub size-respanRight : (x : Right) → sizeRight (respanRight x h) ≡ sizeRight x
     size-respanRight (rTerms f) = let i = size-respanT f in omega arith
-    size-respanRight (rBlock a v b) = let i = size-respanS v in omega arith
+    size-respanRight (rBlock a v b) = let i = size-respanB v in omega arith
 
     size-respanCondition : (x : Condition) → sizeCondition (respanCondition x h) ≡ sizeCondition x
     size-respanCondition (condition a f x b) = let i = size-respanT f in let j = size-respanRight x in omega arith
@@ -144,7 +161,7 @@ module _ (h : ℕ → ℕ) where
 
     pub size-respanEnd : (x : End) → sizeEnd (respanEnd x h) ≡ sizeEnd x
     size-respanEnd (eTerms f) = let i = size-respanT f in omega arith
-    size-respanEnd (eBlock a f v b) = let i = size-respanT f in let j = size-respanS v in omega arith
+    size-respanEnd (eBlock a f v b) = let i = size-respanT f in let j = size-respanB v in omega arith
 
     size-respanSentence : (x : Sentence) → sizeSentence (respanSentence x h) ≡ sizeSentence x
     size-respanSentence (sentence a f cs x b) = let i = size-respanT f in let j = size-respanC cs in let k = size-respanEnd x in omega arith
@@ -153,9 +170,13 @@ module _ (h : ℕ → ℕ) where
     size-respanS s0 = refl
     size-respanS (sMore s x) = let i = size-respanS s in let j = size-respanSentence x in omega arith
 
+    pub size-respanB : (v : Body) → sizeB (respanB v h) ≡ sizeB v
+    size-respanB (bAll s) = size-respanS s
+    size-respanB (bOff s x) = let i = size-respanS s in let j = size-respanSentence x in omega arith
+
   size-respanItem : (x : Item) → sizeItem (respanItem x h) ≡ sizeItem x
   size-respanItem (declaration a ns b) = refl
-  size-respanItem (function a x s l v b) = let i = size-respanS v in omega arith
+  size-respanItem (function a x s l v b) = let i = size-respanB v in omega arith
 
   pub size-respanP : (p : Program) → sizeP (respanP p h) ≡ sizeP p
   unfolding sizeP respanP

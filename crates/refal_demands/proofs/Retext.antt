@@ -13,12 +13,12 @@ use Rattle.refal_ast.specs.Kinds.{tokComma, tokColon, tokEquals, tokSemicolon}
 use Rattle.refal_ast.specs.Check.{usesText}
 use Rattle.refal_ast.specs.Encode.{letterOf}
 use Rattle.refal_ast.specs.Tree.{Leaf, symbol, variable, Term, leaf, bracket, call, Terms, t0, tMore, Right, rTerms, rBlock, Condition, condition, Conditions, c0, cMore}
-use Rattle.refal_ast.specs.Tree.{End, eTerms, eBlock, Sentence, sentence, Sentences, s0, sMore, Names, nOne, nMore, Item, declaration, function, Program, p0, pMore}
-use Rattle.refal_ast.specs.Tree.{sizeTerm, sizeT, sizeRight, sizeCondition, sizeC, sizeEnd, sizeSentence, sizeS, sizeN, sizeItem, sizeP}
-use Rattle.refal_ast.specs.Tree.{depthTerm, depthT, depthRight, depthCondition, depthC, depthEnd, depthSentence, depthS, depthItem, depthP}
-use Rattle.refal_ast.specs.Flatten.{Flat, flatToken, mark, nameOf, flatLeaf, flatEntry, flattenP}
+use Rattle.refal_ast.specs.Tree.{End, eTerms, eBlock, Sentence, sentence, Sentences, s0, sMore, Body, bAll, bOff, Names, nOne, nMore, Item, declaration, function, Program, p0, pMore}
+use Rattle.refal_ast.specs.Tree.{sizeTerm, sizeT, sizeRight, sizeCondition, sizeC, sizeEnd, sizeSentence, sizeS, sizeB, sizeN, sizeItem, sizeP}
+use Rattle.refal_ast.specs.Tree.{depthTerm, depthT, depthRight, depthCondition, depthC, depthEnd, depthSentence, depthS, depthB, depthItem, depthP}
+use Rattle.refal_ast.specs.Flatten.{Flat, flatToken, mark, nameOf, flatLeaf, flatEntry, flatOff, flattenP}
 use Rattle.refal_ast.specs.declared.tree.Symbol.the-variants.{Char, Identifier, Number}
-use Rattle.refal_demands.proofs.Flats.{flatTerm, flatT, flatRight, flatCondition, flatC, flatEnd, flatSentence, flatS, flatN, flatItem, flatP, flatP-is}
+use Rattle.refal_demands.proofs.Flats.{flatTerm, flatT, flatRight, flatCondition, flatC, flatEnd, flatSentence, flatS, flatB, flatN, flatItem, flatP, flatP-is}
 
 -- d has the kind and the detail of c, and no text where its kind uses none
 pub record Alike (c d : Flat) : Type 0 where
@@ -66,6 +66,11 @@ module _ {A : Type 0} where
       k (symbol (Number (d .start) (d .len))) m' (ap (λ (z : Flat). z ∷ m') (a-text (flatToken tokNumber 0 s l) d a)) h
   oneLeaf (variable v s l) r m (alike-more {d = d} {m = m'} a h) k =
       k (variable v (d .start) (d .len)) m' (ap (λ (z : Flat). z ∷ m') (a-text (flatToken tokVariable (letterOf v) s l) d a)) h
+
+-- a `;` that is there, or left off
+semicolon : {A : Type 0} (off : Bool) (r m : List Flat) → AllAlike (flatOff off ++ r) m → ((m' : List Flat) → m ≡ flatOff off ++ m' → AllAlike r m' → A) → A
+semicolon true r m h k = k m refl h
+semicolon false r m h k = same (mark tokSemicolon) refl refl refl r m h k
 
 -- ---- a part X of a tree, before the tokens r, with the texts of m
 record Anew {X : Type 0} (flat : X → List Flat → List Flat) (depth size : X → ℕ) (f : X) (r m : List Flat) : Type 0 where
@@ -125,13 +130,13 @@ mutual
   retextRight (rTerms f) r m h =
       anew (retextT f r m h) (λ f₁ m₁ e₁ h₁ d₁ s₁. record { g = rTerms f₁; rest = m₁; is = e₁; like = h₁; deep = d₁; rows = omega arith })
   retextRight (rBlock a v b) r m h =
-      same (mark tokLBrace) refl refl refl (flatS v (mark tokRBrace ∷ r)) m h (λ m₁ e₁ h₁.
-      anew (retextS v (mark tokRBrace ∷ r) m₁ h₁) (λ v₂ m₂ e₂ h₂ d₂ s₂.
+      same (mark tokLBrace) refl refl refl (flatB v (mark tokRBrace ∷ r)) m h (λ m₁ e₁ h₁.
+      anew (retextB v (mark tokRBrace ∷ r) m₁ h₁) (λ v₂ m₂ e₂ h₂ d₂ s₂.
       same (mark tokRBrace) refl refl refl r m₂ h₂ (λ m₃ e₃ h₃.
       record {
         g = rBlock a v₂ b;
         rest = m₃;
-        is = e₁ ∙ ap (λ (l : List Flat). mark tokLBrace ∷ l) (e₂ ∙ ap (flatS v₂) e₃);
+        is = e₁ ∙ ap (λ (l : List Flat). mark tokLBrace ∷ l) (e₂ ∙ ap (flatB v₂) e₃);
         like = h₃;
         deep = omega arith;
         rows = omega arith;
@@ -163,30 +168,30 @@ mutual
   retextEnd (eTerms f) r m h =
       anew (retextT f r m h) (λ f₁ m₁ e₁ h₁ d₁ s₁. record { g = eTerms f₁; rest = m₁; is = e₁; like = h₁; deep = d₁; rows = omega arith })
   retextEnd (eBlock a f v b) r m h =
-      let z = mark tokColon ∷ mark tokLBrace ∷ flatS v (mark tokRBrace ∷ r) in
+      let z = mark tokColon ∷ mark tokLBrace ∷ flatB v (mark tokRBrace ∷ r) in
       same (mark tokComma) refl refl refl (flatT f z) m h (λ m₁ e₁ h₁.
       anew (retextT f z m₁ h₁) (λ f₂ m₂ e₂ h₂ d₂ s₂.
-      same (mark tokColon) refl refl refl (mark tokLBrace ∷ flatS v (mark tokRBrace ∷ r)) m₂ h₂ (λ m₃ e₃ h₃.
-      same (mark tokLBrace) refl refl refl (flatS v (mark tokRBrace ∷ r)) m₃ h₃ (λ m₄ e₄ h₄.
-      anew (retextS v (mark tokRBrace ∷ r) m₄ h₄) (λ v₅ m₅ e₅ h₅ d₅ s₅.
+      same (mark tokColon) refl refl refl (mark tokLBrace ∷ flatB v (mark tokRBrace ∷ r)) m₂ h₂ (λ m₃ e₃ h₃.
+      same (mark tokLBrace) refl refl refl (flatB v (mark tokRBrace ∷ r)) m₃ h₃ (λ m₄ e₄ h₄.
+      anew (retextB v (mark tokRBrace ∷ r) m₄ h₄) (λ v₅ m₅ e₅ h₅ d₅ s₅.
       same (mark tokRBrace) refl refl refl r m₅ h₅ (λ m₆ e₆ h₆.
       record {
         g = eBlock a f₂ v₅ b;
         rest = m₆;
         is = e₁ ∙ ap (λ (l : List Flat). mark tokComma ∷ l) (e₂ ∙ ap (flatT f₂) (e₃ ∙ ap (λ (l : List Flat). mark tokColon ∷ l)
-            (e₄ ∙ ap (λ (l : List Flat). mark tokLBrace ∷ l) (e₅ ∙ ap (flatS v₅) e₆))));
+            (e₄ ∙ ap (λ (l : List Flat). mark tokLBrace ∷ l) (e₅ ∙ ap (flatB v₅) e₆))));
         like = h₆;
         deep = omega arith;
         rows = omega arith;
       }))))))
 
-  retextSentence : (x : Sentence) (r m : List Flat) → AllAlike (flatSentence x r) m → Anew flatSentence depthSentence sizeSentence x r m
-  retextSentence (sentence a f cs x b) r m h =
-      anew (retextT f (flatC cs (mark tokEquals ∷ flatEnd x (mark tokSemicolon ∷ r))) m h) (λ f₁ m₁ e₁ h₁ d₁ s₁.
-      anew (retextC cs (mark tokEquals ∷ flatEnd x (mark tokSemicolon ∷ r)) m₁ h₁) (λ c₂ m₂ e₂ h₂ d₂ s₂.
-      same (mark tokEquals) refl refl refl (flatEnd x (mark tokSemicolon ∷ r)) m₂ h₂ (λ m₃ e₃ h₃.
-      anew (retextEnd x (mark tokSemicolon ∷ r) m₃ h₃) (λ x₄ m₄ e₄ h₄ d₄ s₄.
-      same (mark tokSemicolon) refl refl refl r m₄ h₄ (λ m₅ e₅ h₅.
+  retextSentence : (off : Bool) (x : Sentence) (r m : List Flat) → AllAlike (flatSentence off x r) m → Anew (flatSentence off) depthSentence sizeSentence x r m
+  retextSentence off (sentence a f cs x b) r m h =
+      anew (retextT f (flatC cs (mark tokEquals ∷ flatEnd x (flatOff off ++ r))) m h) (λ f₁ m₁ e₁ h₁ d₁ s₁.
+      anew (retextC cs (mark tokEquals ∷ flatEnd x (flatOff off ++ r)) m₁ h₁) (λ c₂ m₂ e₂ h₂ d₂ s₂.
+      same (mark tokEquals) refl refl refl (flatEnd x (flatOff off ++ r)) m₂ h₂ (λ m₃ e₃ h₃.
+      anew (retextEnd x (flatOff off ++ r) m₃ h₃) (λ x₄ m₄ e₄ h₄ d₄ s₄.
+      semicolon off r m₄ h₄ (λ m₅ e₅ h₅.
       record {
         g = sentence a f₁ c₂ x₄ b;
         rest = m₅;
@@ -199,9 +204,17 @@ mutual
   retextS : (s : Sentences) (r m : List Flat) → AllAlike (flatS s r) m → Anew flatS depthS sizeS s r m
   retextS s0 r m h = record { g = s0; rest = m; is = refl; like = h; deep = refl; rows = refl }
   retextS (sMore s x) r m h =
-      anew (retextS s (flatSentence x r) m h) (λ s₁ m₁ e₁ h₁ d₁ n₁.
-      anew (retextSentence x r m₁ h₁) (λ x₂ m₂ e₂ h₂ d₂ n₂.
+      anew (retextS s (flatSentence false x r) m h) (λ s₁ m₁ e₁ h₁ d₁ n₁.
+      anew (retextSentence false x r m₁ h₁) (λ x₂ m₂ e₂ h₂ d₂ n₂.
       record { g = sMore s₁ x₂; rest = m₂; is = e₁ ∙ ap (flatS s₁) e₂; like = h₂; deep = omega arith; rows = omega arith }))
+
+  retextB : (v : Body) (r m : List Flat) → AllAlike (flatB v r) m → Anew flatB depthB sizeB v r m
+  retextB (bAll s) r m h =
+      anew (retextS s r m h) (λ s₁ m₁ e₁ h₁ d₁ n₁. record { g = bAll s₁; rest = m₁; is = e₁; like = h₁; deep = d₁; rows = n₁ })
+  retextB (bOff s x) r m h =
+      anew (retextS s (flatSentence true x r) m h) (λ s₁ m₁ e₁ h₁ d₁ n₁.
+      anew (retextSentence true x r m₁ h₁) (λ x₂ m₂ e₂ h₂ d₂ n₂.
+      record { g = bOff s₁ x₂; rest = m₂; is = e₁ ∙ ap (flatS s₁) e₂; like = h₂; deep = omega arith; rows = omega arith }))
 
 -- names nest nothing
 flatDepthN : Names → ℕ
@@ -235,16 +248,16 @@ retextItem (declaration a ns b) r m h =
       rows = omega arith;
     })))
 retextItem (function a x s l v b) r m h =
-    entry x (nameOf s l ∷ mark tokLBrace ∷ flatS v (mark tokRBrace ∷ r)) m h (λ m₁ e₁ h₁.
-    name s l (mark tokLBrace ∷ flatS v (mark tokRBrace ∷ r)) m₁ h₁ (λ s' l' m₂ e₂ h₂.
-    same (mark tokLBrace) refl refl refl (flatS v (mark tokRBrace ∷ r)) m₂ h₂ (λ m₃ e₃ h₃.
-    anew (retextS v (mark tokRBrace ∷ r) m₃ h₃) (λ v₄ m₄ e₄ h₄ d₄ n₄.
+    entry x (nameOf s l ∷ mark tokLBrace ∷ flatB v (mark tokRBrace ∷ r)) m h (λ m₁ e₁ h₁.
+    name s l (mark tokLBrace ∷ flatB v (mark tokRBrace ∷ r)) m₁ h₁ (λ s' l' m₂ e₂ h₂.
+    same (mark tokLBrace) refl refl refl (flatB v (mark tokRBrace ∷ r)) m₂ h₂ (λ m₃ e₃ h₃.
+    anew (retextB v (mark tokRBrace ∷ r) m₃ h₃) (λ v₄ m₄ e₄ h₄ d₄ n₄.
     same (mark tokRBrace) refl refl refl r m₄ h₄ (λ m₅ e₅ h₅.
     record {
       g = function a x s' l' v₄ b;
       rest = m₅;
       is = e₁ ∙ ap (λ (z : List Flat). flatEntry x ++ z)
-          (e₂ ∙ ap (λ (z : List Flat). nameOf s' l' ∷ z) (e₃ ∙ ap (λ (z : List Flat). mark tokLBrace ∷ z) (e₄ ∙ ap (flatS v₄) e₅)));
+          (e₂ ∙ ap (λ (z : List Flat). nameOf s' l' ∷ z) (e₃ ∙ ap (λ (z : List Flat). mark tokLBrace ∷ z) (e₄ ∙ ap (flatB v₄) e₅)));
       like = h₅;
       deep = omega arith;
       rows = omega arith;

@@ -9,8 +9,8 @@ use borrow.Author.Tests.{eqb-true, eqb-false}
 use Rattle.refal_ast.specs.Kinds.{tokEntry, tokExtern, tokIdentifier, tokVariable, tokNumber, tokChar, tokLBrace, tokRBrace, tokLParen, tokRParen}
 use Rattle.refal_ast.specs.Kinds.{tokLAngle, tokRAngle, tokComma, tokColon, tokEquals, tokSemicolon, tokEof}
 use Rattle.refal_ast.specs.Tokens.{Token}
-use Rattle.refal_ast.specs.Tree.{Leaf, variable, leaf, Terms, t0, tMore, Conditions, c0, Sentences, s0, Item, declaration, Program, pMore}
-use Rattle.refal_ast.specs.Tree.{depthT, depthC, depthS, depthItem, depthP}
+use Rattle.refal_ast.specs.Tree.{Leaf, variable, leaf, Terms, t0, tMore, Conditions, c0, End, eTerms, Sentences, s0, Body, bAll, Item, declaration, Program, pMore}
+use Rattle.refal_ast.specs.Tree.{depthT, depthC, depthEnd, depthS, depthB, depthItem, depthP}
 use Rattle.refal_ast.specs.Flatten.{Flat, flatToken, mark, nameOf, flatOf, flatsOf, flatLeaf, flatEntry, flattenItem}
 use Rattle.refal_ast.specs.Flatten.{Loose, loose-semicolon, loose-item}
 use Rattle.refal_ast.specs.declared.tree.VariableKind.{VariableKind}
@@ -18,9 +18,9 @@ use Rattle.refal_ast.specs.declared.tree.VariableKind.the-variants.{Symbol as k
 use Rattle.refal_ast.specs.declared.tree.Term.{Term}
 use Rattle.refal_parser.specs.Machine.{pickTerm, Begun, Block, body, inCondition, inEnding, Place, pattern, argument, matching, result, ending, inBracket, inCall}
 use Rattle.refal_parser.specs.Machine.{State, outside, wantsName, wantsMore, named, entered, headed, between, within, calling, matched, conditioned, equated, blocked, ended}
-use Rattle.refal_parser.specs.Machine.{tree, refuse, Step, go, made, over, stop, pickStep, onKind, opens, closing, only, begun, withCondition, toTerms, functionOf}
-use Rattle.refal_parser.specs.Machine.{afterPattern, afterTerms, endOf, inTerms, atTerms, leave, step, follow, run}
-use Rattle.refal_demands.proofs.Flats.{flatT, flatC, flatS, flatN, flatS-is, flatN-is}
+use Rattle.refal_parser.specs.Machine.{tree, refuse, Step, go, made, over, stop, pickStep, onKind, opens, among, closing, only, begun, withCondition, toTerms, leftOff, functionOf, lastEnd}
+use Rattle.refal_parser.specs.Machine.{afterPattern, afterEnd, endOf, inTerms, atTerms, leave, step, follow, run}
+use Rattle.refal_demands.proofs.Flats.{flatT, flatC, flatEnd, flatS, flatB, flatN, flatB-is, flatN-is}
 use Rattle.refal_demands.proofs.Fields.{Fields, plain, texted, detailed, Ends}
 use Rattle.refal_demands.proofs.Read.{readS, readB, readX, read, Deep, OkB, OkX, Any, any, Ok}
 
@@ -85,35 +85,61 @@ module _ (L : ℕ) (ts : List Token) (next : Next L ts) (r : Program) (t : Token
 
   -- after a pattern and conditions
   soundPattern : (st : State) (d : ℕ) (b : Block) (s : Begun) (other : Step) → ((ks : List Flat) → read st ks ≡ readB b (readS s ks)) → (Ok L st → Deep d s × OkB L d b)
-      → Good st other → Good st (afterPattern d b s t x y other)
+      → Good st other → Good st (among (afterPattern d b s t x) t other)
   unfolding flatT depthT
   soundPattern st d b s other u v g =
       on-cases (Good st) (t .kind) tokComma _ _ (λ e. goes st _ _ (plain t tokComma (λ d s l. refl) fields e) (u _) (λ o. (omega arith, v o))) (λ n₁.
       on-cases (Good st) (t .kind) tokEquals _ _ (λ e. goes st _ _ (plain t tokEquals (λ d s l. refl) fields e) (u _) v) (λ n₂. g))
 
-  soundTerms : (st : State) (d : ℕ) (b : Block) (s : Begun) → ((ks : List Flat) → read st ks ≡ readB b (readS s ks)) → (Ok L st → Deep d s × OkB L d b)
-      → Good st (afterTerms d b s t x y)
-  soundTerms st d b s u v =
-      soundPattern st d b s _ u v (on-cases (Good st) (t .kind) tokEof _ _ (λ e. stops st _ _ _ _ _) (λ n. stops st _ _ _ _ _))
+  -- where a block's `}` leads
+  soundLeave : (st : State) (d : ℕ) (b : Block) (v : Body) → ((ks : List Flat) → read st ks ≡ readB b (flatB v ks)) → (Ok L st → (depthB v ≤ d) × OkB L d b)
+      → t .kind ≡ tokRBrace → Good st (leave d b v (t .to))
+  unfolding flatT flatS flatC depthT depthC depthS
+  soundLeave st d (body h) v u w e =
+      ends-item st (functionOf h v (t .to)) (mark tokRBrace) (plain t tokRBrace (λ d s l. refl) fields e)
+      (u (mark tokRBrace ∷ flatsOf ts)
+      ∙ ap (λ (q : List Flat). flatEntry (h .entry) ++ (nameOf (h .start) (h .len) ∷ mark tokLBrace ∷ q)) (flatB-is v (mark tokRBrace ∷ flatsOf ts)) ∙ simp append-assoc)
+      (λ o. let h₀ = w o .0 in let h₁ = w o .1 in omega arith)
+  soundLeave st d (inCondition b z a g) v u w e =
+      goes st _ (mark tokRBrace) (plain t tokRBrace (λ d s l. refl) fields e) (u _)
+      (λ o. let q = w o in (record { sentences = q .1 .0 .sentences; pattern = q .1 .0 .pattern; conditions = let h₀ = q .0 in let h₁ = q .1 .0 .conditions in let h₂ = q .1 .1 in omega arith }, q .1 .2))
+  soundLeave st d (inEnding b z g) v u w e =
+      goes st _ (mark tokRBrace) (plain t tokRBrace (λ d s l. refl) fields e) (u _)
+      (λ o. let q = w o in (q .1 .0, (let h₀ = q .0 in let h₁ = q .1 .1 in omega arith), q .1 .2))
+
+  -- after what a sentence ends in
+  soundFinish : (st : State) (d : ℕ) (b : Block) (s : Begun) (z : End) (e : ℕ) (other : Step) → ((ks : List Flat) → read st ks ≡ readB b (readS s (mark tokEquals ∷ flatEnd z ks)))
+      → (Ok L st → Deep d s × (depthEnd z ≤ d) × OkB L d b) → Good st other → Good st (among (afterEnd d b s z e t) t other)
+  unfolding flatT flatS flatC depthT depthC depthS
+  soundFinish st d b s z e other u w g =
+      on-cases (Good st) (t .kind) tokRBrace _ _ (λ k. soundLeave st d b (leftOff s z e) u (λ o. (whole (w o), w o .2)) k) (λ n₁.
+      on-cases (Good st) (t .kind) tokSemicolon _ _ (λ k. goes st _ _ (plain t tokSemicolon (λ d s l. refl) fields k) (u _) (λ o. (whole (w o), w o .2))) (λ n₂. g))
+    where
+      whole : Deep d s × (depthEnd z ≤ d) × OkB L d b → depthB (leftOff s z e) ≤ d
+      whole o = let h₁ = o .0 .sentences in let h₂ = o .0 .pattern in let h₃ = o .0 .conditions in let h₄ = o .1 in omega arith
+
+  -- Eof, or another kind, where terms end
+  unclosed : (st : State) (k : ℕ) → Good st (closing k [] t x y)
+  unclosed st k = on-cases (Good st) (t .kind) tokEof _ _ (λ e. stops st _ _ _ _ _) (λ n. stops st _ _ _ _ _)
 
   -- the token that closes terms
   closes : (st st' : State) (k : ℕ) → (t .kind ≡ k → flatOf t ≡ mark k) → read st (mark k ∷ flatsOf ts) ≡ read st' (flatsOf ts)
       → (Ok L st → Ok L st') → Good st (closing k (only k st') t x y)
   closes st st' k m f g =
-      on-cases (Good st) (t .kind) k _ _ (λ e. goes st st' (mark k) (m e) f g) (λ n.
-      on-cases (Good st) (t .kind) tokEof _ _ (λ e. stops st _ _ _ _ _) (λ n'. stops st _ _ _ _ _))
+      on-cases (Good st) (t .kind) k _ _ (λ e. goes st st' (mark k) (m e) f g) (λ n. unclosed st k)
 
   soundEnd : (d : ℕ) (c : Place) (f : Terms) → Good (within d c f) (endOf d c f t x y)
   unfolding flatT flatS flatC depthT depthC depthS
   soundEnd d (pattern b s a) f =
-      soundTerms (within d (pattern b s a) f) d b (begun s a f c0) (λ ks. refl) (λ o. (record { sentences = o .1 .0; pattern = o .0; conditions = omega arith }, o .1 .1))
+      soundPattern (within d (pattern b s a) f) d b (begun s a f c0) _ (λ ks. refl) (λ o. (record { sentences = o .1 .0; pattern = o .0; conditions = omega arith }, o .1 .1))
+      (unclosed _ tokEquals)
   soundEnd d (argument b s a) f = closes _ _ tokColon (plain t tokColon (λ d s l. refl) fields) refl (λ o. (o .1 .0, o .0, o .1 .1))
   soundEnd d (matching b s a g) f =
-      soundTerms (within d (matching b s a g) f) d b (withCondition s (toTerms a g f)) (λ ks. refl)
+      soundPattern (within d (matching b s a g) f) d b (withCondition s (toTerms a g f)) _ (λ ks. refl)
       (λ o. (record { sentences = o .1 .0 .sentences; pattern = o .1 .0 .pattern; conditions = let h₀ = o .0 in let h₁ = o .1 .0 .conditions in let h₂ = o .1 .1 in omega arith }, o .1 .2))
-  soundEnd d (result b s) f =
-      closes _ _ tokSemicolon (plain t tokSemicolon (λ d s l. refl) fields) refl
-      (λ o. ((let h₀ = o .0 in let h = o .1 .0 in let h₁ = h .sentences in let h₂ = h .pattern in let h₃ = h .conditions in omega arith), o .1 .1))
+      (unclosed _ tokEquals)
+  soundEnd d (result b s q) f =
+      soundFinish (within d (result b s q) f) d b s (eTerms f) (lastEnd f q) _ (λ ks. refl) (λ o. (o .1 .0, o .0, o .1 .1)) (unclosed _ tokSemicolon)
   soundEnd d (ending b s) f = closes _ _ tokColon (plain t tokColon (λ d s l. refl) fields) refl (λ o. (o .1 .0, o .0, o .1 .1))
   soundEnd d (inBracket c g a) f = closes _ _ tokRParen (plain t tokRParen (λ d s l. refl) fields) refl (λ o. ((let h₀ = o .0 in let h₁ = o .1 .0 in omega arith), o .1 .1))
   soundEnd d (inCall c g a s l) f = closes _ _ tokRAngle (plain t tokRAngle (λ d s l. refl) fields) refl (λ o. ((let h₀ = o .0 in let h₁ = o .1 .0 in omega arith), o .1 .1))
@@ -162,20 +188,6 @@ module _ (L : ℕ) (ts : List Token) (next : Next L ts) (r : Program) (t : Token
       let s = soundIn d c t0 (omega arith, v o) p n l₀ h q in
       record { l = s .l; loose = s .loose; flat = ap (λ (z : List Flat). l₀ ++ z) (u (flatOf t ∷ flatsOf ts)) ∙ s .flat; deep = s .deep }
 
-  -- where a block's `}` leads
-  soundLeave : (d : ℕ) (b : Block) (s : Sentences) → t .kind ≡ tokRBrace → Good (between d b s) (leave d b s (t .to))
-  unfolding flatT flatS flatC depthT depthC depthS
-  soundLeave d (body h) s e =
-      ends-item _ (functionOf h s (t .to)) (mark tokRBrace) (plain t tokRBrace (λ d s l. refl) fields e)
-      (ap (λ (q : List Flat). flatEntry (h .entry) ++ (nameOf (h .start) (h .len) ∷ mark tokLBrace ∷ q)) (flatS-is s (mark tokRBrace ∷ flatsOf ts)) ∙ simp append-assoc)
-      (λ o. let h₀ = o .0 in let h₁ = o .1 in omega arith)
-  soundLeave d (inCondition b z a g) s e =
-      goes _ _ (mark tokRBrace) (plain t tokRBrace (λ d s l. refl) fields e) refl
-      (λ o. (record { sentences = o .1 .0 .sentences; pattern = o .1 .0 .pattern; conditions = let h₀ = o .0 in let h₁ = o .1 .0 .conditions in let h₂ = o .1 .1 in omega arith }, o .1 .2))
-  soundLeave d (inEnding b z g) s e =
-      goes _ _ (mark tokRBrace) (plain t tokRBrace (λ d s l. refl) fields e) refl
-      (λ o. (o .1 .0, o .1 .1, (let h₀ = o .0 in omega arith), o .1 .2))
-
   -- an Eof is the last token
   soundStep : (st : State) → (t .kind ≡ tokEof → ts ≡ []) → Good st (step L st t x y)
   unfolding flatT flatS flatC flatN depthT depthC depthS
@@ -221,7 +233,7 @@ module _ (L : ℕ) (ts : List Token) (next : Next L ts) (r : Program) (t : Token
   soundStep (headed h) z =
       on-cases (Good (headed h)) (t .kind) tokLBrace _ _ (λ e. goes _ _ _ (plain t tokLBrace (λ d s l. refl) fields e) refl (λ o. (omega arith, refl))) (λ n. stops _ _ _ _ _ _)
   soundStep (between d b s) z =
-      on-cases (Good (between d b s)) (t .kind) tokRBrace _ _ (λ e. soundLeave d b s e) (λ n₁.
+      on-cases (Good (between d b s)) (t .kind) tokRBrace _ _ (λ e. soundLeave (between d b s) d b (bAll s) (λ ks. refl) (λ o. o) e) (λ n₁.
       on-cases (Good (between d b s)) (t .kind) tokEof _ _ (λ e. stops _ _ _ _ _ _) (λ n₂.
       enters (between d b s) d (pattern b s (t .from)) (λ ks. refl) (λ o. o)))
   soundStep (within d c f) z = soundIn d c f
@@ -235,20 +247,16 @@ module _ (L : ℕ) (ts : List Token) (next : Next L ts) (r : Program) (t : Token
       opening zero e = stops _ _ _ _ _ _
       opening (suc d) e = goes _ _ _ (plain t tokLBrace (λ d s l. refl) fields e) refl (λ o. (omega arith, o))
   soundStep (conditioned d b s) z = soundPattern (conditioned d b s) d b s _ (λ ks. refl) (λ o. o) (stops _ _ _ _ _ _)
-  soundStep (equated d b s) z =
-      on-cases (Good (equated d b s)) (t .kind) tokComma _ _ (λ e. goes _ _ _ (plain t tokComma (λ d s l. refl) fields e) refl (λ o. (omega arith, o))) (λ n.
-      enters (equated d b s) d (result b s) (λ ks. refl) (λ o. o))
+  soundStep (equated d b s q) z =
+      on-cases (Good (equated d b s q)) (t .kind) tokComma _ _ (λ e. goes _ _ _ (plain t tokComma (λ d s l. refl) fields e) refl (λ o. (omega arith, o))) (λ n.
+      enters (equated d b s q) d (result b s q) (λ ks. refl) (λ o. o))
   soundStep (blocked d b s g) z =
       on-cases (Good (blocked d b s g)) (t .kind) tokLBrace _ _ (λ e. opening d e) (λ n. stops _ _ _ _ _ _)
     where
       opening : (d : ℕ) → t .kind ≡ tokLBrace → Good (blocked d b s g) (opens d t (λ (d' : ℕ). between d' (inEnding b s g) s0))
       opening zero e = stops _ _ _ _ _ _
       opening (suc d) e = goes _ _ _ (plain t tokLBrace (λ d s l. refl) fields e) refl (λ o. (omega arith, o))
-  soundStep (ended d b s g v a) z =
-      on-cases (Good (ended d b s g v a)) (t .kind) tokSemicolon _ _
-      (λ e. goes _ _ _ (plain t tokSemicolon (λ d s l. refl) fields e) refl
-      (λ o. ((let h₀ = o .0 in let h₁ = h₀ .sentences in let h₂ = h₀ .pattern in let h₃ = h₀ .conditions in let h₄ = o .1 in let h₅ = o .2 in omega arith), o .3)))
-      (λ n. stops _ _ _ _ _ _)
+  soundStep (ended d b s v a) z = soundFinish (ended d b s v a) d b s v a _ (λ ks. refl) (λ o. o) (stops _ _ _ _ _ _)
 
 pub sound : (L : ℕ) (ts : List Token) → Ends ts → Next L ts
 unfolding run

@@ -12,10 +12,10 @@ use Rattle.refal_ast.specs.Kinds.{nodeDeclaration, nodeName, nodeFunction, node
 use Rattle.refal_ast.specs.Kinds.{nodeIdentifier, nodeNumber, nodeChar, nodeVariable, nodeBracket, nodeCall}
 use Rattle.refal_ast.specs.Limits.{mostBytes}
 use Rattle.refal_ast.specs.Nodes.{node, nodesOf}
-use Rattle.refal_ast.specs.Encode.{letterOf, entryDetail, leafRow, encTerm, encT, encTerms, encRight, encCondition, encC, encEnd, encSentence, encS, encN, encItem, encP}
+use Rattle.refal_ast.specs.Encode.{letterOf, entryDetail, offDetail, leafRow, encTerm, encT, encTerms, encRight, encCondition, encC, encEnd, encSentence, encS, encB, encN, encItem, encP}
 use Rattle.refal_ast.specs.Tree.{Leaf, symbol, variable, Term, leaf, bracket, call, Terms, t0, tMore, Right, rTerms, rBlock, Condition, condition, Conditions, c0, cMore}
-use Rattle.refal_ast.specs.Tree.{End, eTerms, eBlock, Sentence, sentence, Sentences, s0, sMore, Names, nOne, nMore, Item, declaration, function, Program, p0, pMore}
-use Rattle.refal_ast.specs.Flatten.{Flat, mark, nameOf, flatLeaf, flatEntry, flattenP}
+use Rattle.refal_ast.specs.Tree.{End, eTerms, eBlock, Sentence, sentence, Sentences, s0, sMore, Body, bAll, bOff, Names, nOne, nMore, Item, declaration, function, Program, p0, pMore}
+use Rattle.refal_ast.specs.Flatten.{Flat, mark, nameOf, flatLeaf, flatEntry, flatOff, flattenP}
 use Rattle.refal_ast.specs.declared.tree.Symbol.the-variants.{Char, Identifier, Number}
 use Rattle.refal_spelling.specs.Spell.{Spelled, textAt}
 use Rattle.refal_spelling.specs.Spells.{spells}
@@ -23,7 +23,7 @@ use Rattle.refal_spelling.specs.SpellsLaws.{identifier-spells, number-spells, g
 use Rattle.refal_spelling.specs.Good.{Good, entry, extern, identifier, variableOf, number, character, mark as oneByte}
 use Rattle.refal_spelling.specs.Sound.{Sound, AllSound, sound-more}
 use Rattle.refal_spelling.specs.Spellings.{charOk, inSource, rowSpelled, nodesSpelled, allSpelled}
-use Rattle.refal_demands.proofs.Flats.{flatTerm, flatT, flatRight, flatCondition, flatC, flatEnd, flatSentence, flatS, flatN, flatItem, flatP, flatP-is}
+use Rattle.refal_demands.proofs.Flats.{flatTerm, flatT, flatRight, flatCondition, flatC, flatEnd, flatSentence, flatS, flatB, flatN, flatItem, flatP, flatP-is}
 
 -- a Char that reading gives can be written
 char-good : (t : Spelled) → Good t → t .kind ≡ tokChar → charOk (t .detail) ≡ true
@@ -99,13 +99,17 @@ module _ (src : List ℕ) (short : length src ≤ mostBytes) where
   unfolding rowSpelled
   terms f p n = both (row nodeTerms 0 0 0 0 0 _ refl) (p (n + 1))
 
+  after-semicolon : (off : Bool) (r : List Flat) → AllSound src (flatOff off ++ r) → AllSound src r
+  after-semicolon true r h = h
+  after-semicolon false r h = rest h
+
   mutual
     unfolding flatC encC rowSpelled
 
     spelledRight : (x : Right) (r : List Flat) → AllSound src (flatRight x r) → Part (encRight x) r
     spelledRight (rTerms f) r h = let p = spelledT f r h in record { pass = terms f (p .pass); behind = p .behind }
     spelledRight (rBlock a v b) r h =
-        let p = spelledS v (mark tokRBrace ∷ r) (rest h) in
+        let p = spelledB v (mark tokRBrace ∷ r) (rest h) in
         record { pass = λ n. both (row nodeConditionBlock 0 0 0 a b _ refl) (p .pass _); behind = rest (p .behind) }
 
     spelledCondition : (x : Condition) (r : List Flat) → AllSound src (flatCondition x r) → Part (encCondition x) r
@@ -124,22 +128,29 @@ module _ (src : List ℕ) (short : length src ≤ mostBytes) where
     spelledEnd : (x : End) (r : List Flat) → AllSound src (flatEnd x r) → Part (encEnd x) r
     spelledEnd (eTerms f) r h = let p = spelledT f r h in record { pass = terms f (p .pass); behind = p .behind }
     spelledEnd (eBlock a f v b) r h =
-        let p = spelledT f (mark tokColon ∷ mark tokLBrace ∷ flatS v (mark tokRBrace ∷ r)) (rest h) in
-        let q = spelledS v (mark tokRBrace ∷ r) (rest (rest (p .behind))) in
+        let p = spelledT f (mark tokColon ∷ mark tokLBrace ∷ flatB v (mark tokRBrace ∷ r)) (rest h) in
+        let q = spelledB v (mark tokRBrace ∷ r) (rest (rest (p .behind))) in
         record { pass = λ n. both (row nodeEndingBlock 0 0 0 a b _ refl) (both (terms f (p .pass) _) (q .pass _)); behind = rest (q .behind) }
 
-    spelledSentence : (x : Sentence) (r : List Flat) → AllSound src (flatSentence x r) → Part (encSentence x) r
-    spelledSentence (sentence a f cs x b) r h =
-        let p = spelledT f (flatC cs (mark tokEquals ∷ flatEnd x (mark tokSemicolon ∷ r))) h in
-        let q = spelledC cs (mark tokEquals ∷ flatEnd x (mark tokSemicolon ∷ r)) (p .behind) in
-        let t = spelledEnd x (mark tokSemicolon ∷ r) (rest (q .behind)) in
-        record { pass = λ n. both (row nodeSentence 0 0 0 a b _ refl) (both (terms f (p .pass) _) (both (q .pass _) (t .pass _))); behind = rest (t .behind) }
+    spelledSentence : (off : Bool) (x : Sentence) (r : List Flat) → AllSound src (flatSentence off x r) → Part (encSentence off x) r
+    spelledSentence off (sentence a f cs x b) r h =
+        let p = spelledT f (flatC cs (mark tokEquals ∷ flatEnd x (flatOff off ++ r))) h in
+        let q = spelledC cs (mark tokEquals ∷ flatEnd x (flatOff off ++ r)) (p .behind) in
+        let t = spelledEnd x (flatOff off ++ r) (rest (q .behind)) in
+        record { pass = λ n. both (row nodeSentence (offDetail off) 0 0 a b _ refl) (both (terms f (p .pass) _) (both (q .pass _) (t .pass _))); behind = after-semicolon off r (t .behind) }
 
     spelledS : (s : Sentences) (r : List Flat) → AllSound src (flatS s r) → Part (encS s) r
     spelledS s0 r h = record { pass = λ n. none; behind = h }
     spelledS (sMore s x) r h =
-        let p = spelledS s (flatSentence x r) h in
-        let q = spelledSentence x r (p .behind) in
+        let p = spelledS s (flatSentence false x r) h in
+        let q = spelledSentence false x r (p .behind) in
+        record { pass = λ n. both (p .pass n) (q .pass _); behind = q .behind }
+
+    spelledB : (v : Body) (r : List Flat) → AllSound src (flatB v r) → Part (encB v) r
+    spelledB (bAll s) r h = let p = spelledS s r h in record { pass = p .pass; behind = p .behind }
+    spelledB (bOff s x) r h =
+        let p = spelledS s (flatSentence true x r) h in
+        let q = spelledSentence true x r (p .behind) in
         record { pass = λ n. both (p .pass n) (q .pass _); behind = q .behind }
 
   spelledN : (ns : Names) (r : List Flat) → AllSound src (flatN ns r) → Part (encN ns) r
@@ -159,8 +170,8 @@ module _ (src : List ℕ) (short : length src ≤ mostBytes) where
       let p = spelledN ns (mark tokSemicolon ∷ r) (rest h) in
       record { pass = λ n. both (row nodeDeclaration 0 0 0 a b _ refl) (p .pass _); behind = rest (p .behind) }
   spelledItem (function a x s l v b) r h =
-      let z = after-entry x (nameOf s l ∷ mark tokLBrace ∷ flatS v (mark tokRBrace ∷ r)) h in
-      let p = spelledS v (mark tokRBrace ∷ r) (rest (rest z)) in
+      let z = after-entry x (nameOf s l ∷ mark tokLBrace ∷ flatB v (mark tokRBrace ∷ r)) h in
+      let p = spelledB v (mark tokRBrace ∷ r) (rest (rest z)) in
       record { pass = λ n. both (row nodeFunction (entryDetail x) s l a b _ (name s l (first z))) (p .pass _); behind = rest (p .behind) }
 
   spelledP : (p : Program) (r : List Flat) → AllSound src (flatP p r) → Part (encP p) r

@@ -17,7 +17,7 @@ use Rattle.refal_ast.specs.Flatten.{flattenT, flattenC, flattenS, flattenP}
 use Rattle.refal_ast.specs.Nodes.{nodesOf}
 use Rattle.refal_tree.specs.Forest.{sizeG, joinG, cut, forestN, forestOf}
 use Rattle.refal_tree.specs.Rules.{okG}
-use Rattle.refal_tree.specs.Typed.{getT, getS, getSentence, getTail, getBlock, getCondition, getRight, getN, getNs, getP}
+use Rattle.refal_tree.specs.Typed.{getT, getB, getSentence, getTail, getBlock, getCondition, getRight, getN, getNs, getP}
 use Rattle.refal_tree.specs.Lawful.{treeOf, lawful}
 use Rattle.refal_spelling.specs.Spell.{body, spelling, text}
 use Rattle.refal_spelling.specs.Spells.{spells}
@@ -26,6 +26,6 @@ use Rattle.refal_writer.specs.Write.{written, writeAnswer, writeBytes}
 
 pub table-holds : AllHold table
 unfolding table tokensOf okTokens wellFormed sizeT sizeC sizeS sizeN sizeP encT encC encS encN encP run parsed decode wellTo closeTo litChar litFrom
-    charTokens lex01 onlyWhite flattenT flattenC flattenS flattenP sizeG joinG cut nodesOf forestN forestOf okG getT getS getSentence getTail getBlock getCondition getRight getN
+    charTokens lex01 onlyWhite flattenT flattenC flattenS flattenP sizeG joinG cut nodesOf forestN forestOf okG getT getB getSentence getTail getBlock getCondition getRight getN
     getNs getP treeOf lawful body spelling text spells rowSpelled nodesSpelled allSpelled written writeAnswer writeBytes digits rowLines
 table-holds = refl

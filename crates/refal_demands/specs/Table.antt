@@ -99,6 +99,14 @@ source2 = 70 ∷ 123 ∷ 61 ∷ 65 ∷ 125 ∷ []
 abbrev pub tokens2 : List ℕ
 tokens2 = name 1 0 1 ++ (sign tokLBrace 1 2 ++ (sign tokEquals 2 3 ++ (name 1 3 4 ++ (sign tokRBrace 4 5 ++ sign tokEof 5 5))))
 
+-- its five rows
+abbrev pub nodes2 : List ℕ
+nodes2 = node nodeFunction 0 0 1 0 5 5 ++ (node nodeSentence 1 0 0 2 4 5 ++ (terms 3 ++ (terms 5 ++ node nodeIdentifier 0 3 1 3 4 5)))
+
+-- `F { = A } `
+abbrev pub written2 : List ℕ
+written2 = 70 ∷ 32 ∷ 123 ∷ 32 ∷ 61 ∷ 32 ∷ 65 ∷ 32 ∷ 125 ∷ 32 ∷ []
+
 -- `F{A,B:{=;}=;}`
 abbrev pub source3 : List ℕ
 source3 = 70 ∷ 123 ∷ 65 ∷ 44 ∷ 66 ∷ 58 ∷ 123 ∷ 61 ∷ 59 ∷ 125 ∷ 61 ∷ 59 ∷ 125 ∷ []
@@ -170,9 +178,10 @@ table =
     -- `{}`: 32, found 7, span 1-2
     ∷ reading source1 lent (Done 3) (tokens1 ++ replicate 69 9)
     ∷ parsing tokens1 lent (Refused (refusal 32 tokIdentifier 7 1 2 0)) zeroed
-    -- `F{=A}`: 34, found 8, span 5-5
+    -- `F{=A}`: its Sentence 2-4, the `;` left off; its written text is `F { = A } `
     ∷ reading source2 lent (Done 6) (tokens2 ++ replicate 51 9)
-    ∷ parsing tokens2 lent (Refused (refusal 34 0 8 5 5 0)) zeroed
+    ∷ parsing tokens2 lent (Done 5) (nodes2 ++ replicate 52 9)
+    ∷ writing nodes2 source2 (replicate 12 9) (Done 10) (written2 ++ replicate 2 9)
     -- `F{A,B:{=;}=;}`: 12 nodes; Condition and block 4-10, outer Sentence 2-12
     ∷ reading source3 lent (Done 14) (tokens3 ++ replicate 3 9)
     ∷ parsing tokens3 lent (Done 12)
