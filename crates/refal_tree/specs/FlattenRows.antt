@@ -17,7 +17,7 @@ use Rattle.refal_ast.specs.Flatten.{flatOff, flatEntry, flattenItem, flattenP}
 use Rattle.refal_ast.specs.Encode.{offDetail}
 use Rattle.refal_ast.specs.declared.tree.Symbol.the-variants.{Char, Identifier, Number}
 use Rattle.refal_tree.specs.Forest.{Row, row, Forest, empty, tree}
-use Rattle.refal_tree.specs.States.{termKind, atItems, atName, atNames, atSentences, atPattern, atConditions, atCondition, atColon, atTerms, atArgument, atEnding, closed, pickState, stateInside, stateAfter, stateNext}
+use Rattle.refal_tree.specs.States.{termKind, atItems, atName, atNames, atSentences, atPattern, atConditions, atCondition, atColon, atTerms, atArgument, atEnding, closed, pickState, leavesOff, stateInside, stateAfter, stateNext}
 use Rattle.refal_tree.specs.Typed.{leafR, plain, forTerm, forT, forTerms, forRight, forCondition, forC, forEnd, sentenceR, forSentence, forS, forB, nameR, forN, forItem, forP, toForest}
 use Rattle.refal_tree.specs.TypedRules.{flag-back}
 
@@ -81,7 +81,7 @@ flat-ending (tree r f g) = go (flat-ending g) (eqb (r .kind) nodeSentence) refl
     next ih false = ih
 
     go : flattenG atEnding g ≡ flattenG atSentences g → (b : Bool) → eqb (r .kind) nodeSentence ≡ b → flattenG atEnding (tree r f g) ≡ flattenG atSentences (tree r f g)
-    go ih true e = rw (eqb-true (r .kind) nodeSentence e) (ap (λ (l : List Flat). flattenG atPattern f ++ (flatOff (eqb (r .detail) 1) ++ l)) (next ih (eqb (r .detail) 1)))
+    go ih true e = rw (eqb-true (r .kind) nodeSentence e) (ap (λ (l : List Flat). flattenG atPattern f ++ (closeTokens atSentences nodeSentence (r .detail) ++ l)) (next ih (leavesOff nodeSentence (r .detail))))
     go ih false e = rw e refl
 
 -- ---- a tree's flattening

@@ -14,7 +14,7 @@ use Rattle.refal_ast.specs.Encode.{entryDetail, offDetail}
 use Rattle.refal_ast.specs.declared.tree.Symbol.the-variants.{Char, Identifier, Number}
 use Rattle.refal_ast.specs.declared.tree.VariableKind.the-variants.{Symbol as kindS, Term as kindT, Expression as kindE}
 use Rattle.refal_tree.specs.Forest.{Row, row, Forest, empty, tree}
-use Rattle.refal_tree.specs.States.{atItems, atName, atNames, atSentences, atPattern, atConditions, atCondition, atColon, atTerms, atArgument, atEnding, closed, pickState, stateInside, stateNext, below, lower}
+use Rattle.refal_tree.specs.States.{atItems, atName, atNames, atSentences, atPattern, atConditions, atCondition, atColon, atTerms, atArgument, atEnding, closed, pickState, leavesOff, stateInside, stateNext, below, lower}
 use Rattle.refal_tree.specs.Rules.{rowOk, okG}
 use Rattle.refal_tree.specs.Typed.{leafR, plain, forTerm, forT, forTerms, forRight, forCondition, forC, forEnd, sentenceR, forSentence, forS, forB, nameR, forN, forItem, forP, toForest, termOf, getT}
 use Rattle.refal_tree.specs.Typed.{pickBody, getB, getTail, getRight, getNs, getN, getP, programOf}
@@ -48,7 +48,7 @@ ending-is left (tree r f g) = go (ending-is left g) (eqb (r .kind) nodeSentence)
     next ih false = ih
 
     go : okG atEnding left g ≡ okG atSentences (lower left) g → (b : Bool) → eqb (r .kind) nodeSentence ≡ b → okG atEnding left (tree r f g) ≡ okG atSentences (lower left) (tree r f g)
-    go ih true e = rw (eqb-true (r .kind) nodeSentence e, next ih (eqb (r .detail) 1))
+    go ih true e = rw (eqb-true (r .kind) nodeSentence e, next ih (leavesOff nodeSentence (r .detail)))
     go ih false e = rw e refl
 
 -- a level is left
