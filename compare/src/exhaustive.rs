@@ -44,7 +44,7 @@ pub fn sources(most: usize, mut visit: impl FnMut(Case) -> bool) -> bool {
 
 /// Token lists: each beginning, then each choice of at most `most` kinds, then Eof.
 pub fn token_lists(most: usize, mut visit: impl FnMut(Case) -> bool) -> bool {
-    const BEGINNINGS: [&[u32]; 6] = [
+    const BEGINNINGS: [&[u32]; 7] = [
         &[],
         &[token::EXTERN],
         &[token::IDENTIFIER, token::LBRACE],
@@ -66,6 +66,15 @@ pub fn token_lists(most: usize, mut visit: impl FnMut(Case) -> bool) -> bool {
             token::COMMA,
             token::COLON,
             token::LBRACE,
+        ],
+        &[
+            token::IDENTIFIER,
+            token::LBRACE,
+            token::EQUALS,
+            token::COMMA,
+            token::COLON,
+            token::LBRACE,
+            token::RBRACE,
         ],
     ];
     let mut count = 0;

@@ -14,7 +14,7 @@ compare: holds librefal5.a against the reference and, where it is present, the o
   --seed N     the seed of the random calls (default: from the clock); it is printed
   --random N   how many random calls (default 5000000)
   --parts N    all sources of at most N parts of a telling alphabet (default 4)
-  --tokens N   all token lists of at most N tokens after six beginnings (default 3)
+  --tokens N   all token lists of at most N tokens after seven beginnings (default 3)
 
 A difference is printed as the smallest call that shows it; the exit status is then 1.
 ";

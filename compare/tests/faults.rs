@@ -2,7 +2,8 @@
 
 use compare::runs::{Size, compare};
 use oracle::cases::{Functions, Reference};
-use oracle::terms::Answer;
+use oracle::reference::parse::{checked, first_left_off};
+use oracle::terms::{Answer, node, token};
 
 #[derive(Debug, Clone, Copy, PartialEq, Eq)]
 enum Fault {
@@ -17,6 +18,10 @@ enum Fault {
     SpaceLeftOut,
     WrongNextTaken,
     LineInName,
+    SemicolonWanted,
+    SpanOfLeftOff,
+    SemicolonWritten,
+    LeftOffAnywhere,
 }
 
 /// The reference with one fault put in.
@@ -69,11 +74,22 @@ impl Functions for Faulty {
             match self.0 {
                 Fault::NextOfBracket if row[0] == 13 => row[6] += 1,
                 Fault::ConditionStart if row[0] == 5 => row[4] = row[4].wrapping_sub(1),
+                Fault::SpanOfLeftOff if row[..2] == [node::SENTENCE, 1] => {
+                    row[5] = row[5].wrapping_add(1);
+                }
                 _ => (),
             }
         }
         if self.0 == Fault::DepthOf65 && answer[0] == 37 {
             answer[0] = 35;
+        }
+        if self.0 == Fault::SemicolonWanted
+            && let Some((at, list)) = first_left_off(tokens).zip(checked(tokens))
+        {
+            // What the original answers after terms.
+            let [start, end] = [list[at + 1][4], list[at + 1][5]].map(u64::from);
+            rows.fill(0);
+            return [34, 0, 0, token::RBRACE.into(), start, end, 0];
         }
         answer
     }
@@ -86,10 +102,27 @@ impl Functions for Faulty {
             Fault::WrongNextTaken if answer[0] == 40 && tree.len() == 7 && tree[0] == 3 => {
                 answer[0] = 41;
             }
+            Fault::SemicolonWritten if answer[0] == 0 => {
+                answer = Reference.write(&with_semicolons(tree), src, out);
+            }
+            Fault::LeftOffAnywhere if answer[0] == 40 => {
+                answer = Reference.write(&with_semicolons(tree), src, out);
+            }
             _ => (),
         }
         answer
     }
+}
+
+/// The tree with no `;` left off.
+fn with_semicolons(tree: &[u32]) -> Vec<u32> {
+    let mut tree = tree.to_vec();
+    for row in tree.chunks_exact_mut(7) {
+        if row[..2] == [node::SENTENCE, 1] {
+            row[1] = 0;
+        }
+    }
+    tree
 }
 
 #[test]
@@ -111,6 +144,10 @@ fn are_found() {
         Fault::SpaceLeftOut,
         Fault::WrongNextTaken,
         Fault::LineInName,
+        Fault::SemicolonWanted,
+        Fault::SpanOfLeftOff,
+        Fault::SemicolonWritten,
+        Fault::LeftOffAnywhere,
     ] {
         let found = compare(&Faulty(fault), |_| true, 1, size, |_| ());
         let found = found.expect_err(&format!("{fault:?} is not found"));

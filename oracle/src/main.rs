@@ -10,7 +10,7 @@ use std::path::Path;
 use std::process::ExitCode;
 
 const HELP: &str = "\
-oracle: the answers of document 01, from the original where it is present
+oracle: the answers of documents 01 and 02
 
   oracle read  < SOURCE         token rows, or a refusal
   oracle parse < SOURCE         node rows, or a refusal
@@ -22,7 +22,8 @@ oracle: the answers of document 01, from the original where it is present
   oracle lists FOLDER           the fixed lists of tests/vectors
   oracle sample FOLDER          a sample of them as stdin and stdout of crates/vectors
 
-Where the original files are present its answer is compared with the reference's first.
+Where the original files are present its answer is compared with the reference's first, but for
+token lists in which parsing meets a left-off `;`.
 A refusal is printed as: refused number expected found start end need; the exit status is 1.
 ";
 
@@ -127,7 +128,8 @@ fn tokens(src: &[u8]) -> Result<Vec<[u32; 6]>, Refusal> {
 fn tree(src: &[u8]) -> Result<Vec<[u32; 7]>, Refusal> {
     let tokens = tokens(src)?;
     let ours = parse::tree(&tokens.concat());
-    let added = matches!(&ours, Err(refusal) if matches!(refusal.number, 30 | 37));
+    let added = matches!(&ours, Err(refusal) if matches!(refusal.number, 30 | 37))
+        || parse::first_left_off(&tokens.concat()).is_some();
     if !added && let Some(theirs) = oracle::original::parse(&tokens) {
         assert_eq!(ours, theirs, "the original and the reference differ");
     }

@@ -2,6 +2,7 @@
 
 use oracle::cases::{Case, Outcome, Reference, run};
 use oracle::lists::{LISTS, format, sample, text};
+use oracle::reference::parse;
 use std::collections::BTreeMap;
 use std::path::Path;
 
@@ -60,6 +61,33 @@ fn hold_each_refusal_ten_times() {
         let times = times.get(&number).copied().unwrap_or(0);
         assert!(times >= 10, "{number} stands {times} times");
     }
+}
+
+/// Both parsing and writing meet sentences whose `;` is left off, and enough lists are left to ask the
+/// original.
+#[test]
+fn hold_left_off_semicolons() {
+    let left_off = |words: &[u32]| words.chunks_exact(7).any(|row| row[..2] == [4, 1]);
+    let mut parsed = 0;
+    let mut written = 0;
+    let mut asked = 0;
+    for list in &LISTS {
+        for (case, outcome) in format::read_back(&stored(list.file)).expect("a well-formed list") {
+            let done = outcome.number() == 0;
+            match (&case, &outcome) {
+                (Case::Parse { tokens, .. }, Outcome::Words(_, rows)) => {
+                    parsed += usize::from(done && left_off(rows));
+                    asked += usize::from(parse::first_left_off(tokens).is_none());
+                }
+                (Case::Write { tree, .. }, _) => {
+                    written += usize::from(done && left_off(tree));
+                }
+                _ => (),
+            }
+        }
+    }
+    assert!(parsed > 50 && written > 50, "{parsed}, {written}");
+    assert!(asked > 1000, "{asked}");
 }
 
 #[test]

@@ -1,9 +1,11 @@
-//! The reference and the original agree wherever no added refusal applies.
+//! The reference and the original agree wherever no added refusal applies and parsing meets no
+//! left-off `;`.
 
 use oracle::generate::{Rng, nests, sources, tokens};
 use oracle::original;
 use oracle::reference::{names, parse, read};
-use oracle::terms::{MAX_DEPTH, NodeRow, node};
+use oracle::terms::{MAX_DEPTH, NodeRow, Refusal, TokenRow, node, token};
+use std::collections::BTreeMap;
 
 fn check_read(src: &[u8]) {
     let Ok(text) = std::str::from_utf8(src) else {
@@ -26,6 +28,15 @@ fn check_parse(words: &[u32]) {
     let Some(theirs) = original::parse(&rows) else {
         return;
     };
+    if let Some(at) = parse::first_left_off(words) {
+        // The original wants that `;`: its answer is not compared, but this is what it must be.
+        let wanted = wants_the_semicolon(&rows, at);
+        assert!(
+            theirs.is_err_and(|refusal| wanted.contains(&refusal)),
+            "{words:?}"
+        );
+        return;
+    }
     if refused == Some(37) {
         // The original goes on: its tree, if it gives one, is deeper than may be.
         if let Ok(tree) = theirs {
@@ -37,6 +48,22 @@ fn check_parse(words: &[u32]) {
     if let Ok(tree) = ours {
         assert!(depth(&tree) <= MAX_DEPTH);
     }
+}
+
+/// What the original answers at a `}` where it wants a `;`: 34 after terms, 35 after a block.
+fn wants_the_semicolon(rows: &[TokenRow], at: usize) -> [Refusal; 2] {
+    let refusal = |number, expected, row: TokenRow| Refusal {
+        number,
+        expected,
+        found: token::RBRACE,
+        start: row[4].into(),
+        end: row[5].into(),
+        need: 0,
+    };
+    [
+        refusal(34, 0, rows[at + 1]),
+        refusal(35, token::SEMICOLON, rows[at]),
+    ]
 }
 
 /// Most of 7, 8, 13, 14 on a path; a 7 does not count for its argument.
@@ -102,14 +129,30 @@ fn sources_of_every_kind() {
     }
 }
 
+/// Programs by the grammar are accepted. Half of them can be asked of the original, and in the
+/// others semicolons are left off in functions and both kinds of blocks, after terms and after
+/// blocks.
 #[test]
 fn programs_are_accepted() {
     let mut rng = Rng::new(2);
+    let mut asked = 0;
+    let mut left_off: BTreeMap<(u32, u32), usize> = BTreeMap::new();
     for _ in 0..5_000 {
         let src = sources::program(&mut rng, 3);
-        let tokens = read::tokens(src.as_bytes()).expect(&src);
-        parse::tree(&tokens::flat(&tokens)).expect(&src);
+        let words = tokens::flat(&read::tokens(src.as_bytes()).expect(&src));
+        let rows = parse::tree(&words).expect(&src);
+        asked += usize::from(parse::first_left_off(&words).is_none());
+        for at in (0..rows.len()).filter(|&at| rows[at][..2] == [node::SENTENCE, 1]) {
+            let holds = |row: &&NodeRow| row[6] as usize > at;
+            let parent = rows[..at].iter().rfind(holds).expect("it has a parent");
+            let ends = |row: &&NodeRow| row[6] == rows[at][6];
+            let last = rows[at + 1..].iter().find(ends).expect("it has children");
+            *left_off.entry((parent[0], last[0])).or_default() += 1;
+        }
     }
+    assert!(asked > 2_000, "{asked}");
+    assert_eq!(left_off.len(), 6, "{left_off:?}");
+    assert!(left_off.values().all(|&times| times > 100), "{left_off:?}");
 }
 
 #[test]
@@ -127,7 +170,10 @@ fn nests() {
     for _ in 0..2_000 {
         let count = rng.within(60, 70);
         let ways = nests::ways(&mut rng, count);
-        let (src, deepest) = nests::nested(&ways);
+        let (mut src, deepest) = nests::nested(&ways);
+        if rng.once_in(2) {
+            src = nests::left_off(&mut rng, &src);
+        }
         let words = tokens::flat(&tokens::of_source(src.as_bytes()));
         check_parse(&words);
         let result = parse::tree(&words);

@@ -1,4 +1,4 @@
-//! Document 01's worked table and further rows worked out by hand from its text.
+//! Document 01's worked table, with 02's changes, and further rows worked out by hand from their text.
 
 use oracle::generate::tokens;
 use oracle::reference::{self, parse, read, write};
@@ -66,21 +66,28 @@ fn reading() {
     );
 }
 
-#[test]
-fn parsing() {
-    let refusal = |number, expected, found, start, end| Refusal {
+fn refusal(number: u32, expected: u32, found: u32, start: u64, end: u64) -> Refusal {
+    Refusal {
         number,
         expected,
         found,
         start,
         end,
         need: 0,
-    };
+    }
+}
+
+fn written(src: &str) -> String {
+    let text = write::text(&tree(src).concat(), src.as_bytes()).expect(src);
+    String::from_utf8(text).expect("UTF-8")
+}
+
+#[test]
+fn parsing() {
     assert!(tree("").is_empty());
     assert_eq!(parse::tree(&[]), Err(Refusal::plain(30)));
     for (src, answer) in [
         ("{}", refusal(32, 3, 7, 1, 2)),
-        ("F{=A}", refusal(34, 0, 8, 5, 5)),
         ("$EXTRN ,", refusal(31, 3, 13, 8, 8)),
         ("$EXTRN", refusal(31, 3, 17, 6, 6)),
         ("F{<1>=;}", refusal(33, 3, 5, 4, 5)),
@@ -100,6 +107,65 @@ fn parsing() {
         .map(|row| (row[0], row[4], row[5]))
         .collect();
     assert_eq!(spans, [(4, 2, 12), (5, 4, 10), (8, 4, 10), (4, 7, 9)]);
+}
+
+#[test]
+fn the_last_semicolon() {
+    for (src, answer) in [
+        ("F{A}", refusal(34, 0, 8, 4, 4)),
+        ("F{=(A}", refusal(34, 0, 8, 6, 6)),
+        ("F{=A;B}", refusal(34, 0, 8, 7, 7)),
+        ("F{A,B:C}", refusal(34, 0, 8, 8, 8)),
+        ("F{A=B C=D;}", refusal(34, 0, 15, 8, 9)),
+        ("F{=A", refusal(35, 16, 17, 4, 4)),
+        ("F{=,A:{}", refusal(35, 16, 17, 8, 8)),
+        ("F{=,A:{}=;}", refusal(35, 16, 15, 8, 9)),
+        ("F{A,B:{}}", refusal(35, 15, 8, 8, 9)),
+        ("F{=A}}", refusal(32, 3, 8, 6, 6)),
+    ] {
+        assert_eq!(parse_refusal(src), answer, "{src}");
+    }
+    assert_eq!(
+        tree("F{=A}"),
+        [
+            [3, 0, 0, 1, 0, 5, 5],
+            [4, 1, 0, 0, 2, 4, 5],
+            [6, 0, 0, 0, 0, 0, 3],
+            [6, 0, 0, 0, 0, 0, 5],
+            [9, 0, 3, 1, 3, 4, 5],
+        ]
+    );
+    assert_eq!(written("F{=A}"), "F { = A } ");
+    assert_eq!(tree("F{=}")[1], [4, 1, 0, 0, 2, 3, 4]);
+    assert_eq!(written("F{=}"), "F { = } ");
+    let src = "F{=;A,B:{=}=,C:{=D}}";
+    let sentences: Vec<_> = tree(src)
+        .iter()
+        .filter(|row| row[0] == 4)
+        .map(|row| (row[1], row[4], row[5]))
+        .collect();
+    assert_eq!(sentences, [(0, 2, 4), (1, 4, 19), (1, 9, 10), (1, 16, 18)]);
+    assert_eq!(written(src), "F { = ; A , B : { = } = , C : { = D } } ");
+}
+
+/// The sentences of `F{=;=;}`, with these details.
+#[test]
+fn where_a_semicolon_may_lack() {
+    for (details, text) in [
+        ([0, 0], Some("F { = ; = ; } ")),
+        ([0, 1], Some("F { = ; = } ")),
+        ([1, 0], None),
+        ([1, 1], None),
+        ([0, 2], None),
+        ([2, 0], None),
+    ] {
+        let mut rows = tree("F{=;=;}");
+        rows[1][1] = details[0];
+        rows[4][1] = details[1];
+        let answer = write::text(&rows.concat(), b"F");
+        let expected = text.map(|text| text.as_bytes().to_vec());
+        assert_eq!(answer, expected.ok_or(Refusal::plain(40)), "{details:?}");
+    }
 }
 
 #[test]
@@ -135,9 +201,7 @@ fn the_program_of_01() {
             [6, 0, 0, 0, 0, 0, 4],
         ]
     );
-    let words: Vec<u32> = tree(src).into_iter().flatten().collect();
-    let text = write::text(&words, src.as_bytes()).expect("written");
-    assert_eq!(text, b"$ENTRY Go { = ; } ");
+    assert_eq!(written(src), "$ENTRY Go { = ; } ");
 }
 
 #[test]

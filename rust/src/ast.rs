@@ -1,4 +1,4 @@
-//! The syntax tree, with the types of the original `refal_ast`.
+//! The syntax tree, with the types of the original `refal_ast`, and `left_off` in a [`Sentence`].
 
 pub use crate::names::{
     PROGRAM_ENTRY_POINT, canonical_identifier, canonical_variable_index, identifiers_equal,
@@ -62,7 +62,10 @@ pub struct Sentence {
     pub pattern: Vec<Term>,
     pub conditions: Vec<Condition>,
     pub result: Vec<Term>,
+    /// Without its `;` where that is left off.
     pub span: Span,
+    /// Whether its `;` is left off, as the last sentence's before a `}` may be.
+    pub left_off: bool,
 }
 
 #[derive(Debug, Clone, PartialEq, Eq)]

@@ -16,10 +16,10 @@ use crate::rows::Kind;
 /// use refal5::rows::{Kind, NodeRows, TokenRows};
 ///
 /// let mut token_rows = TokenRows::new();
-/// let tokens = token_rows.read(b"F{=A}").unwrap();
+/// let tokens = token_rows.read(b"F{A}").unwrap();
 /// let refusal = NodeRows::new().parse(tokens).unwrap_err();
 /// assert_eq!((refusal.number, refusal.found_kind()), (34, Some(Kind::RBrace)));
-/// assert_eq!((refusal.span.start, refusal.span.end), (5, 5));
+/// assert_eq!((refusal.span.start, refusal.span.end), (4, 4));
 /// ```
 #[derive(Debug, Clone, Copy, PartialEq, Eq)]
 pub struct Refusal {

@@ -88,6 +88,7 @@ fn a_condition_block_has_the_conditions_terms_as_its_argument() {
             conditions,
             result,
             span,
+            left_off: false,
         },
     ] = sentences(&program)
     else {
@@ -118,6 +119,35 @@ fn a_condition_block_has_the_conditions_terms_as_its_argument() {
     assert_eq!(argument, tested);
     assert_eq!((block[0].span.start, block[0].span.end), (4, 10));
     assert_eq!(sentences.len(), 1);
+}
+
+#[test]
+fn a_last_semicolon_may_be_left_off() {
+    let program = parse("F{=;A,B:{=}=,C:{=D}}");
+    let said = |sentence: &Sentence| (sentence.left_off, sentence.span.start, sentence.span.end);
+    let [first, last] = sentences(&program) else {
+        panic!("two sentences")
+    };
+    assert_eq!(said(first), (false, 2, 4));
+    assert_eq!(said(last), (true, 4, 19));
+    let inside = |terms: &[Term]| match &terms[0].kind {
+        TermKind::Block { sentences, .. } => said(&sentences[0]),
+        _ => panic!("a block"),
+    };
+    assert_eq!(inside(&last.conditions[0].pattern), (true, 9, 10));
+    assert_eq!(inside(&last.result), (true, 16, 18));
+
+    let mut token_rows = TokenRows::new();
+    let tokens = token_rows.read(b"F{=;=A}").unwrap();
+    let mut node_rows = NodeRows::new();
+    let tree = node_rows.parse(tokens).unwrap();
+    let left_off: Vec<usize> = tree
+        .nodes()
+        .filter(|node| node.is_left_off())
+        .map(|node| node.index())
+        .collect();
+    assert_eq!(left_off, [4]);
+    assert_eq!(tree.to_text().unwrap(), "F { = ; = A } ");
 }
 
 #[test]
@@ -296,6 +326,7 @@ fn bounds_suffice() {
         "s1s2s3",
         "F{=;=;=;}",
         "F{,:,:=,:{=,:{};};}",
+        "F{,:,:=,:{=,:{=}}}",
         "$EXTRN A,B;",
     ] {
         let mut words = vec![0; token_bound(source.len()) * TOKEN_WORDS];

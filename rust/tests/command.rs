@@ -160,9 +160,9 @@ fn a_written_text_is_written_the_same_again() {
 
 #[test]
 fn standard_input() {
-    let output = refal5("refused", &["check", "-"], b"F{=A}");
+    let output = refal5("refused", &["check", "-"], b"F{A}");
     assert_eq!(output.status.code(), Some(1));
-    assert!(text(&output.stdout).starts_with("<standard input>:1:5: refusal 34: "));
+    assert!(text(&output.stdout).starts_with("<standard input>:1:4: refusal 34: "));
     let output = refal5("refused", &["check", "-", "-"], b"");
     assert_eq!(output.status.code(), Some(2));
 }
@@ -258,11 +258,11 @@ fn a_file_over_the_limit() {
 
 #[test]
 fn colours_only_where_wanted() {
-    let plain = refal5("refused", &["check", "34-worked-table.ref"], b"");
+    let plain = refal5("refused", &["check", "34-same-kind-after.ref"], b"");
     assert!(!plain.stdout.contains(&0x1b));
     let coloured = refal5(
         "refused",
-        &["check", "--color=always", "34-worked-table.ref"],
+        &["check", "--color=always", "34-same-kind-after.ref"],
         b"",
     );
     assert!(coloured.stdout.contains(&0x1b));
@@ -310,7 +310,7 @@ fn on_a_terminal(command: &str) -> Option<String> {
 
 #[test]
 fn on_a_terminal_there_are_colours_and_after_a_second_progress() {
-    let Some(quick) = on_a_terminal("\"$REFAL5\" check 34-worked-table.ref") else {
+    let Some(quick) = on_a_terminal("\"$REFAL5\" check 34-same-kind-after.ref") else {
         println!("there is no `script` to make a terminal");
         return;
     };
@@ -319,10 +319,10 @@ fn on_a_terminal_there_are_colours_and_after_a_second_progress() {
         "{quick}"
     );
     assert!(!quick.contains("file 1 of 1"), "{quick}");
-    let slow = "(sleep 1.6; printf 'F{=A}') | \"$REFAL5\" check 34-worked-table.ref -";
+    let slow = "(sleep 1.6; printf 'F{A}') | \"$REFAL5\" check 34-same-kind-after.ref -";
     let slow = on_a_terminal(slow).expect("there was a terminal");
     let line = "\r\u{1b}[Krefal5: 1 s, file 2 of 2: <standard input>\r\u{1b}[K";
     assert!(slow.contains(line), "{slow:?}");
-    let plain = on_a_terminal("NO_COLOR=1 \"$REFAL5\" check 34-worked-table.ref");
+    let plain = on_a_terminal("NO_COLOR=1 \"$REFAL5\" check 34-same-kind-after.ref");
     assert!(!plain.expect("there was a terminal").contains('\u{1b}'));
 }

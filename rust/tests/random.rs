@@ -76,6 +76,7 @@ fn round_trips() {
         for (left, right) in tree.nodes().zip(again.nodes()) {
             assert_eq!(left.kind(), right.kind());
             assert_eq!(left.is_entry(), right.is_entry());
+            assert_eq!(left.is_left_off(), right.is_left_off());
             assert_eq!(left.character(), right.character());
             assert_eq!(left.letter(), right.letter());
             assert_eq!(left.text(), right.text());

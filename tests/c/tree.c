@@ -1,4 +1,5 @@
-/* Reading, parsing and writing from C, on the scope document's example: its rows, its text, and a refusal. */
+/* Reading, parsing and writing from C, on the scope document's example: its rows, its text, and a refusal; and a sentence whose
+ * last semicolon is left off. */
 #include "refal5.h"
 
 #include <stdio.h>
@@ -48,5 +49,15 @@ int main(void) {
     CHECK(answer[0] == 25 && answer[6] == 7 && tokens[0] == 0 && tokens[40] == 0);
     refal5_read((const uint8_t *)"F{=A}?", 6, tokens, 6 * 14, answer);
     CHECK(answer[0] == 10 && answer[4] == 5 && answer[5] == 6);
+
+    src = (const uint8_t *)"F{=A}";
+    refal5_read(src, 5, tokens, 6 * 14, answer);
+    CHECK(answer[0] == 0 && answer[1] == 6);
+    refal5_parse(tokens, 6 * 6, nodes, 7 * 5, answer);
+    CHECK(answer[0] == 0 && answer[1] == 5);
+    CHECK(nodes[7] == 4 && nodes[8] == 1 && nodes[11] == 2 && nodes[12] == 4);
+    refal5_write(nodes, 7 * 5, src, 5, text, 10, answer);
+    CHECK(answer[0] == 0 && answer[1] == 10);
+    CHECK(memcmp(text, "F { = A } ", 10) == 0);
     return failures != 0;
 }

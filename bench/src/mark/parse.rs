@@ -256,10 +256,15 @@ impl Parser {
                 let end = self.block(depth)?;
                 self.put(row, [node::ENDING_BLOCK, 0, 0, 0, start, end]);
             } else {
-                self.terms(1 << token::SEMICOLON, depth)?;
+                self.terms(1 << token::SEMICOLON | 1 << token::RBRACE, depth)?;
             }
-            let end = self.expect(token::SEMICOLON)?;
-            self.put(row, [node::SENTENCE, 0, 0, 0, start, end]);
+            let left_off = self.kind() == token::RBRACE;
+            let end = if left_off {
+                (*self.token.sub(1))[5]
+            } else {
+                self.expect(token::SEMICOLON)?
+            };
+            self.put(row, [node::SENTENCE, left_off.into(), 0, 0, start, end]);
             Ok(())
         }
     }

@@ -52,6 +52,13 @@ pub fn nested(ways: &[Way]) -> (String, usize) {
     (opened, deepest)
 }
 
+/// A nest with some of its `;` left off: each of them stands before a `}`.
+pub fn left_off(rng: &mut Rng, nest: &str) -> String {
+    nest.chars()
+        .filter(|&c| c != ';' || rng.once_in(2))
+        .collect()
+}
+
 fn terms(ways: &[Way]) -> String {
     let mut text = String::new();
     for way in ways {

@@ -115,10 +115,13 @@ pub fn soup(rng: &mut Rng, most: usize) -> String {
     text
 }
 
-/// A program by the grammar, with gaps of every kind; reading and parsing accept it.
+/// A program by the grammar, with gaps of every kind; reading and parsing accept it. In every second
+/// one no `;` is left off, so that the original can be asked.
 pub fn program(rng: &mut Rng, items: usize) -> String {
+    let leaves_off = rng.once_in(2);
     let mut maker = Maker {
         rng,
+        leaves_off,
         text: String::new(),
     };
     for _ in 0..items {
@@ -128,13 +131,13 @@ pub fn program(rng: &mut Rng, items: usize) -> String {
     maker.text
 }
 
-/// A copy with a few places cut, doubled, swapped, changed or put in.
+/// A copy with a few places cut, doubled, swapped, changed or put in, or a `;` left out.
 pub fn damaged(rng: &mut Rng, good: &[u8]) -> Vec<u8> {
     let mut bytes = good.to_vec();
     for _ in 0..rng.within(1, 3) {
         let at = rng.below(bytes.len() + 1);
         let end = (at + rng.within(1, 4)).min(bytes.len());
-        match rng.below(7) {
+        match rng.below(8) {
             0 => drop(bytes.drain(at..end)),
             1 => {
                 let part = bytes[at..end].to_vec();
@@ -150,6 +153,11 @@ pub fn damaged(rng: &mut Rng, good: &[u8]) -> Vec<u8> {
             }
             4 if end < bytes.len() => bytes.swap(at, end),
             5 if at < bytes.len() => bytes[at] ^= 1 << rng.below(8),
+            6 => {
+                if let Some(next) = bytes[at..].iter().position(|&byte| byte == b';') {
+                    bytes.remove(at + next);
+                }
+            }
             _ => bytes.truncate(at),
         }
     }
@@ -170,7 +178,11 @@ pub fn any(rng: &mut Rng) -> Vec<u8> {
         8 => {
             let depth = rng.within(60, 68);
             let ways = nests::ways(rng, depth);
-            let source = nests::nested(&ways).0.into_bytes();
+            let mut source = nests::nested(&ways).0;
+            if rng.once_in(3) {
+                source = nests::left_off(rng, &source);
+            }
+            let source = source.into_bytes();
             if rng.once_in(3) {
                 damaged(rng, &source)
             } else {
@@ -222,6 +234,8 @@ fn byte(rng: &mut Rng) -> u8 {
 
 struct Maker<'a> {
     rng: &'a mut Rng,
+    /// Whether a last sentence's `;` may be left off.
+    leaves_off: bool,
     text: String,
 }
 
@@ -295,13 +309,24 @@ impl Maker<'_> {
             self.put("$ENTRY");
         }
         self.name();
+        self.body(3, 2);
+    }
+
+    /// At most so many sentences in braces; every second last one's `;` is left off where that may
+    /// be.
+    fn body(&mut self, most: usize, blocks: usize) {
         self.put("{");
-        for _ in 0..self.rng.within(0, 3) {
-            self.sentence(2);
+        let count = self.rng.within(0, most);
+        for left in (0..count).rev() {
+            self.sentence(blocks);
+            if left > 0 || !self.leaves_off || self.rng.once_in(2) {
+                self.put(";");
+            }
         }
         self.put("}");
     }
 
+    /// A sentence without its `;`.
     fn sentence(&mut self, blocks: usize) {
         self.terms(2);
         while self.rng.once_in(3) {
@@ -309,7 +334,7 @@ impl Maker<'_> {
             self.terms(2);
             self.put(":");
             if blocks > 0 && self.rng.once_in(3) {
-                self.block(blocks - 1);
+                self.body(2, blocks - 1);
             } else {
                 self.terms(2);
             }
@@ -319,19 +344,10 @@ impl Maker<'_> {
             self.put(",");
             self.terms(2);
             self.put(":");
-            self.block(blocks - 1);
+            self.body(2, blocks - 1);
         } else {
             self.terms(3);
         }
-        self.put(";");
-    }
-
-    fn block(&mut self, blocks: usize) {
-        self.put("{");
-        for _ in 0..self.rng.within(0, 2) {
-            self.sentence(blocks);
-        }
-        self.put("}");
     }
 
     fn terms(&mut self, depth: usize) {

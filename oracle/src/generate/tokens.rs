@@ -56,17 +56,23 @@ pub fn of_source(src: &[u8]) -> Vec<TokenRow> {
     read::tokens(src).unwrap_or_else(|_| read::tokens(b"").expect("the empty source"))
 }
 
-/// A list with a few rows cut, doubled, swapped or of another kind.
+/// A list with a few rows cut, doubled, swapped or of another kind, or a `;` left out.
 pub fn damaged(rng: &mut Rng, good: &[TokenRow]) -> Vec<TokenRow> {
     let mut rows = good.to_vec();
     let eof = rows.pop().expect("Eof");
     for _ in 0..rng.within(1, 2) {
         let at = rng.below(rows.len() + 1);
-        match rng.below(5) {
+        match rng.below(6) {
             0 if at < rows.len() => drop(rows.remove(at)),
             1 if at < rows.len() => rows.insert(at, rows[at]),
             2 if at + 1 < rows.len() => rows.swap(at, at + 1),
             3 => rows.truncate(at),
+            4 => {
+                let semicolon = |row: &TokenRow| row[0] == token::SEMICOLON;
+                if let Some(next) = rows[at..].iter().position(semicolon) {
+                    rows.remove(at + next);
+                }
+            }
             _ => {
                 let kind = rng.within(1, 16) as u32;
                 let row = row(rng, kind);

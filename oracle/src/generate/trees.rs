@@ -2,7 +2,7 @@
 
 use super::{Rng, sources, tokens};
 use crate::reference::parse;
-use crate::terms::NodeRow;
+use crate::terms::{NodeRow, node};
 
 /// A program's tree and its source.
 pub fn good(rng: &mut Rng) -> (Vec<NodeRow>, Vec<u8>) {
@@ -20,7 +20,8 @@ pub fn flat(rows: &[NodeRow]) -> Vec<u32> {
     rows.iter().flatten().copied().collect()
 }
 
-/// One word changed, or a row dropped, doubled or swapped, or words cut off.
+/// One word changed, or a row dropped, doubled or swapped, or words cut off, or a sentence's `;` left
+/// off or put in.
 pub fn damaged(rng: &mut Rng, good: &[NodeRow]) -> Vec<u32> {
     let mut rows = good.to_vec();
     if rows.is_empty() {
@@ -29,7 +30,7 @@ pub fn damaged(rng: &mut Rng, good: &[NodeRow]) -> Vec<u32> {
             .collect();
     }
     let at = rng.below(rows.len());
-    match rng.below(8) {
+    match rng.below(9) {
         0 => drop(rows.remove(at)),
         1 => rows.insert(at, rows[at]),
         2 if at + 1 < rows.len() => rows.swap(at, at + 1),
@@ -37,6 +38,12 @@ pub fn damaged(rng: &mut Rng, good: &[NodeRow]) -> Vec<u32> {
             let mut words = flat(&rows);
             words.truncate(rng.below(words.len() + 1));
             return words;
+        }
+        4 => {
+            let sentence = |row: &&mut NodeRow| row[0] == node::SENTENCE;
+            if let Some(row) = rows[at..].iter_mut().find(sentence) {
+                row[1] ^= [1, 1, 2][rng.below(3)];
+            }
         }
         _ => {
             let word = rng.below(7);

@@ -1,4 +1,5 @@
-//! Parsing: each refusal, nests at the limit, damaged lists, lists that 30 refuses, capacities.
+//! Parsing: each refusal, left-off semicolons, nests at the limit, damaged lists, lists that 30
+//! refuses, capacities.
 
 use super::SEED;
 use crate::cases::Case;
@@ -26,7 +27,7 @@ pub fn cases() -> Vec<Case> {
             tokens::flat(&tokens::of_source(src.as_bytes())),
         );
     }
-    for _ in 0..600 {
+    for _ in 0..400 {
         let words = tokens::any(&mut rng);
         if words.len() < 500 {
             put(&mut cases, &mut rng, words);
@@ -82,7 +83,6 @@ pub fn texts() -> Vec<&'static str> {
         "$EXTRN A,B,C;",
         "$EXTERN A;;$EXTERNAL B;;F{};",
         "$ENTRY Go{=;}",
-        "F{=A}",
         "{}",
         "F{A,B:{=;}=;}",
         "F{=,A:{=;};}",
@@ -93,6 +93,35 @@ pub fn texts() -> Vec<&'static str> {
         "F{A,B:{C=D;E=F;},G:{}=,H I:{J=;};}",
         "F{e.1 s2 tX 'abc' 1.5=(A(B)(C))<G <H>()>;}",
         "F{('a'\"''\")=<Prout 'x'>;A=B;}G{}",
+        // a last `;` left off, after terms and after blocks, in functions and blocks
+        "F{=A}",
+        "F{=}",
+        "F{=(A)<G>}",
+        "F{A=B;C=D}",
+        "$ENTRY F{='ab'}G{=}",
+        "F{=};$EXTRN A;",
+        "F{=,A:{}}",
+        "F{=,:{=;}}",
+        "F{=,A:{=};}",
+        "F{=,A:{=B}}",
+        "F{=,:{=;=,:{=}}}",
+        "F{A,B:{=}=;}",
+        "F{A,B:{C=D;=E},:{=}=F}",
+        "F{,:{=,:{=}}=}",
+        // and where it may not be, or something else lacks
+        "F{A}",
+        "F{=A;B}",
+        "F{=(A}",
+        "F{=<G}",
+        "F{A=B C=D;}",
+        "F{A=B C=D}",
+        "F{=A}}",
+        "F{=A}=;}",
+        "F{A,B:{=}}",
+        "F{A,B:{=};}",
+        "F{=,A:{=}",
+        "F{=,A:{=}B}",
+        "F{=,A:{=}=;}",
         // 31
         "$EXTRN;",
         "$EXTRN",
@@ -157,8 +186,6 @@ pub fn texts() -> Vec<&'static str> {
         "F{A,B:C}",
         "F{A,B:C;}",
         "F{=)",
-        "F{=}",
-        "F{=A}",
         "F{A,B:C:D=;}",
         // 35
         "F",
@@ -195,7 +222,6 @@ pub fn texts() -> Vec<&'static str> {
         "F{=,A:;}",
         "F{=,A:{",
         "F{=,A:{}",
-        "F{=,A:{}}",
         "F{=,A:{}=;}",
         "F{=,A:{},B:{};}",
         "F{=;",
@@ -204,9 +230,17 @@ pub fn texts() -> Vec<&'static str> {
     ]
 }
 
-/// One list in which each token in turn is of every kind: each place answers each kind.
+/// Lists in which each token in turn is of every kind: each place answers each kind. In the second
+/// every `;` is left off.
 fn every_kind_everywhere() -> Vec<Vec<u32>> {
-    let good = tokens::of_source(b"$EXTRN A;F{s1,(B):C=<D>;=,E:{=;};}");
+    ["$EXTRN A;F{s1,(B):C=<D>;=,E:{=;};}", "F{,:{=}=,:{=A}}"]
+        .into_iter()
+        .flat_map(every_kind_in)
+        .collect()
+}
+
+fn every_kind_in(src: &str) -> Vec<Vec<u32>> {
+    let good = tokens::of_source(src.as_bytes());
     let mut all = Vec::new();
     for place in 0..good.len() - 1 {
         for kind in 1..=16 {
@@ -282,10 +316,15 @@ fn nests_at_the_limit(rng: &mut Rng) -> Vec<String> {
             ways.push(last);
             all.push(nests::nested(&ways).0);
         }
-        for _ in 0..10 {
+        for place in 0..10 {
             let mut ways = nests::ways(rng, depth);
             ways.sort_by_key(|way| matches!(way, Way::Bracket | Way::Call));
-            all.push(nests::nested(&ways).0);
+            let nest = nests::nested(&ways).0;
+            all.push(if place < 5 {
+                nest
+            } else {
+                nests::left_off(rng, &nest)
+            });
         }
     }
     // An argument is not inside its block; what is refused comes in its order.

@@ -36,25 +36,35 @@ pub fn sample() -> (Vec<u8>, String) {
     put(parsed());
     put(written());
     for number in [0, 40, 41, 42] {
-        put(trees_answered(number));
+        let mut cases = writing::cases();
+        cases.retain(|case| refused(case) == number);
+        put(trees(&cases));
     }
+    put(trees(&left_off()));
     (input, output)
 }
 
-/// The trees of the list of writing that are small enough and get this refusal; 0 for none.
-fn trees_answered(number: u64) -> Vec<(Vec<u8>, String)> {
+/// The trees of calls of writing that are small enough.
+fn trees(cases: &[Case]) -> Vec<(Vec<u8>, String)> {
     let mut lines = Vec::new();
-    for case in writing::cases() {
-        let Case::Write { tree, src, lent } = &case else {
+    for case in cases {
+        let Case::Write { tree, src, lent } = case else {
             continue;
         };
-        if let (Some(record), Some(block)) = (line(b't', src, *lent), block(tree))
-            && refused(&case) == number
-        {
-            lines.push(([record, block].concat(), expected(&case)));
+        if let (Some(record), Some(block)) = (line(b't', src, *lent), block(tree)) {
+            lines.push(([record, block].concat(), expected(case)));
         }
     }
     lines
+}
+
+/// Trees with sentences of every detail, all of them, with room for the text.
+fn left_off() -> Vec<Case> {
+    let trees = writing::left_off().into_iter();
+    let lent = 30;
+    trees
+        .map(|(tree, src)| Case::Write { tree, src, lent })
+        .collect()
 }
 
 /// The number of the case's refusal; 0 for none.

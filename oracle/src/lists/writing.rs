@@ -1,5 +1,5 @@
 //! Writing: trees of every kind of node, each word of each row changed, rows dropped, doubled and
-//! swapped, texts that are no spellings, outputs shorter, exact and longer.
+//! swapped, semicolons left off, texts that are no spellings, outputs shorter, exact and longer.
 
 use super::SEED;
 use crate::cases::Case;
@@ -15,7 +15,12 @@ pub fn cases() -> Vec<Case> {
         let (rows, src) = trees::of_source(src.as_bytes().to_vec());
         put_around(&mut cases, trees::flat(&rows), src);
     }
-    for small in ["$EXTRN Ab,C;", "F{A=1;}", "F{s.ab,('a')<G>:{=;}=,B:{};}"] {
+    for small in [
+        "$EXTRN Ab,C;",
+        "F{A=1;}",
+        "F{=;=1}",
+        "F{s.ab,('a')<G>:{=}=,B:{};}",
+    ] {
         for words in each_word_changed(small) {
             put(&mut cases, &mut rng, words, small.as_bytes().to_vec());
         }
@@ -23,10 +28,13 @@ pub fn cases() -> Vec<Case> {
     for (words, src) in spellings() {
         put(&mut cases, &mut rng, words, src);
     }
+    for (words, src) in left_off() {
+        put(&mut cases, &mut rng, words, src);
+    }
     for (words, src) in deep() {
         put(&mut cases, &mut rng, words, src);
     }
-    for _ in 0..500 {
+    for _ in 0..400 {
         let (words, src) = trees::any(&mut rng);
         if words.len() < 300 {
             put(&mut cases, &mut rng, words, src);
@@ -102,7 +110,7 @@ fn runs() -> Vec<String> {
 }
 
 /// Sources with every kind of node.
-pub const SOURCES: [&str; 12] = [
+pub const SOURCES: [&str; 16] = [
     "",
     "$ENTRY Go{=;}",
     "F{}",
@@ -111,6 +119,10 @@ pub const SOURCES: [&str; 12] = [
     "F{A,B:{=;}=;}",
     "F{=,A:{=;};}",
     "F{=,:{};}",
+    "F{=A}",
+    "F{=;=}",
+    "F{=,A:{B=;=}}",
+    "F{A,:{=}=;B,:{=;C=D}=,:{=}}",
     "F{A,B:C,:{},D:=E;}",
     "F{e.1 s2 tX 'ab''c' 1.5=(A(B)())<G <H>()>;}",
     "$EXTRN A;F{\"'é漢😀\"=;}$ENTRY G{=;=;}",
@@ -185,6 +197,39 @@ fn each_word_changed(src: &str) -> Vec<Vec<u32>> {
     for cut in 1..=7 {
         all.push(words[..words.len() - cut].to_vec());
         all.push([&words[..], &vec![0; cut][..]].concat());
+    }
+    all
+}
+
+/// Sentences of every detail: one to three in a function, a condition's block and an ending block, of
+/// which all are 0 or 1, or one is 2 or more.
+pub fn left_off() -> Vec<(Vec<u32>, Vec<u8>)> {
+    let mut all = Vec::new();
+    for count in 1..=3 {
+        let mut details: Vec<Vec<u32>> = (0..1 << count)
+            .map(|bits: u32| (0..count).map(|place| bits >> place & 1).collect())
+            .collect();
+        for (place, other) in (0..count).zip([2, 3, u32::MAX]) {
+            let mut some = vec![0; count];
+            some[place] = other;
+            details.push(some);
+        }
+        let sentences = "=;".repeat(count);
+        for (src, first) in [
+            (format!("F{{{sentences}}}"), 1),
+            (format!("F{{=,:{{{sentences}}};}}"), 5),
+            (format!("F{{,:{{{sentences}}}=;}}"), 6),
+        ] {
+            let (rows, src) = trees::of_source(src.into_bytes());
+            for details in &details {
+                let mut rows = rows.clone();
+                for (place, &detail) in details.iter().enumerate() {
+                    assert_eq!(rows[first + 3 * place][0], node::SENTENCE);
+                    rows[first + 3 * place][1] = detail;
+                }
+                all.push((trees::flat(&rows), src.clone()));
+            }
+        }
     }
     all
 }

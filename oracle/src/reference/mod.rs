@@ -1,4 +1,5 @@
-//! A plain implementation of document 01, written from its text and not from the original's code.
+//! A plain implementation of document 01 with 02's changes, written from their text and not from
+//! the original's code.
 //!
 //! Simple and slow on purpose. Each function has the exported C function's shape: what is lent for
 //! reading, what is lent for output, and the seven words of the answer.

@@ -1,4 +1,4 @@
-//! 01 "Parsing" and "From tokens to the tree".
+//! 01 "Parsing" and "From tokens to the tree", with 02's card 1.
 
 use super::utf8::is_scalar;
 use crate::terms::{
@@ -17,14 +17,18 @@ pub fn tree(words: &[u32]) -> Result<Vec<NodeRow>, Refusal> {
 /// The same with another limit in 37, to make trees that are too deep.
 pub fn tree_to_depth(words: &[u32], most: usize) -> Result<Vec<NodeRow>, Refusal> {
     let tokens = checked(words).ok_or(Refusal::plain(30))?;
-    let mut parser = Parser {
-        tokens: &tokens,
-        most,
-        at: 0,
-        rows: Vec::new(),
-    };
+    let mut parser = Parser::new(&tokens, most);
     parser.program()?;
     Ok(parser.rows)
+}
+
+/// The first `}` that parsing meets in place of a sentence's `;`, if it meets one before its answer,
+/// be that a tree or a refusal. The original is asked only where there is none (02, card 1).
+pub fn first_left_off(words: &[u32]) -> Option<usize> {
+    let tokens = checked(words)?;
+    let mut parser = Parser::new(&tokens, MAX_DEPTH);
+    let _ = parser.program();
+    parser.left_off
 }
 
 /// The token rows, if no clause of 30 applies.
@@ -58,11 +62,23 @@ struct Parser<'a> {
     most: usize,
     at: usize,
     rows: Vec<NodeRow>,
+    /// The first `}` that stood in place of a `;`.
+    left_off: Option<usize>,
 }
 
 type Parsed<T> = Result<T, Refusal>;
 
-impl Parser<'_> {
+impl<'a> Parser<'a> {
+    fn new(tokens: &'a [TokenRow], most: usize) -> Self {
+        Self {
+            tokens,
+            most,
+            at: 0,
+            rows: Vec::new(),
+            left_off: None,
+        }
+    }
+
     fn program(&mut self) -> Parsed<()> {
         loop {
             match self.kind() {
@@ -127,9 +143,16 @@ impl Parser<'_> {
             self.at += 1;
             self.ending_block(depth)?;
         } else {
-            self.terms(&[token::SEMICOLON], depth)?;
+            self.terms(&[token::SEMICOLON, token::RBRACE], depth)?;
         }
-        let end = self.expect(token::SEMICOLON)?;
+        // "Before `}` a sentence may now do so": end without `;`, with its last token.
+        let end = if self.kind() == token::RBRACE {
+            self.left_off.get_or_insert(self.at);
+            self.rows[row][1] = 1;
+            self.end_before()
+        } else {
+            self.expect(token::SEMICOLON)?
+        };
         self.close(row, (start, end));
         Ok(())
     }
@@ -147,7 +170,7 @@ impl Parser<'_> {
         } else {
             self.terms(&[token::COMMA, token::EQUALS], depth)?;
         }
-        let end = self.tokens[self.at - 1][5];
+        let end = self.end_before();
         self.close(row, (start, end));
         Ok(())
     }
@@ -269,6 +292,11 @@ impl Parser<'_> {
 
     fn start(&self) -> u32 {
         self.tokens[self.at][4]
+    }
+
+    /// The end of the token before the present one.
+    fn end_before(&self) -> u32 {
+        self.tokens[self.at - 1][5]
     }
 
     fn take(&mut self) {

@@ -1,4 +1,4 @@
-//! 01 "Writing": the check of a tree (40), of its texts (41) and the text itself.
+//! 01 "Writing", with 02's card 1: the check of a tree (40), of its texts (41) and the text itself.
 
 use super::spelling::{is_identifier, is_index, is_number};
 use super::utf8::{encode, is_scalar};
@@ -61,7 +61,7 @@ fn subtree(rows: &[NodeRow], at: usize, end: usize) -> Option<usize> {
     );
     let has_span = !matches!(kind, node::NAME | node::TERMS);
     let detail_fits = match kind {
-        node::FUNCTION => detail <= 1,
+        node::FUNCTION | node::SENTENCE => detail <= 1,
         node::CHAR => true,
         node::VARIABLE => b"ste".iter().any(|&letter| u32::from(letter) == detail),
         _ => detail == 0,
@@ -86,12 +86,7 @@ fn top(rows: &[NodeRow], at: usize) -> Option<usize> {
             }
             (end > at + 1).then_some(end)
         }
-        node::FUNCTION => {
-            while inside < end {
-                inside = sentence(rows, inside, end, 0)?;
-            }
-            Some(end)
-        }
+        node::FUNCTION => sentences(rows, inside, end, 0),
         _ => None,
     }
 }
@@ -101,7 +96,20 @@ fn leaf(rows: &[NodeRow], at: usize, end: usize, kind: fn(u32) -> bool) -> Optio
     (kind(rows[at][0]) && next == at + 1).then_some(next)
 }
 
-/// `depth` is how many of 7, 8, 13 and 14 stand above.
+/// Sentences from `at` to `end`, of which only the last may have its `;` left off. `depth` is how
+/// many of 7, 8, 13 and 14 stand above.
+fn sentences(rows: &[NodeRow], at: usize, end: usize, depth: usize) -> Option<usize> {
+    let mut inside = at;
+    while inside < end {
+        let next = sentence(rows, inside, end, depth)?;
+        if rows[inside][1] == 1 && next < end {
+            return None;
+        }
+        inside = next;
+    }
+    Some(end)
+}
+
 fn sentence(rows: &[NodeRow], at: usize, end: usize, depth: usize) -> Option<usize> {
     let end = subtree(rows, at, end).filter(|_| rows[at][0] == node::SENTENCE)?;
     let mut inside = terms(rows, at + 1, end, depth)?;
@@ -132,10 +140,7 @@ fn block(rows: &[NodeRow], at: usize, end: usize, depth: usize) -> Option<usize>
     if rows[at][0] == node::ENDING_BLOCK {
         inside = terms(rows, inside, end, depth)?;
     }
-    while inside < end {
-        inside = sentence(rows, inside, end, depth + 1)?;
-    }
-    Some(end)
+    sentences(rows, inside, end, depth + 1)
 }
 
 fn terms(rows: &[NodeRow], at: usize, end: usize, depth: usize) -> Option<usize> {
@@ -301,7 +306,9 @@ impl Writer<'_> {
             self.put(b",");
         }
         self.node(last);
-        self.put(b";");
+        if self.rows[at][1] == 0 {
+            self.put(b";");
+        }
     }
 
     fn char(&mut self, value: u32) {

@@ -150,11 +150,8 @@ fn term(tokens: Tokens<'_>, at: usize) -> String {
         (_, Kind::RParen) => "Remove this `)`, or write the `(` that is missing before it.".into(),
         (_, Kind::RAngle) => "Remove this `>`, or write the `<` that is missing before it.".into(),
         (_, Kind::Entry | Kind::Extern) => {
-            format!(
-                "Finish the function before this {this}: its last sentence ends with `;`, then comes `}}`."
-            )
+            format!("Finish the function before this {this}: after its last sentence comes `}}`.")
         }
-        (Part::Result, Kind::RBrace) => "End the sentence with `;` before this `}`.".into(),
         (Part::Result, Kind::Equals) => {
             "End the sentence before this one with `;`: a sentence has one `=`.".into()
         }
@@ -207,7 +204,13 @@ fn expected(tokens: Tokens<'_>, at: usize, refusal: &Refusal) -> String {
             "Write `{` after the function's name; if that name is part of a sentence, a `}` before it closes its function too early."
                 .into()
         }
-        (Some(Kind::RBrace), _) => "Write the `}` that closes the function or block before the end.".into(),
+        (Some(Kind::Semicolon), Some(Kind::Identifier)) if in_declaration(tokens, at) => {
+            "Write `,` between declared names and `;` after the last.".into()
+        }
+        // The last sentence may be without its `;`.
+        (Some(Kind::RBrace | Kind::Semicolon), _) if refusal.found_kind() == Some(Kind::Eof) => {
+            "Write the `}` that closes the function or block before the end.".into()
+        }
         (Some(Kind::RParen | Kind::RAngle), _) => match part(tokens, at) {
             Part::Open(open) => unclosed(tokens, open, this),
             _ => format!("Close what is open before {this}."),
@@ -218,12 +221,8 @@ fn expected(tokens: Tokens<'_>, at: usize, refusal: &Refusal) -> String {
              result after a condition's block."
                 .into()
         }
-        (Some(Kind::Equals), _) => format!("Write `=`, a result and `;` before {this}."),
-        (Some(Kind::Semicolon), Some(Kind::Identifier)) if in_declaration(tokens, at) => {
-            "Write `,` between declared names and `;` after the last.".into()
-        }
-        (Some(Kind::Semicolon), Some(Kind::RBrace)) => "Write `;` after the block's `}`.".into(),
-        _ => format!("Write the `;` that ends the sentence before {this}."),
+        (Some(Kind::Equals), _) => format!("Write `=`, a result and `}}` before {this}."),
+        _ => "Write `;` after the block's `}`.".into(),
     }
 }
 

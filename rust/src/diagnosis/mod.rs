@@ -23,12 +23,12 @@ pub struct Accepted {
 /// Reads and parses a source, and explains the refusal if there is one.
 ///
 /// ```
-/// let diagnosis = refal5::check(b"F {\n  = A }\nG { = ; }").unwrap_err();
+/// let diagnosis = refal5::check(b"F {\n  A = B\n  C = D }").unwrap_err();
 /// assert_eq!(diagnosis.refusal.number, 34);
-/// assert_eq!((diagnosis.meant.line, diagnosis.meant.column), (2, 7));
-/// assert_eq!((diagnosis.shown.line, diagnosis.shown.column), (3, 1));
-/// assert_eq!(diagnosis.message, "a term is wanted here, but `}` is found");
-/// assert_eq!(diagnosis.advice, "End the sentence with `;` before this `}`.");
+/// assert_eq!((diagnosis.meant.line, diagnosis.meant.column), (3, 5));
+/// assert_eq!((diagnosis.shown.line, diagnosis.shown.column), (3, 7));
+/// assert_eq!(diagnosis.message, "a term is wanted here, but `=` is found");
+/// assert_eq!(diagnosis.advice, "End the sentence before this one with `;`: a sentence has one `=`.");
 /// ```
 pub fn check(source: &[u8]) -> Result<Accepted, Box<Diagnosis>> {
     let mut token_rows = TokenRows::new();

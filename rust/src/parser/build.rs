@@ -67,6 +67,7 @@ impl Build<'_> {
                 terms => self.terms(terms),
             },
             span: self.span(node),
+            left_off: node.is_left_off(),
         }
     }
 

@@ -22,12 +22,12 @@ use crate::rows::{NodeRows, Tree};
 /// let Item::Function(go) = &program.items[0] else { panic!() };
 /// assert_eq!((go.name.as_str(), go.visibility), ("Go", Visibility::Entry));
 ///
-/// let tokens = Lexer::new("F{=A}").tokenize().unwrap();
+/// let tokens = Lexer::new("F{A}").tokenize().unwrap();
 /// let error = Parser::new(tokens).parse_program().unwrap_err();
 /// assert_eq!(
 ///     error.message,
-///     "bytes 4-5: a term is wanted here, but `}` is found; \
-///      the place shown, bytes 5-5, is the token after it: the end of the file"
+///     "bytes 3-4: a term is wanted here, but `}` is found; \
+///      the place shown, bytes 4-4, is the token after it: the end of the file"
 /// );
 /// ```
 pub struct Parser {

@@ -96,6 +96,11 @@ impl<'a> Node<'a> {
         self.kind() == NodeKind::Function && self.word(1) == 1
     }
 
+    /// Whether a sentence's `;` is left off.
+    pub fn is_left_off(self) -> bool {
+        self.kind() == NodeKind::Sentence && self.word(1) == 1
+    }
+
     /// The character of a Char.
     pub fn character(self) -> Option<char> {
         self.detail_of(NodeKind::Char)

@@ -235,6 +235,9 @@ fn node_line(step: &Step<'_>) -> String {
     if node.is_entry() {
         line += " entry";
     }
+    if node.is_left_off() {
+        line += " without ;";
+    }
     if !matches!(node.kind(), NodeKind::Name | NodeKind::Terms) {
         let span = node.span();
         write!(line, " {}-{}", span.start, span.end).expect("a string takes all");
@@ -254,6 +257,7 @@ fn node_object(file: &str, step: &Step<'_>) -> String {
         NodeKind::Function => object
             .plain("entry", node.is_entry())
             .string("text", node.text()),
+        NodeKind::Sentence => object.plain("left_off", node.is_left_off()),
         NodeKind::Name | NodeKind::Identifier | NodeKind::Number | NodeKind::Call => {
             object.string("text", node.text())
         }
