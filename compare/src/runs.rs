@@ -131,7 +131,12 @@ fn trip(rng: &mut Rng, library: &impl Functions) -> Result<usize, String> {
     let src = if rng.once_in(4) {
         sources::any(rng)
     } else {
-        sources::program(rng, 2).into_bytes()
+        let program = sources::program(rng, 2);
+        if rng.once_in(2) {
+            sources::signed_exponents(&program).into_bytes()
+        } else {
+            program.into_bytes()
+        }
     };
     let fails = |src: &[u8]| round_trip(src, library).and_then(Result::err);
     match round_trip(&src, library) {

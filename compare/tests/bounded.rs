@@ -24,7 +24,9 @@ fn programs_go_round() {
     let mut rng = Rng::new(7);
     for _ in 0..500 {
         let src = sources::program(&mut rng, 4);
-        assert_eq!(round_trip(src.as_bytes(), &Library), Some(Ok(())), "{src}");
+        for src in [sources::signed_exponents(&src), src] {
+            assert_eq!(round_trip(src.as_bytes(), &Library), Some(Ok(())), "{src}");
+        }
     }
     let src = delivery::delivery(7, 65_536);
     assert_eq!(round_trip(src.as_bytes(), &Library), Some(Ok(())));

@@ -324,7 +324,10 @@ impl Scanner<'_> {
         for (mark, refusal) in [(b'.', 16), (b'E', 17)] {
             if self.byte(end) == mark {
                 real = true;
-                let first = end + 1;
+                let mut first = end + 1;
+                if mark == b'E' && matches!(self.byte(first), b'+' | b'-') {
+                    first += 1;
+                }
                 end = self.while_in(first, |byte| byte.is_ascii_digit());
                 if end == first {
                     return Err((refusal, start, end));

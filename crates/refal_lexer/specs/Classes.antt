@@ -12,6 +12,9 @@ upper b = leb 65 b && leb b 90
 abbrev pub digit : ℕ → Bool
 digit b = leb 48 b && leb b 57
 
+abbrev pub sign : ℕ → Bool
+sign b = eqb b 43 || eqb b 45
+
 abbrev pub letter : ℕ → Bool
 letter b = (leb 65 b && leb b 90) || (leb 97 b && leb b 122)
 

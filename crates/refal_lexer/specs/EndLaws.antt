@@ -16,12 +16,12 @@ use Rattle.refal_text.specs.Span.{span}
 use Rattle.refal_text.specs.Utf8.{cont, decode, wellTo}
 use Rattle.refal_text.specs.Utf8Laws.{decode-ascii}
 use Rattle.refal_text.specs.declared.Char.{Char}
-use Rattle.refal_lexer.specs.Classes.{upper, digit, letter, nameByte, notNewline, classOf, cMinus, cQuote}
+use Rattle.refal_lexer.specs.Classes.{upper, digit, sign, letter, nameByte, notNewline, classOf, cMinus, cQuote}
 use Rattle.refal_lexer.specs.declared.Scan.{Scan}
 use Rattle.refal_lexer.specs.declared.Scan.the-variants.{Token, Bad}
 use Rattle.refal_lexer.specs.Tokens.{wideScan, signScan, classScan, Found, found, refused, one, literalOf, tokenAt}
 use Rattle.refal_lexer.specs.Words.{nameOf, otherScan, indexOf, variableScan, entryWord, externWord, directiveOf}
-use Rattle.refal_lexer.specs.Numbers.{value, part, numberOf, numberScan, pointAt, exponentAt, digitsEnd}
+use Rattle.refal_lexer.specs.Numbers.{value, signBytes, part, numberOf, numberScan, pointAt, exponentAt, digitsEnd}
 use Rattle.refal_lexer.specs.Literals.{litChar, litStep, litFrom, charStep, charTokens, Lit, closed, newline, unclosed}
 use Rattle.refal_lexer.specs.ClassLaws.{ClassIs, class-view, is-wide, is-white, is-quote, is-star, is-slash, is-dollar, is-plus, is-minus, is-upper, is-digit, is-variable, is-other, is-single, is-none, quote-class}
 use Rattle.refal_lexer.specs.Boundaries.{Boundary, first, Well, AllOn, all-more}
@@ -169,11 +169,19 @@ module _ (src : List ℕ) (w : Well src) where
   ends-directive at n s a e = split (Ends src) (entryWord n s) _ _ (λ _. (a, e, first, first)) (λ _. split (Ends src) (externWord n s) _ _ (λ _. (a, e, first, first)) (λ _. (a, e)))
 
   -- ---- numbers
-  part-end : (mark at i : ℕ) (t : List ℕ) → mark < 128 → Here src (at + i) t → Boundary src (at + part mark i t .end)
-  part-end mark at i [] l h = stands (at + i) [] h
-  part-end mark at i (b ∷ t) l h =
+  sign-here : (signed : Bool) (i : ℕ) (t : List ℕ) → Here src i t → Here src (i + signBytes signed t) (drop (signBytes signed t) t)
+  sign-here signed i [] h = moved (sym (add-zero i)) h
+  sign-here signed i (b ∷ t) h =
+      split (λ (n : ℕ). Here src (i + n) (drop n (b ∷ t))) (signed && sign b) 1 0
+      (λ u. step i (i + 1) b t h (either (eqb b 43) (eqb b 45) (is-low b 43 (omega arith)) (is-low b 45 (omega arith)) (and-right signed (sign b) u)) refl) (λ _. moved (sym (add-zero i)) h)
+
+  part-end : (mark : ℕ) (signed : Bool) (at i : ℕ) (t : List ℕ) → mark < 128 → Here src (at + i) t → Boundary src (at + part mark signed i t .end)
+  part-end mark signed at i [] l h = stands (at + i) [] h
+  part-end mark signed at i (b ∷ t) l h =
+      let n = signBytes signed t in
       split (λ (p : Part). Boundary src (at + p .end)) (eqb b mark) _ _
-      (λ u. run-to digit digit-low (at + i + 1) (at + (i + 1 + span digit t)) t (step (at + i) (at + i + 1) b t h (is-low b mark l u) refl) (omega arith)) (λ _. stands (at + i) (b ∷ t) h)
+      (λ u. run-to digit digit-low (at + i + 1 + n) (at + (i + 1 + n + span digit (drop n t))) (drop n t)
+      (sign-here signed (at + i + 1) t (step (at + i) (at + i + 1) b t h (is-low b mark l u) refl)) (omega arith)) (λ _. stands (at + i) (b ∷ t) h)
 
   ends-number : (at from n v : ℕ) (p e : Part) → Boundary src at → Boundary src (at + n) → Boundary src (at + p .end) → Boundary src (at + e .end) → Ends src (numberOf at from n v p e)
   ends-number at from n v p e a x y z =
@@ -189,12 +197,12 @@ module _ (src : List ℕ) (w : Well src) where
   ends-digits at from s t l a h =
       let m = span-le digit (drop from s) in
       let d = length-drop from s in
-      let p = part-within 46 (digitsEnd from s) s (omega arith) in
+      let p = part-within 46 false (digitsEnd from s) s (omega arith) in
       let p1 = p .1 in
-      let hp = part-end 46 at (digitsEnd from s) (drop (digitsEnd from s) s) (omega arith) (here-is (at + digitsEnd from s) (drop (digitsEnd from s) s) (past at (at + digitsEnd from s) (digitsEnd from s) s t (omega arith) refl) h) in
+      let hp = part-end 46 false at (digitsEnd from s) (drop (digitsEnd from s) s) (omega arith) (here-is (at + digitsEnd from s) (drop (digitsEnd from s) s) (past at (at + digitsEnd from s) (digitsEnd from s) s t (omega arith) refl) h) in
       let q = pointAt (digitsEnd from s) s .end in
       ends-number at from (digitsEnd from s) (value 0 (drop from s)) (pointAt (digitsEnd from s) s) (exponentAt (pointAt (digitsEnd from s) s .end) s) a h hp
-      (part-end 69 at (pointAt (digitsEnd from s) s .end) (drop (pointAt (digitsEnd from s) s .end) s) (omega arith)
+      (part-end 69 true at (pointAt (digitsEnd from s) s .end) (drop (pointAt (digitsEnd from s) s .end) s) (omega arith)
       (here-is (at + pointAt (digitsEnd from s) s .end) (drop (pointAt (digitsEnd from s) s .end) s) (past at (at + pointAt (digitsEnd from s) s .end) (pointAt (digitsEnd from s) s .end) s t p1 refl) hp))
 
   ends-sign : (k at b : ℕ) (s : List ℕ) → Here src at (b ∷ s) → Here src (at + 1) s → Ends src (signScan k at (b ∷ s))

@@ -2,6 +2,7 @@
 -- The form that the code follows, with a flag carried along, and what its functions answer: Carried, Steps, Puts.
 -- Laws of each scan: ClassLaws, BlankLaws, WordLaws, NumberLaws, LiteralLaws, ScanLaws, PlaceLaws. Laws of reading: TurnCases, LexLaws, TurnLaws, ReadLaws.
 -- That the flag is 01's rule for stars: LineLaws, StarLaws. Telling cases of that rule: StarCases.
+-- Telling cases of the sign after a number's `E`: ExponentCases.
 -- What tokens are: ShapeLaws, TokenLaws. Where they stand: OrderLaws; on character boundaries: Boundaries, BoundaryLaws, EndLaws, ReadBoundaries.
 pub mod Classes
 pub mod Stars
@@ -35,5 +36,6 @@ pub mod TokenLaws
 pub mod EndLaws
 pub mod StarLaws
 pub mod StarCases
+pub mod ExponentCases
 pub mod OrderLaws
 pub mod ReadBoundaries

@@ -6,15 +6,17 @@ use native.Mathlib.Nat.{add-zero, le-refl}
 use native.Mathlib.Numerals.{add-one}
 use native.Mathlib.Omega.{arith}
 use mathlib.Core.List.{List, [], _∷_}
-use mathlib.Core.Bool.{Bool, true, false, _&&_, _||_}
+use mathlib.Core.Bool.{Bool, true, false, _&&_, true≢false}
 use mathlib.Core.Path.{_≡_, refl, ap, ap₂, _∙_, sym}
 use lib.Dec.{leb, ltb, eqb}
 use lib.ListN.{length, drop, getD, drop-of-length-le}
-use lib.Seq.{drop-cons}
-use Rattle.refal_text.specs.Pick.{pick}
+use lib.Seq.{drop-cons, drop-drop}
+use Rattle.refal_rows.specs.Tests.{and-right}
+use Rattle.refal_text.specs.Pick.{pick, split}
 use Rattle.refal_text.specs.Span.{span}
-use Rattle.refal_lexer.specs.Classes.{digit}
-use Rattle.refal_lexer.specs.Numbers.{value, ends, part, pointAt, exponentAt, wholeScan, numberOf, digitsEnd, numberScan}
+use Rattle.refal_lexer.specs.Classes.{digit, sign}
+use Rattle.refal_lexer.specs.Numbers.{value, ends, digitsAt, signBytes, part, pointAt, exponentAt, wholeScan, numberOf, digitsEnd, numberScan}
+use Rattle.refal_lexer.specs.BlankLaws.{nonzero-in}
 use Rattle.refal_lexer.specs.declared.number.Part.{Part}
 use Rattle.refal_lexer.specs.declared.Scan.{Scan}
 use Rattle.refal_lexer.specs.declared.Scan.the-variants.{Token, Bad}
@@ -72,17 +74,37 @@ eqb-sum : (a n : ℕ) → eqb (a + n) a ≡ eqb n 0
 eqb-sum a zero = eq-eqb (a + 0) a (add-zero a)
 eqb-sum a (suc n) = ne-eqb (a + suc n) a (λ e. omega arith) ∙ sym (ne-eqb (suc n) 0 (λ e. omega arith))
 
-pub part-here : (mark : ℕ) (s : List ℕ) (i end : ℕ) (bare : Bool) → i < length s → getD s i 0 ≡ mark → end ≡ i + 1 + span digit (drop (i + 1) s) → bare ≡ eqb end (i + 1)
-    → ends end bare ≡ part mark i (drop i s)
-part-here mark s i end bare h e f g =
-    let n = span digit (drop (i + 1) s) in
-    let z : bare ≡ eqb (span digit (drop (i + 1) s)) 0 = g ∙ ap (λ (k : ℕ). eqb k (i + 1)) f ∙ eqb-sum (i + 1) (span digit (drop (i + 1) s)) in
-    ap₂ ends f z ∙ sym (rw (drop-cons s i 0 h, eq-eqb _ _ e, ← add-one i) refl)
+-- the bytes of a sign, by the byte b at i
+pub sign-here : (signed : Bool) (s : List ℕ) (i b : ℕ) → b ≡ getD s i 0 → signed && sign b ≡ true → (i < length s) × (i + 1 ≡ i + signBytes signed (drop i s))
+sign-here signed s i b e t =
+    let u : sign (getD s i 0) ≡ true = sym (ap sign e) ∙ and-right signed (sign b) t in
+    let h : i < length s = nonzero-in s i (λ z. absurd (true≢false (sym u ∙ ap sign z))) in
+    (h, sym (rw (drop-cons s i 0 h, sym (ap (λ (x : ℕ). signed && sign x) e) ∙ t) refl))
 
-pub part-none : (mark : ℕ) (s : List ℕ) (i : ℕ) → (getD s i 0 ≡ mark → ⊥) → ends i false ≡ part mark i (drop i s)
-part-none mark s i e = go (decLe (suc i) (length s))
+pub sign-none : (signed : Bool) (s : List ℕ) (i b : ℕ) → b ≡ getD s i 0 → signed && sign b ≡ false → i ≡ i + signBytes signed (drop i s)
+sign-none signed s i b e t = go (decLe (suc i) (length s))
   where
-    go : Dec (suc i ≤ length s) → ends i false ≡ part mark i (drop i s)
+    go : Dec (suc i ≤ length s) → i ≡ i + signBytes signed (drop i s)
+    go (yes h) = sym (rw (drop-cons s i 0 h, sym (ap (λ (x : ℕ). signed && sign x) e) ∙ t) (add-zero i))
+    go (no h) = sym (rw (drop-of-length-le s (let l : length s ≤ i = omega arith in l)) (add-zero i))
+
+pub sign-le : (signed : Bool) (t : List ℕ) → signBytes signed t ≤ length t
+sign-le signed [] = le-refl 0
+sign-le signed (b ∷ t) = split (λ (n : ℕ). n ≤ suc (length t)) (signed && sign b) 1 0 (λ _. omega arith) (λ _. omega arith)
+
+pub part-here : (mark : ℕ) (signed : Bool) (s : List ℕ) (i first end : ℕ) (bare : Bool) → i < length s → getD s i 0 ≡ mark → first ≡ i + 1 + signBytes signed (drop (i + 1) s)
+    → end ≡ first + span digit (drop first s) → bare ≡ eqb end first → ends end bare ≡ part mark signed i (drop i s)
+part-here mark signed s i first end bare h e f g k =
+    let n = signBytes signed (drop (i + 1) s) in
+    let d : drop first s ≡ drop n (drop (i + 1) s) = ap (λ (j : ℕ). drop j s) f ∙ sym (drop-drop n (i + 1) s) in
+    ap₂ ends g (k ∙ ap (λ (j : ℕ). eqb j first) g ∙ eqb-sum first (span digit (drop first s)))
+    ∙ ap₂ (λ (j : ℕ) (t : List ℕ). digitsAt j t) f d
+    ∙ sym (rw (drop-cons s i 0 h, eq-eqb _ _ e, ← add-one i) refl)
+
+pub part-none : (mark : ℕ) (signed : Bool) (s : List ℕ) (i : ℕ) → (getD s i 0 ≡ mark → ⊥) → ends i false ≡ part mark signed i (drop i s)
+part-none mark signed s i e = go (decLe (suc i) (length s))
+  where
+    go : Dec (suc i ≤ length s) → ends i false ≡ part mark signed i (drop i s)
     go (yes h) = sym (rw (drop-cons s i 0 h, ne-eqb _ _ e) refl)
     go (no h) = sym (rw (drop-of-length-le s (let l : length s ≤ i = omega arith in l)) refl)
 

@@ -1,4 +1,5 @@
--- Numbers: digits, then `.` with digits, then `E` with digits, both optional. s stands at offset `at`; its digits start at `from`, which is 1 behind a sign and else 0.
+-- Numbers: digits, then `.` with digits, then `E` with digits, before which one sign may stand, both optional. s stands at offset `at`; its digits start
+-- at `from`, which is 1 behind a sign and else 0.
 use Prim.Native.Nat.{ℕ, _+_, _-_, _*_}
 use mathlib.Core.List.{List, [], _∷_}
 use lib.Dec.{leb, ltb, eqb}
@@ -6,10 +7,10 @@ use lib.ListN.{drop}
 use Rattle.refal_text.specs.Pick.{pick}
 use Rattle.refal_text.specs.Span.{span}
 use Rattle.refal_ast.specs.Kinds.{tokNumber}
-use Rattle.refal_lexer.specs.Classes.{digit}
+use Rattle.refal_lexer.specs.Classes.{digit, sign}
 use Rattle.refal_lexer.specs.declared.Scan.{Scan}
 use Rattle.refal_lexer.specs.declared.Scan.the-variants.{Token, Bad}
-use mathlib.Core.Bool.{Bool, false}
+use mathlib.Core.Bool.{Bool, true, false, _&&_}
 use Rattle.refal_lexer.specs.declared.number.Part.{Part}
 
 -- what the digits at the front of s are worth, after digits that are worth v
@@ -21,16 +22,27 @@ value v (b ∷ s) = pick (digit b) (value (v * 10 + (b - 48)) s) v
 abbrev pub ends : ℕ → Bool → Part
 ends end bare = record { end = end; bare = bare }
 
--- the part at i, where t stands, that `mark` begins: a mark and n digits; no part ends where it would start
-abbrev pub part : ℕ → ℕ → List ℕ → Part
-part mark i [] = ends i false
-part mark i (b ∷ t) = pick (eqb b mark) (ends (i + 1 + span digit t) (eqb (span digit t) 0)) (ends i false)
+-- the digits at i, where t stands
+abbrev pub digitsAt : ℕ → List ℕ → Part
+digitsAt i t = ends (i + span digit t) (eqb (span digit t) 0)
 
+-- how many bytes of a sign stand at the front of t: one at most, and none where the part is not signed
+abbrev pub signBytes : Bool → List ℕ → ℕ
+signBytes signed [] = 0
+signBytes signed (b ∷ t) = pick (signed && sign b) 1 0
+
+-- the part at i, where t stands, that `mark` begins: a mark, one sign or none if the part is signed, and digits; no part ends where it would start
+abbrev pub part : ℕ → Bool → ℕ → List ℕ → Part
+part mark signed i [] = ends i false
+part mark signed i (b ∷ t) = pick (eqb b mark) (digitsAt (i + 1 + signBytes signed t) (drop (signBytes signed t) t)) (ends i false)
+
+-- `.` and digits
 abbrev pub pointAt : ℕ → List ℕ → Part
-pointAt i s = part 46 i (drop i s)
+pointAt i s = part 46 false i (drop i s)
 
+-- `E`, a sign or none, and digits
 abbrev pub exponentAt : ℕ → List ℕ → Part
-exponentAt i s = part 69 i (drop i s)
+exponentAt i s = part 69 true i (drop i s)
 
 -- digits alone, worth v, to the n-th byte
 abbrev pub wholeScan : ℕ → ℕ → ℕ → ℕ → Scan

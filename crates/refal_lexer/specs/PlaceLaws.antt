@@ -2,7 +2,7 @@
 use Prim.Native.Nat.{ℕ, zero, suc, _+_, _-_, _<_, _≤_}
 use native.Mathlib.Omega.{arith}
 use mathlib.Core.List.{List, [], _∷_, _++_}
-use mathlib.Core.Bool.{true, false, _&&_, _||_, true≢false}
+use mathlib.Core.Bool.{Bool, true, false, _&&_, _||_, true≢false}
 use mathlib.Core.Path.{_≡_, subst, refl, ap, sym, _∙_}
 use lib.Dec.{leb, ltb, eqb}
 use lib.ListN.{length, drop, length-drop, getD}
@@ -17,11 +17,12 @@ use Rattle.refal_lexer.specs.declared.Scan.the-variants.{Token, Bad}
 use Rattle.refal_ast.specs.Tokens.{token}
 use Rattle.refal_lexer.specs.Tokens.{wideScan, signScan, classScan, Found, found, refused, one, literalOf, tokenAt}
 use Rattle.refal_lexer.specs.Words.{nameOf, otherScan, indexOf, variableScan, entryWord, externWord, directiveOf}
-use Rattle.refal_lexer.specs.Numbers.{value, part, numberOf, numberScan, pointAt, exponentAt, digitsEnd}
+use Rattle.refal_lexer.specs.Numbers.{value, signBytes, part, numberOf, numberScan, pointAt, exponentAt, digitsEnd}
 use Rattle.refal_lexer.specs.Literals.{litFrom, Lit, closed, newline, unclosed}
 use Rattle.refal_lexer.specs.ClassLaws.{ClassIs, class-view, is-wide, is-white, is-quote, is-star, is-slash, is-dollar, is-plus, is-minus, is-upper, is-digit, is-variable, is-other, is-single, is-none}
 use borrow.Author.Tests.{eqb-false}
 use Rattle.refal_lexer.specs.BlankLaws.{nonzero-in}
+use Rattle.refal_lexer.specs.NumberLaws.{sign-le}
 use Rattle.refal_lexer.specs.declared.number.Part.{Part}
 use Rattle.refal_lexer.specs.LiteralLaws.{lit-closed}
 
@@ -57,15 +58,18 @@ module _ (at m : ℕ) where
       split (Placed at (at + m)) (leb v 4294967295) _ _ (λ _. (refl, omega arith, omega arith, text-in (omega arith) (omega arith))) (λ _. (refl, omega arith, omega arith)))) (λ _.
       (refl, omega arith, omega arith, text-in (omega arith) (omega arith)))))
 
-pub part-in : (mark i : ℕ) (t : List ℕ) → (i ≤ part mark i t .end) × (part mark i t .end ≤ i + length t)
-part-in mark i [] = (omega arith, omega arith)
-part-in mark i (b ∷ t) =
-    let h = span-le digit t in
+pub part-in : (mark : ℕ) (signed : Bool) (i : ℕ) (t : List ℕ) → (i ≤ part mark signed i t .end) × (part mark signed i t .end ≤ i + length t)
+part-in mark signed i [] = (omega arith, omega arith)
+part-in mark signed i (b ∷ t) =
+    let n = signBytes signed t in
+    let h = span-le digit (drop (signBytes signed t) t) in
+    let l = sign-le signed t in
+    let d = length-drop (signBytes signed t) t in
     split (λ (p : Part). (i ≤ p .end) × (p .end ≤ i + suc (length t))) (eqb b mark) _ _ (λ _. (omega arith, omega arith)) (λ _. (omega arith, omega arith))
 
-pub part-within : (mark i : ℕ) (s : List ℕ) → i ≤ length s → (i ≤ part mark i (drop i s) .end) × (part mark i (drop i s) .end ≤ length s)
-part-within mark i s h =
-    let p = part-in mark i (drop i s) in
+pub part-within : (mark : ℕ) (signed : Bool) (i : ℕ) (s : List ℕ) → i ≤ length s → (i ≤ part mark signed i (drop i s) .end) × (part mark signed i (drop i s) .end ≤ length s)
+part-within mark signed i s h =
+    let p = part-in mark signed i (drop i s) in
     let lo = p .0 in
     let hi = p .1 in
     let d = length-drop i s in
@@ -75,10 +79,10 @@ placed-digits : (at from : ℕ) (s : List ℕ) → from ≤ length s → 0 < spa
 placed-digits at from s l h =
     let a = span-le digit (drop from s) in
     let d = length-drop from s in
-    let p = part-within 46 (digitsEnd from s) s (omega arith) in
+    let p = part-within 46 false (digitsEnd from s) s (omega arith) in
     let p0 = p .0 in
     let p1 = p .1 in
-    let e = part-within 69 (pointAt (digitsEnd from s) s .end) s p1 in
+    let e = part-within 69 true (pointAt (digitsEnd from s) s .end) s p1 in
     placed-number at (length s) from (digitsEnd from s) (value 0 (drop from s)) (pointAt (digitsEnd from s) s) (exponentAt (pointAt (digitsEnd from s) s .end) s) (omega arith) p0 (e .0) (e .1)
 
 placed-other : (at b : ℕ) (s : List ℕ) → Placed at (at + suc (length s)) (otherScan at (b ∷ s))

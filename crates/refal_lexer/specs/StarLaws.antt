@@ -17,12 +17,12 @@ use Rattle.refal_text.specs.SpanLaws.{span-le}
 use Rattle.refal_text.specs.Utf8.{decode}
 use Rattle.refal_text.specs.White.{whiteSpace}
 use Rattle.refal_text.specs.declared.Char.{Char}
-use Rattle.refal_lexer.specs.Classes.{upper, digit, letter, nameByte, notNewline, classOf, cQuote, cMinus}
+use Rattle.refal_lexer.specs.Classes.{upper, digit, sign, letter, nameByte, notNewline, classOf, cQuote, cMinus}
 use Rattle.refal_lexer.specs.ClassLaws.{ClassIs, class-view, is-wide, is-white, is-quote, is-star, is-slash, is-dollar, is-plus, is-minus, is-upper, is-digit, is-variable, is-other, is-single, is-none}
 use Rattle.refal_lexer.specs.Carried.{lineAfter, lexBy}
 use Rattle.refal_lexer.specs.Blanks.{whiteLen, closeTo, commentAt, onWhite, onComment}
 use Rattle.refal_lexer.specs.Words.{entryWord, externWord, nameOf, indexOf, variableScan, directiveOf}
-use Rattle.refal_lexer.specs.Numbers.{value, part, pointAt, exponentAt, numberOf, digitsEnd, numberScan}
+use Rattle.refal_lexer.specs.Numbers.{value, signBytes, part, pointAt, exponentAt, numberOf, digitsEnd, numberScan}
 use Rattle.refal_lexer.specs.Literals.{litChar, Lit, closed, newline, unclosed, litStep, litFrom}
 use Rattle.refal_lexer.specs.Lex.{Out, moreAll, stopBad}
 use Rattle.refal_lexer.specs.EndLaws.{At, Low, either, range-low, digit-low, letter-low, name-low}
@@ -36,6 +36,7 @@ use Rattle.refal_lexer.specs.declared.Scan.the-variants.{Token, Bad}
 use Rattle.refal_lexer.specs.Tokens.{signScan, wideScan, classScan, Found, found, refused, one, literalOf, tokenAt}
 use Rattle.refal_lexer.specs.Source.{onFound, turn, lex01, source}
 use Rattle.refal_lexer.specs.BlankLaws.{comment-in}
+use Rattle.refal_lexer.specs.NumberLaws.{sign-le}
 use Rattle.refal_lexer.specs.PlaceLaws.{FoundIn, found-in, part-within}
 
 -- ---- bytes that are no white space, by their class
@@ -166,22 +167,31 @@ module _ (src : List ℕ) where
       split Lined (eqb (e .end) n) _ _ (λ _. split Lined (ltb 0 from) _ _ (λ _. tt) (λ _. split Lined (leb v 4294967295) _ _ (λ _. x) (λ _. tt))) (λ _. z)))
 
   -- a part at i, where t stands
-  part-off : (mark at i : ℕ) (t : List ℕ) → Ink mark → At src (at + i) t → Off (at + i) → Off (at + part mark i t .end)
-  part-off mark at i [] l a h = h
-  part-off mark at i (b ∷ t) l a h =
+  sign-off : (signed : Bool) (i : ℕ) (t : List ℕ) → At src i t → Off i → Off (i + signBytes signed t)
+  sign-off signed i [] a h = moved (sym (add-zero i)) h
+  sign-off signed i (b ∷ t) a h =
+      split (λ (n : ℕ). Off (i + n)) (signed && sign b) 1 0
+      (λ u. step i (i + 1) b t a (either (eqb b 43) (eqb b 45) (is-ink b 43 (refl, refl)) (is-ink b 45 (refl, refl)) (and-right signed (sign b) u)) refl) (λ _. moved (sym (add-zero i)) h)
+
+  part-off : (mark : ℕ) (signed : Bool) (at i : ℕ) (t : List ℕ) → Ink mark → At src (at + i) t → Off (at + i) → Off (at + part mark signed i t .end)
+  part-off mark signed at i [] l a h = h
+  part-off mark signed at i (b ∷ t) l a h =
+      let n = signBytes signed t in
+      let c = next (at + i) (at + i + 1) b t a refl in
       split (λ (p : Part). Off (at + p .end)) (eqb b mark) _ _
-      (λ u. run digit digit-ink (at + i + 1) (at + (i + 1 + span digit t)) t (next (at + i) (at + i + 1) b t a refl) (step (at + i) (at + i + 1) b t a (is-ink b mark l u) refl) (omega arith)) (λ _. h)
+      (λ u. run digit digit-ink (at + i + 1 + n) (at + (i + 1 + n + span digit (drop n t))) (drop n t) (past (at + i + 1) (at + i + 1 + n) n t c (sign-le signed t) refl)
+      (sign-off signed (at + i + 1) t c (step (at + i) (at + i + 1) b t a (is-ink b mark l u) refl)) (omega arith)) (λ _. h)
 
   -- s stands at `at`, and its digits end where no line starts
   lined-digits : (at from : ℕ) (s : List ℕ) → At src at s → from ≤ length s → Off (at + digitsEnd from s) → Lined (numberScan at from s)
   lined-digits at from s a l h =
       let m = span-le digit (drop from s) in
       let d = length-drop from s in
-      let p = part-within 46 (digitsEnd from s) s (omega arith) in
-      let hp = part-off 46 at (digitsEnd from s) (drop (digitsEnd from s) s) (refl, refl) (past at (at + digitsEnd from s) (digitsEnd from s) s a (omega arith) refl) h in
+      let p = part-within 46 false (digitsEnd from s) s (omega arith) in
+      let hp = part-off 46 false at (digitsEnd from s) (drop (digitsEnd from s) s) (refl, refl) (past at (at + digitsEnd from s) (digitsEnd from s) s a (omega arith) refl) h in
       let p1 = p .1 in
       lined-number at from (digitsEnd from s) (value 0 (drop from s)) (pointAt (digitsEnd from s) s) (exponentAt (pointAt (digitsEnd from s) s .end) s) h
-      (part-off 69 at (pointAt (digitsEnd from s) s .end) (drop (pointAt (digitsEnd from s) s .end) s) (refl, refl) (past at (at + pointAt (digitsEnd from s) s .end) (pointAt (digitsEnd from s) s .end) s a p1 refl) hp)
+      (part-off 69 true at (pointAt (digitsEnd from s) s .end) (drop (pointAt (digitsEnd from s) s .end) s) (refl, refl) (past at (at + pointAt (digitsEnd from s) s .end) (pointAt (digitsEnd from s) s .end) s a p1 refl) hp)
 
   lined-sign : (k at b : ℕ) (s : List ℕ) → At src at (b ∷ s) → Off (at + 1) → Lined (signScan k at (b ∷ s))
   lined-sign k at b s a h =

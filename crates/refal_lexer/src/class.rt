@@ -2,7 +2,7 @@
 ghost use mathlib.Core.Path.{_≡_};
 ghost use Rattle.refal_lexer.specs.ClassLaws.{Table};
 ghost use Rattle.refal_lexer.specs.Classes.{classOf, nameByte, blank, letter};
-ghost use Rattle.refal_lexer.specs.Classes.{upper, digit, singleKind};
+ghost use Rattle.refal_lexer.specs.Classes.{upper, digit, sign, singleKind};
 use refal_ast::kinds::token as kind;
 
 // The classes that decide a token, by name; those of `specs/Classes.antt`.
@@ -307,6 +307,12 @@ pub fn is_digit(b: u8) -> bool
     ensures { λ r. ⌜ r ≡ digit b ⌝ }
 {
     (48 <= b) & (b <= 57)
+}
+
+pub fn is_sign(b: u8) -> bool
+    ensures { λ r. ⌜ r ≡ sign b ⌝ }
+{
+    (b == 43) | (b == 45)
 }
 
 pub fn is_upper(b: u8) -> bool

@@ -6,7 +6,7 @@ ghost use lib.ListN.{length, drop, getD};
 ghost use Rattle.refal_text.specs.Span.{span};
 ghost use Rattle.refal_lexer.specs.Classes.{digit};
 ghost use Rattle.refal_lexer.specs.NumberLaws.{worth, digitStep};
-ghost use Rattle.refal_lexer.specs.Numbers.{part as partOf, pointAt, exponentAt, wholeScan, numberScan};
+ghost use Rattle.refal_lexer.specs.Numbers.{part as partOf, signBytes, pointAt, exponentAt, wholeScan, numberScan};
 use crate::Scan;
 use refal_ast::kinds::token as kind;
 
@@ -56,16 +56,29 @@ pub fn whole_end(src: &[u8], at: usize) -> Whole
     Whole { end: i, worth: v }
 }
 
-// The part at `at` that `mark` begins.
-fn marked(src: &[u8], at: usize, mark: u8) -> Part
+// Where the digits of a part start: at `at`, or behind a sign there, if the part is signed.
+fn past_sign(src: &[u8], at: usize, signed: bool) -> usize
+    requires { ⌜ at ≤ length (now src) ⌝ }
+    ensures { λ r. ⌜ (r ≡ at + signBytes signed (drop at (now (src .entry)))) × (at ≤ r) × (r ≤ length (now (src .entry))) ⌝ }
+{
+    let b = refal_text::byte(src, at);
+    if signed & crate::class::is_sign(b) {
+        return at + 1;
+    }
+    at
+}
+
+// The part at `at` that `mark` begins. If it is signed, one sign may stand before its digits.
+fn marked(src: &[u8], at: usize, mark: u8, signed: bool) -> Part
     requires { ⌜ (at ≤ length (now src)) × (0 < mark) ⌝ }
-    ensures { λ r. ⌜ (r ≡ partOf mark at (drop at (now (src .entry)))) × (at ≤ r .end) × (r .end ≤ length (now (src .entry))) ⌝ }
+    ensures { λ r. ⌜ (r ≡ partOf mark signed at (drop at (now (src .entry)))) × (at ≤ r .end) × (r .end ≤ length (now (src .entry))) ⌝ }
 {
     let b = refal_text::byte(src, at);
     if b == mark {
         let next = at + 1;
-        let end = crate::runs::digits_end(src, next);
-        let bare = end == next;
+        let first = past_sign(src, next, signed);
+        let end = crate::runs::digits_end(src, first);
+        let bare = end == first;
         return Part { end, bare };
     }
     Part {
@@ -78,14 +91,14 @@ pub fn point(src: &[u8], at: usize) -> Part
     requires { ⌜ at ≤ length (now src) ⌝ }
     ensures { λ r. ⌜ (r ≡ pointAt at (now (src .entry))) × (at ≤ r .end) × (r .end ≤ length (now (src .entry))) ⌝ }
 {
-    marked(src, at, b'.')
+    marked(src, at, b'.', false)
 }
 
 pub fn exponent(src: &[u8], at: usize) -> Part
     requires { ⌜ at ≤ length (now src) ⌝ }
     ensures { λ r. ⌜ (r ≡ exponentAt at (now (src .entry))) × (at ≤ r .end) × (r .end ≤ length (now (src .entry))) ⌝ }
 {
-    marked(src, at, b'E')
+    marked(src, at, b'E', true)
 }
 
 // A number with neither point nor E, of n bytes, whose digits start at `from`.

@@ -1,6 +1,6 @@
 -- The spelled tokens that reading gives: each kind with its detail and its word.
 use Prim.Native.Nat.{ℕ, suc, _≤_}
-use mathlib.Core.Bool.{Bool, true}
+use mathlib.Core.Bool.{Bool, true, false}
 use mathlib.Core.List.{List, [], _∷_, _++_}
 use mathlib.Core.Path.{_≡_}
 use lib.ListN.{length}
@@ -16,21 +16,21 @@ pub data Every (p : ℕ → Bool) : List ℕ → Type 0 where
   also : (b : ℕ) (s : List ℕ) → p b ≡ true → Every p s → Every p (b ∷ s)
 
 -- ---- numbers
--- a sign, or none
-pub data Sign : List ℕ → Type 0 where
-  unsigned : Sign []
-  plus : Sign (43 ∷ [])
-  minus : Sign (45 ∷ [])
+-- a sign, where one may stand, or none
+pub data Sign (signed : Bool) : List ℕ → Type 0 where
+  unsigned : Sign signed []
+  plus : signed ≡ true → Sign signed (43 ∷ [])
+  minus : signed ≡ true → Sign signed (45 ∷ [])
 
--- a mark with digits behind it, or nothing
-pub data Part (mark : ℕ) : List ℕ → Type 0 where
-  absent : Part mark []
-  digits : (b : ℕ) (s : List ℕ) → digit b ≡ true → Every digit s → Part mark (mark ∷ b ∷ s)
+-- a mark with digits behind it, before which a sign stands where one may, or nothing
+pub data Part (mark : ℕ) (signed : Bool) : List ℕ → Type 0 where
+  absent : Part mark signed []
+  digits : (sign : List ℕ) (b : ℕ) (s : List ℕ) → Sign signed sign → digit b ≡ true → Every digit s → Part mark signed (mark ∷ sign ++ (b ∷ s))
 
 -- a macrodigit: digits alone, unsigned, worth at most 4294967295; or a real: a point's part or an E's part, or both
 pub data Number : List ℕ → Type 0 where
   macrodigit : (b : ℕ) (s : List ℕ) → digit b ≡ true → Every digit s → value 0 (b ∷ s) ≤ 4294967295 → Number (b ∷ s)
-  real : (sign : List ℕ) (b : ℕ) (s ps qs : List ℕ) → Sign sign → digit b ≡ true → Every digit s → Part 46 ps → Part 69 qs → 1 ≤ length (ps ++ qs)
+  real : (sign : List ℕ) (b : ℕ) (s ps qs : List ℕ) → Sign true sign → digit b ≡ true → Every digit s → Part 46 false ps → Part 69 true qs → 1 ≤ length (ps ++ qs)
       → Number (sign ++ (b ∷ s ++ (ps ++ qs)))
 
 -- ---- all kinds but Eof

@@ -1,7 +1,6 @@
 -- A good word with its end behind it is scanned as one token, whole.
 use Prim.Native.Nat.{ℕ, suc, _+_, _<_, _≤_}
 use native.Mathlib.Omega.{arith}
-use native.Mathlib.Nat.{add-zero}
 use borrow.Author.Tests.{le-leb, eqb-true, ne-eqb}
 use mathlib.Core.Bool.{Bool, true, false, _||_, true≢false}
 use mathlib.Core.List.{List, _∷_, _++_, append-assoc}
@@ -81,10 +80,10 @@ pub number-some : (w : List ℕ) → Number w → 1 ≤ length w
 number-some w (macrodigit b s d a h) = omega arith
 number-some w (real sign b s ps qs g d a hp hq h) = let l = length-append sign (b ∷ s ++ (ps ++ qs)) in omega arith
 
-sign-scan : (at : ℕ) (sign : List ℕ) (b : ℕ) (s : List ℕ) → Sign sign → digit b ≡ true → tokenScan at (sign ++ (b ∷ s)) ≡ numberEnds at (at + length sign) (b ∷ s)
-sign-scan at sign b s unsigned d = by-class 22 at b s (class-of-digit b d) ∙ unsigned-ends at (b ∷ s) ∙ ap (λ (k : ℕ). numberEnds at k (b ∷ s)) (sym (add-zero at))
-sign-scan at sign b s plus d = ap (λ (t : Bool). pick t (numberScan at 1 (43 ∷ b ∷ s)) (pick (eqb 17 cMinus) (otherScan at (43 ∷ b ∷ s)) (Bad 10 at (at + 1)))) d ∙ signed-ends at 43 (b ∷ s)
-sign-scan at sign b s minus d = ap (λ (t : Bool). pick t (numberScan at 1 (45 ∷ b ∷ s)) (pick (eqb 20 cMinus) (otherScan at (45 ∷ b ∷ s)) (Bad 10 at (at + 1)))) d ∙ signed-ends at 45 (b ∷ s)
+sign-scan : (at : ℕ) (sign : List ℕ) (b : ℕ) (s : List ℕ) → Sign true sign → digit b ≡ true → tokenScan at (sign ++ (b ∷ s)) ≡ numberEnds at (length sign) (b ∷ s)
+sign-scan at sign b s unsigned d = by-class 22 at b s (class-of-digit b d) ∙ unsigned-ends at (b ∷ s)
+sign-scan at sign b s (plus e) d = ap (λ (t : Bool). pick t (numberScan at 1 (43 ∷ b ∷ s)) (pick (eqb 17 cMinus) (otherScan at (43 ∷ b ∷ s)) (Bad 10 at (at + 1)))) d ∙ signed-ends at 43 (b ∷ s)
+sign-scan at sign b s (minus e) d = ap (λ (t : Bool). pick t (numberScan at 1 (45 ∷ b ∷ s)) (pick (eqb 20 cMinus) (otherScan at (45 ∷ b ∷ s)) (Bad 10 at (at + 1)))) d ∙ signed-ends at 45 (b ∷ s)
 
 pub scan-number : (w : List ℕ) → Number w → (at : ℕ) (r : List ℕ) → Ends r → tokenScan at (w ++ r) ≡ Token tokNumber 0 at (length w) at (at + length w)
 scan-number w (macrodigit b s d a h) at r e = by-class 22 at b (s ++ r) (class-of-digit b d) ∙ unsigned-ends at (b ∷ s ++ r) ∙ scan-macrodigit at (b ∷ s) r (also b s d a) h e
@@ -92,4 +91,4 @@ scan-number w (real sign b s ps qs g d a hp hq h) at r e =
     let l = length-append sign (b ∷ s ++ (ps ++ qs)) in
     ap (tokenScan at) (append-assoc sign (b ∷ s ++ (ps ++ qs)) r)
     ∙ sign-scan at sign b ((s ++ (ps ++ qs)) ++ r) g d
-    ∙ scan-real at (at + length sign) (length (sign ++ (b ∷ s ++ (ps ++ qs)))) (b ∷ s) ps qs r (also b s d a) hp hq h e (omega arith)
+    ∙ scan-real at (length sign) (length (sign ++ (b ∷ s ++ (ps ++ qs)))) (b ∷ s) ps qs r (also b s d a) hp hq h e (omega arith)

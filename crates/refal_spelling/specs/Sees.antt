@@ -23,9 +23,9 @@ use Rattle.refal_lexer.specs.Tokens.{signScan, classScan, tokenScan}
 use Rattle.refal_lexer.specs.declared.Scan.{Scan}
 use Rattle.refal_lexer.specs.declared.Scan.the-variants.{Token, Bad}
 use Rattle.refal_spelling.specs.Spell.{spelled}
-use Rattle.refal_spelling.specs.Good.{none, also, Sign, plus, minus, Good, entry, extern, identifier, variableOf, number, mark}
+use Rattle.refal_spelling.specs.Good.{none, also, Sign, unsigned, plus, minus, Good, entry, extern, identifier, variableOf, number, mark}
 use Rattle.refal_spelling.specs.Runs.{every-span, length-span}
-use Rattle.refal_spelling.specs.NumberWords.{unsigned-ends, signed-ends, SeesNumber, no-number, a-number, no-sign, with-sign, sees-number}
+use Rattle.refal_spelling.specs.NumberWords.{unsigned-ends, signed-ends, SeesNumber, no-number, a-number, sees-number}
 
 -- the bytes b ∷ s stand at `at`. A word w stands behind `pre`, which only a variable has
 pub data Sees (at b : ℕ) (s : List ℕ) : Scan → Type 0 where
@@ -83,11 +83,11 @@ of-number : (at b : ℕ) (s : List ℕ) (r : Scan) → SeesNumber at (b ∷ s) r
 of-number at b s r no-number = a-bad
 of-number at b s r (a-number {len} {end} w rest f l e h) = a-word {start = at} {len = len} {e = end} [] w rest f (sym (add-zero at)) l (omega arith) (λ _. refl) refl (number w h)
 
-sees-sign : (k at b : ℕ) (s : List ℕ) → Sign (b ∷ []) → Sees at b s (signScan k at (b ∷ s))
+sees-sign : (k at b : ℕ) (s : List ℕ) → Sign true (b ∷ []) → Sees at b s (signScan k at (b ∷ s))
 sees-sign k at b [] g = split (Sees at b []) (eqb k cMinus) _ _ (λ _. a-bad) (λ _. a-bad)
 sees-sign k at b (c ∷ s) g =
     split (Sees at b (c ∷ s)) (digit c) _ _
-    (λ d. subst (Sees at b (c ∷ s)) (sym (signed-ends at b (c ∷ s))) (of-number at b (c ∷ s) _ (sees-number at (at + 1) (b ∷ []) (with-sign b g) c s d))) (λ _.
+    (λ d. subst (Sees at b (c ∷ s)) (sym (signed-ends at b (c ∷ s))) (of-number at b (c ∷ s) _ (sees-number at 1 (b ∷ []) g refl c s d))) (λ _.
     split (Sees at b (c ∷ s)) (eqb k cMinus) _ _ (λ _. a-bad) (λ _. a-bad))
 
 -- ---- every class
@@ -98,10 +98,10 @@ sees-class at b s k (is-quote h) = a-bad
 sees-class at b s k (is-star h) = a-bad
 sees-class at b s k (is-slash h) = a-bad
 sees-class at b s k (is-dollar h) = sees-directive at b s
-sees-class at b s k (is-plus h) = sees-sign 17 at b s (subst (λ (x : ℕ). Sign (x ∷ [])) (sym (eqb-true _ _ h)) plus)
-sees-class at b s k (is-minus h) = sees-sign 20 at b s (subst (λ (x : ℕ). Sign (x ∷ [])) (sym (eqb-true _ _ h)) minus)
+sees-class at b s k (is-plus h) = sees-sign 17 at b s (subst (λ (x : ℕ). Sign true (x ∷ [])) (sym (eqb-true _ _ h)) (plus refl))
+sees-class at b s k (is-minus h) = sees-sign 20 at b s (subst (λ (x : ℕ). Sign true (x ∷ [])) (sym (eqb-true _ _ h)) (minus refl))
 sees-class at b s k (is-upper h) = sees-name at b s h
-sees-class at b s k (is-digit h) = subst (Sees at b s) (sym (unsigned-ends at (b ∷ s))) (of-number at b s _ (sees-number at at [] no-sign b s h))
+sees-class at b s k (is-digit h) = subst (Sees at b s) (sym (unsigned-ends at (b ∷ s))) (of-number at b s _ (sees-number at 0 [] unsigned refl b s h))
 sees-class at b s k (is-variable h) = sees-variable at b s h
 sees-class at b s k (is-other h) = a-bad
 sees-class at b s k (is-single h) = let r = single-range b h in a-plain (mark (singleKind b) (range-lo 7 (singleKind b) 16 r) (range-hi 7 (singleKind b) 16 r))

@@ -73,21 +73,21 @@ digit-ascii b h = lt-ltb _ _ (digit-low b h)
 digits-ascii : (b : ℕ) (s : List ℕ) → digit b ≡ true → Every digit s → Every ascii (b ∷ s)
 digits-ascii b s d a = every-map digit ascii digit-ascii (b ∷ s) (also b s d a)
 
-part-ascii : (m : ℕ) (ps : List ℕ) → ascii m ≡ true → Part m ps → Every ascii ps
-part-ascii m ps h absent = none
-part-ascii m ps h (digits b s d a) = also m (b ∷ s) h (digits-ascii b s d a)
+sign-ascii : (signed : Bool) (l : List ℕ) → Sign signed l → Every ascii l
+sign-ascii signed l unsigned = none
+sign-ascii signed l (plus e) = also 43 [] refl none
+sign-ascii signed l (minus e) = also 45 [] refl none
 
-sign-ascii : (s : List ℕ) → Sign s → Every ascii s
-sign-ascii s unsigned = none
-sign-ascii s plus = also 43 [] refl none
-sign-ascii s minus = also 45 [] refl none
+part-ascii : (m : ℕ) (signed : Bool) (ps : List ℕ) → ascii m ≡ true → Part m signed ps → Every ascii ps
+part-ascii m signed ps h absent = none
+part-ascii m signed ps h (digits l b s g d a) = also m (l ++ (b ∷ s)) h (every-append ascii l (b ∷ s) (sign-ascii signed l g) (digits-ascii b s d a))
 
 number-ascii : (w : List ℕ) → Number w → Every ascii w
 number-ascii w (macrodigit b s d a h) = digits-ascii b s d a
 number-ascii w (real sign b s ps qs g d a hp hq h) =
-    every-append ascii sign (b ∷ s ++ (ps ++ qs)) (sign-ascii sign g)
+    every-append ascii sign (b ∷ s ++ (ps ++ qs)) (sign-ascii true sign g)
     (every-append ascii (b ∷ s) (ps ++ qs) (digits-ascii b s d a)
-    (every-append ascii ps qs (part-ascii 46 ps refl hp) (part-ascii 69 qs refl hq)))
+    (every-append ascii ps qs (part-ascii 46 false ps refl hp) (part-ascii 69 true qs refl hq)))
 
 -- ---- characters
 well-encode : (x : ℕ) (l : List ℕ) → Enc x l → ((r : List ℕ) → decode (l ++ r) ≡ char x (length l)) → Well l

@@ -120,10 +120,10 @@ unfolding starts
 number-starts w (macrodigit b s d a h) = rw d refl
 number-starts w (real sign b s ps qs g d a p q h) = go sign g
   where
-    go : (l : List ℕ) → Sign l → starts (getD (l ++ (b ∷ s ++ (ps ++ qs))) 0 0) (getD (l ++ (b ∷ s ++ (ps ++ qs))) 1 0) ≡ true
+    go : (l : List ℕ) → Sign true l → starts (getD (l ++ (b ∷ s ++ (ps ++ qs))) 0 0) (getD (l ++ (b ∷ s ++ (ps ++ qs))) 1 0) ≡ true
     go l unsigned = rw d refl
-    go l plus = rw d refl
-    go l minus = rw d refl
+    go l (plus e) = rw d refl
+    go l (minus e) = rw d refl
 
 no-good : (w : List ℕ) → starts (getD w 0 0) (getD w 1 0) ≡ false → Good (spelled tokNumber 0 w) → ⊥
 no-good w h (number v n) = differ (number-starts v n) h

@@ -131,6 +131,11 @@ pub fn program(rng: &mut Rng, items: usize) -> String {
     maker.text
 }
 
+/// The program with a sign after the `E` of each of its numbers.
+pub fn signed_exponents(program: &str) -> String {
+    program.replace("E10", "E+10").replace("E3", "E-3")
+}
+
 /// A copy with a few places cut, doubled, swapped, changed or put in, or a `;` left out.
 pub fn damaged(rng: &mut Rng, good: &[u8]) -> Vec<u8> {
     let mut bytes = good.to_vec();

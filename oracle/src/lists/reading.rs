@@ -20,7 +20,26 @@ pub fn cases() -> Vec<Case> {
     for src in comments() {
         put(&mut cases, &mut rng, src);
     }
+    for src in exponents() {
+        put(&mut cases, &mut rng, src.clone().into_bytes());
+        put(&mut cases, &mut rng, format!("A {src};").into_bytes());
+    }
     cases
+}
+
+/// What may stand after a number's `E`, and what may not.
+pub fn exponents() -> Vec<String> {
+    let mut all = Vec::new();
+    for whole in ["1", "-0.25"] {
+        for sign in ["", "+", "-", "--", "+-"] {
+            for rest in [
+                "", "5", "03", "x", "E5", " 5", ".5", "5.2", "5E-5", "5-5", "é",
+            ] {
+                all.push(format!("{whole}E{sign}{rest}"));
+            }
+        }
+    }
+    all
 }
 
 /// Lent words around those that the tokens take.
@@ -190,8 +209,8 @@ fn texts() -> Vec<String> {
         "1E",
         "1Ea",
         "1.5E",
-        "1E+5",
-        "1E-5",
+        "1E+",
+        "1E-x",
         "+1E",
         "1e5",
         "+1",

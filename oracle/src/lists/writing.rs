@@ -1,7 +1,7 @@
 //! Writing: trees of every kind of node, each word of each row changed, rows dropped, doubled and
 //! swapped, semicolons left off, texts that are no spellings, outputs shorter, exact and longer.
 
-use super::SEED;
+use super::{SEED, reading};
 use crate::cases::Case;
 use crate::generate::nests::{self, Way};
 use crate::generate::{Rng, tokens, trees};
@@ -62,6 +62,11 @@ pub fn cases() -> Vec<Case> {
     for words in each_word_changed(&src) {
         put(&mut cases, &mut rng, words, src.clone().into_bytes());
     }
+    for text in reading::exponents() {
+        let src = format!("F{text}").into_bytes();
+        let tree = around(node::NUMBER, 0, (1, text.len() as u32));
+        put(&mut cases, &mut rng, tree, src);
+    }
     cases
 }
 
@@ -110,7 +115,7 @@ fn runs() -> Vec<String> {
 }
 
 /// Sources with every kind of node.
-pub const SOURCES: [&str; 16] = [
+pub const SOURCES: [&str; 17] = [
     "",
     "$ENTRY Go{=;}",
     "F{}",
@@ -127,6 +132,7 @@ pub const SOURCES: [&str; 16] = [
     "F{e.1 s2 tX 'ab''c' 1.5=(A(B)())<G <H>()>;}",
     "$EXTRN A;F{\"'é漢😀\"=;}$ENTRY G{=;=;}",
     "F{+1.5E10 -0.25 0004294967295 = s.abcdefghijklmno Abcdefghijklmno;}",
+    "F{1E-5 = -0.25E+03 +1E-5;}",
 ];
 
 fn put(cases: &mut Vec<Case>, rng: &mut Rng, tree: Vec<u32>, src: Vec<u8>) {

@@ -17,15 +17,21 @@ pub fn tokens(src: &[u8]) -> Result<Vec<TokenRow>, Refusal> {
         return Err(Refusal::spanned(2, at, at));
     }
     let mut rows = Vec::new();
+    scan(src, &mut rows)?;
+    Ok(rows)
+}
+
+/// Puts down the tokens of a well-formed source, up to the first of 10 to 24 if there is one.
+fn scan(src: &[u8], rows: &mut Vec<TokenRow>) -> Result<(), Refusal> {
     let mut at = 0;
     loop {
         at = skip(src, at)?;
         let Some(&byte) = src.get(at) else {
             rows.push(row(token::EOF, 0, (0, 0), (at, at)));
-            return Ok(rows);
+            return Ok(());
         };
         at = match byte {
-            b'\'' | b'"' => literal(src, at, &mut rows)?,
+            b'\'' | b'"' => literal(src, at, rows)?,
             _ => {
                 let row = single(src, at)?;
                 rows.push(row);
@@ -33,6 +39,25 @@ pub fn tokens(src: &[u8]) -> Result<Vec<TokenRow>, Refusal> {
             }
         };
     }
+}
+
+/// The first number that reading meets with a sign after its `E` (02, card 7), from its start to behind the `E`: there the original gives 17.
+pub fn signed_exponent(src: &[u8]) -> Option<(usize, usize)> {
+    let mut rows = Vec::new();
+    let refused = scan(src, &mut rows).err();
+    let numbers = rows
+        .iter()
+        .filter(|row| row[0] == token::NUMBER)
+        .map(|row| (row[4] as usize, row[5] as usize));
+    let bare = refused
+        .filter(|refusal| refusal.number == 17)
+        .map(|refusal| (refusal.start as usize, refusal.end as usize));
+    numbers.chain(bare).find_map(|(start, end)| {
+        let mark = src[start..end]
+            .windows(2)
+            .position(|pair| matches!(pair, b"E+" | b"E-"))?;
+        Some((start, start + mark + 1))
+    })
 }
 
 fn row(kind: u32, detail: u32, text: (usize, usize), span: (usize, usize)) -> TokenRow {
@@ -157,11 +182,16 @@ fn number(src: &[u8], at: usize) -> Result<TokenRow, Refusal> {
     let mut real = false;
     for (mark, refusal) in [(b'.', 16), (b'E', 17)] {
         if src.get(end) == Some(&mark) {
-            let digits = run(&src[end + 1..], is_digit);
-            if digits == 0 {
-                return Err(Refusal::spanned(refusal, at, end + 1));
+            end += 1;
+            // 02, card 7: one sign may stand before an exponent's digits.
+            if mark == b'E' && matches!(src.get(end), Some(b'+' | b'-')) {
+                end += 1;
             }
-            end += 1 + digits;
+            let digits = run(&src[end..], is_digit);
+            if digits == 0 {
+                return Err(Refusal::spanned(refusal, at, end));
+            }
+            end += digits;
             real = true;
         }
     }

@@ -52,11 +52,15 @@ pub fn is_number(text: &[u8]) -> bool {
     let mut real = false;
     for mark in [b'.', b'E'] {
         if rest.first() == Some(&mark) {
-            let digits = run(&rest[1..], is_digit);
+            rest = &rest[1..];
+            if mark == b'E' && matches!(rest.first(), Some(b'+' | b'-')) {
+                rest = &rest[1..];
+            }
+            let digits = run(rest, is_digit);
             if digits == 0 {
                 return false;
             }
-            rest = &rest[1 + digits..];
+            rest = &rest[digits..];
             real = true;
         }
     }

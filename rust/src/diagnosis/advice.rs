@@ -20,7 +20,9 @@ pub(super) fn reading(source: &[u8], refusal: &Refusal) -> String {
         13 | 15 => "Shorten it to 15 characters or fewer.",
         14 => return name(source, refusal),
         16 => "Write a digit after the point, as in `1.0`, or leave the point out.",
-        17 => "Write a digit right after the E, as in `1E5`, or leave the E out.",
+        17 => {
+            "Write a digit after the E, as in `1E5`, or after one sign there, as in `1E-5`, or leave the E and its sign out."
+        }
         18 => "Leave the sign out, or write a real number, as in `+1.0`.",
         19 => "Write a smaller number, or a real one with a point, as in `4294967296.0`.",
         20 => {

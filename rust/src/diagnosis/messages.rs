@@ -23,6 +23,9 @@ pub(crate) fn message(refusal: &Refusal, spelling: Option<&str>) -> String {
         14 => format!("the name{text} does not start with one of A to Z"),
         15 => format!("the name{text} is longer than 15 characters"),
         16 => format!("the number{text} has no digit after its point"),
+        17 if spelling.is_some_and(|text| text.ends_with(['+', '-'])) => {
+            format!("the number{text} has no digit after the sign behind its E")
+        }
         17 => format!("the number{text} has no digit after its E"),
         18 => format!("the number{text} has a sign but no point and no E"),
         19 => format!("the number{text} is over 4294967295"),
