@@ -1,5 +1,5 @@
 -- `refal_parser::check::check` meets its contract: one pass over the rows, each token good, an Eof last.
-use Prim.Native.Nat.{_-_, _≤_, _%_}
+use Prim.Native.Nat.{_-_, _≤_, _<_, _%_}
 use mathlib.Core.Path.{_≡_, refl, sym, _∙_}
 use mathlib.Core.Bool.{_&&_}
 use lib.ListN.{length}
@@ -21,7 +21,9 @@ returns : tie.Need-returns Inv-loop μ-loop
 returns c = sym (ragged _ (c .if1 .taken))
 
 returns-2 : tie.Need-returns-2 Inv-loop μ-loop
-returns-2 c = sym (too-long _ (c .before .if1 .left) (c .if2 .taken))
+returns-2 c = let w = c .before .before .before .args .tokens .now in
+    let many : 100663302 < length w = omega arith in
+    sym (too-long w (c .before .if1 .left) many)
 
 loop-holds : tie.Need-loop-holds Inv-loop μ-loop
 loop-holds c = let h = c .before .if1 .left in (omega arith, omega arith, refl)
@@ -51,13 +53,17 @@ good-eof-requires : tie.Need-good-eof-requires Inv-loop μ-loop
 good-eof-requires c κs = search needs
 
 returns-3 : tie.Need-returns-3 Inv-loop μ-loop
-returns-3 c = sym (well _ _ (c .before .before .before .before .before .if1 .left) (c .before .before .before .before .if2 .left) (c .before .before .before .loop .inv .2 ∙ ok-last (c .before .before .before .before .before .before .before .args .tokens .now) (c .before .before .before .loop .i) (c .before .before .before .loop .good) _ (c .before .if3 .taken) (c .good-eof .ensures)))
+returns-3 c = let w = c .before .before .before .before .before .before .before .args .tokens .now in
+    let few : length w ≤ 100663302 = omega arith in
+    sym (well _ _ (c .before .before .before .before .before .if1 .left) few (c .before .before .before .loop .inv .2 ∙ ok-last w (c .before .before .before .loop .i) (c .before .before .before .loop .good) _ (c .before .if3 .taken) (c .good-eof .ensures)))
 
 returns-4 : tie.Need-returns-4 Inv-loop μ-loop
 returns-4 c = let w = c .before .before .before .before .before .before .args .tokens .now in
     let i₀ = c .before .before .loop .i in
     let n = c .if3 .left in
-    let l = c .before .loop-test .left in sym (well _ _ (c .before .before .before .before .if1 .left) (c .before .before .before .if2 .left) (c .before .before .loop .inv .2 ∙ ok-none w i₀ (c .before .before .loop .good) (omega arith)))
+    let l = c .before .loop-test .left in
+    let few : length w ≤ 100663302 = omega arith in
+    sym (well _ _ (c .before .before .before .before .if1 .left) few (c .before .before .loop .inv .2 ∙ ok-none w i₀ (c .before .before .loop .good) (omega arith)))
 
 pub check-spec : {M : Type 1} → statement M
 check-spec =
