@@ -1,0 +1,3 @@
+-- Definitions: Link. Laws: LinkLaws.
+pub mod Link
+pub mod LinkLaws
