@@ -1,7 +1,7 @@
 -- Laws of the rows of two files by number: number g is row g of file one where that has so many rows, else a row of file two. What a loop over the
 -- numbers has before it at g is the list of rows from g on.
 use Prim.Native.Nat.{ℕ, zero, suc, _+_, _-_, _/_, _≤_, _<_}
-use mathlib.Core.Bool.{true, false}
+use mathlib.Core.Bool.{Bool, true, false}
 use mathlib.Core.List.{List, [], _∷_, _++_}
 use mathlib.Core.Path.{_≡_, refl, ap, sym, _∙_}
 use native.Mathlib.Omega.{arith}
@@ -104,6 +104,15 @@ of-out k p ps e = rw (ne-eqb (p .node .kind) k e) refl
 pub of-none : (k : ℕ) → ofKind k [] ≡ []
 unfolding ofKind
 of-none k = refl
+
+pub of-append : (k : ℕ) (ps qs : List Placed) → ofKind k (ps ++ qs) ≡ ofKind k ps ++ ofKind k qs
+unfolding ofKind
+of-append k [] qs = refl
+of-append k (p ∷ ps) qs = go (eqb (p .node .kind) k) (of-append k ps qs)
+  where
+    go : (t : Bool) → ofKind k (ps ++ qs) ≡ ofKind k ps ++ ofKind k qs → pick t (p ∷ ofKind k (ps ++ qs)) (ofKind k (ps ++ qs)) ≡ pick t (p ∷ ofKind k ps) (ofKind k ps) ++ ofKind k qs
+    go true e = ap (λ (l : List Placed). p ∷ l) e
+    go false e = e
 
 -- in a loop over the numbers
 module _ (w₁ s₁ w₂ s₂ : List ℕ) (k g : ℕ) where

@@ -81,6 +81,15 @@ seen-hit t i (suc g) l e = go (decLe (suc i) g) (seen-hit t i g) (t g) refl
         let z : g ≡ i = omega arith in
         absurd (true≢false (sym e ∙ ap t (sym z) ∙ q))
 
+pub seen-some : (t : ℕ → Bool) (g : ℕ) → seen t g ≡ true → (i : ℕ) × (i < g) × (t i ≡ true)
+unfolding seen
+seen-some t zero e = absurd (true≢false (sym e))
+seen-some t (suc g) e = go (t g) refl (seen-some t g) e
+  where
+    go : (x : Bool) → t g ≡ x → (seen t g ≡ true → (i : ℕ) × (i < g) × (t i ≡ true)) → (x || seen t g) ≡ true → (i : ℕ) × (i < suc g) × (t i ≡ true)
+    go true q ih h = (g, le-refl _, q)
+    go false q ih h = let r = ih h in (r .0, omega (arith, r .1), r .2)
+
 -- ---- the entered rows
 pub falls-entered : (R : ℕ → Placed) (g : ℕ) → Falls g (entered R g)
 unfolding entered
@@ -103,9 +112,12 @@ any-entered R t (suc g) h = go (bears false (R g .node .kind)) refl (t g) refl (
     go false p false q ih = ih
 
 -- ---- which rows answer
-pub answers-bears : (functions : Bool) (key : List ℕ) (p : Placed) → answersTo functions key p ≡ true → bears false (p .node .kind) ≡ true
+pub answers-both : (functions : Bool) (key : List ℕ) (p : Placed) → answersTo functions key p ≡ true → (bears functions (p .node .kind) ≡ true) × (namesEqual key (textOf p) ≡ true)
 unfolding answersTo
-answers-bears functions key p e = go functions (eqb (p .node .kind) nodeFunction) (eqb (p .node .kind) nodeName) (and-left (bears functions (p .node .kind)) (namesEqual key (textOf p)) e)
+answers-both functions key p e = (and-left (bears functions (p .node .kind)) (namesEqual key (textOf p)) e, and-right (bears functions (p .node .kind)) (namesEqual key (textOf p)) e)
+
+pub answers-bears : (functions : Bool) (key : List ℕ) (p : Placed) → answersTo functions key p ≡ true → bears false (p .node .kind) ≡ true
+answers-bears functions key p e = go functions (eqb (p .node .kind) nodeFunction) (eqb (p .node .kind) nodeName) (answers-both functions key p e .0)
   where
     go : (f x y : Bool) → (x || (not f && y)) ≡ true → (x || y) ≡ true
     go f true y h = refl
@@ -113,8 +125,7 @@ answers-bears functions key p e = go functions (eqb (p .node .kind) nodeFunction
     go false false y h = h
 
 pub answers-bucket : (functions : Bool) (b : ℕ) (key : List ℕ) (p : Placed) → answersTo functions key p ≡ true → bucketOf b (textOf p) ≡ bucketOf b key
-unfolding answersTo
-answers-bucket functions b key p e = equal-buckets b key (textOf p) (and-right (bears functions (p .node .kind)) (namesEqual key (textOf p)) e)
+answers-bucket functions b key p e = equal-buckets b key (textOf p) (answers-both functions key p e .1)
 
 pub answers-not : (functions : Bool) (key : List ℕ) (p : Placed) → bears functions (p .node .kind) ≡ false → answersTo functions key p ≡ false
 unfolding answersTo
