@@ -10,7 +10,7 @@ ghost use Rattle.refal_ast.specs.NamesCode.{formByte, form};
 pub const PROGRAM_ENTRY_POINT: [u8; 2] = [71, 111];
 
 // A byte's canonical form: in an index (hyphens false) only letters fold.
-fn canonical_byte(b: u8, hyphens: bool) -> u8
+pub fn canonical_byte(b: u8, hyphens: bool) -> u8
     ensures { λ r. ⌜ r ≡ formByte hyphens b ⌝ }
 {
     let line = hyphens & (b == 95);

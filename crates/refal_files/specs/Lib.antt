@@ -1,0 +1,3 @@
+-- Definitions: Files. Laws: FileLaws.
+pub mod Files
+pub mod FileLaws
