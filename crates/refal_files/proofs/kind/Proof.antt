@@ -1,3 +1,4 @@
+-- `refal_files::kind` meets its contract.
 use native.Mathlib.Omega.{arith}
 use mathlib.Core.Path.{_≡_, ap, sym, _∙_}
 use Prim.Native.Nat.{ℕ, _<_, _≤_}

@@ -1,3 +1,4 @@
+-- `refal_files::text` meets its contract.
 use native.Mathlib.Omega.{arith}
 use mathlib.Core.Path.{_≡_, ap, sym, _∙_}
 use Rattle.refal_files.specs.Files.{Placed, textOf}

@@ -1,3 +1,4 @@
+-- `refal_index::answers` meets its contract.
 use mathlib.Core.Path.{refl, sym, ap, _∙_}
 use borrow.Author.Tests.{not-true, not-false}
 use Rattle.refal_ast.specs.Names.{namesEqual}

@@ -1,3 +1,4 @@
+-- `refal_index::bucket` meets its contract.
 use native.Mathlib.Omega.{arith}
 use mathlib.Core.Path.{refl}
 use Prim.Native.Nat.{_*_, _%_}

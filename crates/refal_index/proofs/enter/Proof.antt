@@ -1,3 +1,4 @@
+-- `refal_index::enter` meets its contract.
 use native.Mathlib.Omega.{arith}
 use mathlib.Core.Path.{refl, sym, ap, _∙_}
 use borrow.Author.Tests.{not-true, not-false}

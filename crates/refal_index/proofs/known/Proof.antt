@@ -1,3 +1,4 @@
+-- `refal_index::known` meets its contract.
 use native.Mathlib.Omega.{arith}
 use mathlib.Core.Path.{refl}
 use borrow.Author.Needs.{needs}

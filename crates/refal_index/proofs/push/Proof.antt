@@ -1,3 +1,4 @@
+-- `refal_index::push` meets its contract.
 use native.Mathlib.Omega.{arith}
 use mathlib.Core.Path.{refl}
 use lib.ListN.{length-set}

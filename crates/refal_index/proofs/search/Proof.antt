@@ -1,3 +1,4 @@
+-- `refal_index::search` meets its contract.
 use native.Mathlib.Omega.{arith}
 use mathlib.Core.Bool.{false}
 use mathlib.Core.Path.{_≡_, refl, sym, ap, _∙_}

@@ -1,3 +1,4 @@
+-- `refal_link::lost` meets its contract.
 use native.Mathlib.Omega.{arith}
 use mathlib.Core.Bool.{Bool, false, not, _&&_}
 use mathlib.Core.Path.{refl, sym, ap, _∙_}

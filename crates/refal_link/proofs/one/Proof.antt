@@ -1,3 +1,4 @@
+-- `refal_link::one` meets its contract.
 use native.Mathlib.Omega.{arith}
 use mathlib.Core.Path.{refl}
 use borrow.Author.Tests.{eq-eqb, ne-eqb}

@@ -1,3 +1,4 @@
+-- `refal_link::refused_at` meets its contract.
 use native.Mathlib.Omega.{arith}
 use mathlib.Core.Path.{_≡_, ap, sym, _∙_}
 use Rattle.refal_files.specs.FileLaws.{row-one, row-two}

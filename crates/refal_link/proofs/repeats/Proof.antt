@@ -1,3 +1,4 @@
+-- `refal_link::repeats` meets its contract.
 use native.Mathlib.Omega.{arith}
 use mathlib.Core.Bool.{true}
 use mathlib.Core.Path.{refl, sym, ap, _∙_}

@@ -1,3 +1,4 @@
+-- `refal_link::spanned` meets its contract.
 use mathlib.Core.Path.{refl, _∙_}
 use borrow.Author.Needs.{needs}
 use Rattle.refal_link.proofs.spanned.Statement.{statement}

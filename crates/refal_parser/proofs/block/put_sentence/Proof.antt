@@ -1,3 +1,4 @@
+-- `refal_parser::block::put_sentence` meets its contract: the row of a sentence, by whether a `}` stands where its `;` may.
 use native.Mathlib.Omega.{arith}
 use mathlib.Core.Path.{_≡_, refl, sym, ap, _∙_}
 use lib.ListN.{getD}
