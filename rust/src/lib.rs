@@ -20,6 +20,7 @@
 
 pub mod ast;
 mod diagnosis;
+mod items;
 pub mod lexer;
 mod names;
 pub mod parser;
@@ -28,7 +29,7 @@ mod refusal;
 pub mod rows;
 
 pub use ast::Span;
-pub use diagnosis::{Accepted, Diagnosis, Place, check};
+pub use diagnosis::{Accepted, Diagnosis, Gap, Place, cannot_be_seen, check};
 pub use names::{
     PROGRAM_ENTRY_POINT, canonical_identifier, canonical_variable_index, identifiers_equal,
 };

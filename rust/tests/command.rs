@@ -77,7 +77,7 @@ fn refused_sources() {
             .parse::<u32>()
             .expect("a name starts with its number");
         assert!(
-            text(&check.stdout).contains(&format!(": refusal {number}: ")),
+            text(&check.stdout).contains(&format!(": error [{number}]: ")),
             "{file}"
         );
         compare(
@@ -162,7 +162,7 @@ fn a_written_text_is_written_the_same_again() {
 fn standard_input() {
     let output = refal5("refused", &["check", "-"], b"F{=A}");
     assert_eq!(output.status.code(), Some(1));
-    assert!(text(&output.stdout).starts_with("<standard input>:1:5: refusal 34: "));
+    assert!(text(&output.stdout).starts_with("<standard input>:1:5: error [34]: "));
     let output = refal5("refused", &["check", "-", "-"], b"");
     assert_eq!(output.status.code(), Some(2));
 }
@@ -181,7 +181,7 @@ fn several_files() {
     let lines: Vec<&str> = text(&output.stdout).lines().collect();
     assert_eq!(lines[0], "empty.ref: accepted, 1 tokens, 0 nodes");
     assert_eq!(lines[1], "worked-go.ref: accepted, 7 tokens, 4 nodes");
-    assert!(lines[2].starts_with("../refused/32-no-name.ref:1:1: refusal 32: "));
+    assert!(lines[2].starts_with("../refused/32-no-name.ref:1:1: error [32]: "));
 
     let files = ["write", "worked-go.ref", "empty.ref", "three-variables.ref"];
     let output = refal5("accepted", &files, b"");
@@ -203,7 +203,7 @@ fn a_file_that_is_absent() {
     );
     assert_eq!(output.status.code(), Some(2));
     assert!(text(&output.stderr).starts_with("refal5: absent.ref: "));
-    assert!(text(&output.stdout).contains("refusal 32"));
+    assert!(text(&output.stdout).contains("error [32]"));
     let output = refal5("accepted", &["check", "--json", "absent.ref"], b"");
     assert_eq!(output.status.code(), Some(2));
     assert!(text(&output.stdout).starts_with("{\"file\":\"absent.ref\",\"ok\":false,\"error\":\""));
@@ -251,7 +251,7 @@ fn a_file_over_the_limit() {
     assert_eq!(output.status.code(), Some(1));
     assert_eq!(
         text(&output.stdout),
-        "<standard input>:1:1: refusal 1: the file is longer than 16,777,216 bytes\n  \
+        "<standard input>:1:1: error [1]: the file is longer than 16,777,216 bytes\n  \
          what to do: Split the file in two and check each part.\n"
     );
 }
@@ -315,7 +315,7 @@ fn on_a_terminal_there_are_colours_and_after_a_second_progress() {
         return;
     };
     assert!(
-        quick.contains("\u{1b}[1;31mrefusal 34:\u{1b}[0m"),
+        quick.contains("\u{1b}[1;31merror [34]:\u{1b}[0m"),
         "{quick}"
     );
     assert!(!quick.contains("file 1 of 1"), "{quick}");

@@ -1,6 +1,9 @@
 //! A refusal explained to the person who wrote the source.
 
 mod advice;
+mod braces;
+pub(crate) mod characters;
+mod gap;
 pub(crate) mod messages;
 mod place;
 mod sentence;
@@ -8,6 +11,8 @@ mod sentence;
 use std::error::Error;
 use std::fmt;
 
+pub use characters::cannot_be_seen;
+pub use gap::Gap;
 pub use place::Place;
 
 use crate::rows::{Kind, NodeRows, TokenRows, Tokens};
@@ -27,7 +32,7 @@ pub struct Accepted {
 /// assert_eq!(diagnosis.refusal.number, 34);
 /// assert_eq!((diagnosis.meant.line, diagnosis.meant.column), (2, 7));
 /// assert_eq!((diagnosis.shown.line, diagnosis.shown.column), (3, 1));
-/// assert_eq!(diagnosis.message, "a term is wanted here, but `}` is found");
+/// assert_eq!(diagnosis.message, "`}` has no place here");
 /// assert_eq!(diagnosis.advice, "End the sentence with `;` before this `}`.");
 /// ```
 pub fn check(source: &[u8]) -> Result<Accepted, Box<Diagnosis>> {
@@ -55,6 +60,8 @@ pub struct Diagnosis {
     pub shown: Place,
     /// The token shown, in plain words, where it is another than the one meant.
     pub shown_token: Option<String>,
+    /// Where something is missing, right after the last token before it.
+    pub gap: Option<Gap>,
     /// What is wrong, without the places.
     pub message: String,
     /// What to do, in one sentence.
@@ -64,6 +71,13 @@ pub struct Diagnosis {
 impl Diagnosis {
     /// Explains a refusal of [`Tokens::read`].
     pub fn of_reading(source: &[u8], refusal: Refusal) -> Self {
+        let end = refusal.span.start.min(source.len());
+        let mut rows = TokenRows::new();
+        Self::after(source, rows.read(&source[..end]).ok(), refusal)
+    }
+
+    /// Explains a refusal of reading that comes after these tokens.
+    pub(crate) fn after(source: &[u8], before: Option<Tokens<'_>>, refusal: Refusal) -> Self {
         let place = Place::of(source, refusal.span);
         let Span { start, end } = refusal.span;
         let spelling = source
@@ -74,8 +88,9 @@ impl Diagnosis {
             meant: place,
             shown: place,
             shown_token: None,
+            gap: None,
             message: messages::message(&refusal, spelling.filter(|text| !text.is_empty())),
-            advice: advice::reading(source, &refusal),
+            advice: advice::reading(source, &refusal, before),
         }
     }
 
@@ -92,6 +107,7 @@ impl Diagnosis {
             meant: token.map_or(shown, |token| Place::of(source, token.span())),
             shown,
             shown_token: next.map(|next| messages::describe(next.kind(), next.spelling())),
+            gap: found.and_then(|at| gap::gap(tokens, at, &refusal)),
             message: messages::message(&refusal, token.map(|token| token.spelling())),
             advice: advice::parsing(tokens, found, &refusal),
         }
@@ -110,7 +126,7 @@ impl fmt::Display for Diagnosis {
         if let Some(token) = &self.shown_token {
             write!(
                 out,
-                "; the place shown, {}, is the token after it: {token}",
+                "; the place shown, {}, comes after it: {token}",
                 self.shown
             )?;
         }

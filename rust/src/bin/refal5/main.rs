@@ -2,7 +2,6 @@
 
 mod args;
 mod check;
-mod excerpt;
 mod input;
 mod json;
 mod listing;

@@ -52,7 +52,7 @@ impl Excerpt {
         for &(character, _) in &self.cells {
             match character {
                 '\t' => text.push_str("    "),
-                other if other.is_control() || other == '\u{feff}' => text.push('\u{fffd}'),
+                other if refal5::cannot_be_seen(other) => text.push('\u{fffd}'),
                 other => text.push(other),
             }
         }
@@ -87,7 +87,8 @@ impl Excerpt {
 fn columns(character: char) -> usize {
     match u32::from(character) {
         0x09 => 4,
-        0x300..=0x36f | 0x483..=0x489 | 0x200b..=0x200f | 0x20d0..=0x20f0 | 0xfe00..=0xfe0f => 0,
+        _ if refal5::cannot_be_seen(character) => 1,
+        0x300..=0x36f | 0x483..=0x489 | 0x20d0..=0x20f0 | 0xfe00..=0xfe0f => 0,
         0x1100..=0x115f
         | 0x2e80..=0x303e
         | 0x3041..=0x4dbf
@@ -122,6 +123,7 @@ mod tests {
         assert_eq!(shown("\t%", 1, 2), ["    %", "    ^"]);
         assert_eq!(shown("'字' %", 4, 5), ["'字' %", "     ^"]);
         assert_eq!(shown("e\u{301} %", 3, 4), ["e\u{301} %", "  ^"]);
+        assert_eq!(shown("A\u{200b}B", 1, 2), ["A\u{fffd}B", " ^"]);
         assert_eq!(shown("", 0, 0), ["", "^"]);
     }
 
