@@ -25,6 +25,7 @@ pub mod lexer;
 mod names;
 pub mod parser;
 pub mod raw;
+mod recovery;
 mod refusal;
 pub mod rows;
 
@@ -33,4 +34,5 @@ pub use diagnosis::{Accepted, Diagnosis, Gap, Place, cannot_be_seen, check};
 pub use names::{
     PROGRAM_ENTRY_POINT, canonical_identifier, canonical_variable_index, identifiers_equal,
 };
+pub use recovery::{Problem, Recovered, recover};
 pub use refusal::Refusal;

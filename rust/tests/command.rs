@@ -107,6 +107,22 @@ fn refused_sources() {
     assert!(failures.is_empty(), "{}", failures.join("\n"));
 }
 
+/// Sources with several problems: each broken item's first, and what rests on a guess is marked.
+#[test]
+fn sources_with_several_problems() {
+    let mut failures = Vec::new();
+    for name in sources("several") {
+        let file = format!("{name}.ref");
+        for (option, extension) in [("--color=auto", "check"), ("--json", "json")] {
+            let output = refal5("several", &["check", option, &file], b"");
+            assert_eq!(output.status.code(), Some(1), "{file}");
+            let golden = format!("{name}.{extension}");
+            compare("several", &golden, &output.stdout, &mut failures);
+        }
+    }
+    assert!(failures.is_empty(), "{}", failures.join("\n"));
+}
+
 /// Each refused source with the change made that the advice names.
 #[test]
 fn following_the_advice_helps() {

@@ -20,7 +20,7 @@ pub fn run(args: &Args, output: &mut Output) -> io::Result<Status> {
                 Ok(accepted) => fine(&file, accepted, output)?,
                 Err(diagnosis) => {
                     if output.json {
-                        output.print(&report::json(&file, &diagnosis))?;
+                        output.print(&report::json(&file, &source, &diagnosis))?;
                     } else {
                         let text = report::text(&file, &source, &diagnosis, output.styles());
                         output.print(&format!("{apart}{text}"))?;
@@ -75,7 +75,7 @@ pub fn refused(
     output: &Output,
 ) -> io::Result<Status> {
     if output.json {
-        output.print(&report::json(file, diagnosis))?;
+        output.print(&report::json(file, source, diagnosis))?;
     } else {
         output.complain(&report::text(
             file,

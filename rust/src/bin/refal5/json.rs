@@ -41,6 +41,11 @@ impl Object {
     }
 }
 
+/// An array of values that are printed as they are.
+pub fn array(values: &[String]) -> String {
+    format!("[{}]", values.join(","))
+}
+
 /// Puts a string in quotes.
 pub fn quote(value: &str, out: &mut String) {
     out.push('"');

@@ -3,19 +3,65 @@
 mod excerpt;
 mod marks;
 
-use refal5::{Diagnosis, Gap, Place};
+use refal5::{Diagnosis, Gap, Place, Problem};
 
-use crate::json::Object;
+use crate::json::{Object, array};
 use crate::output::Style;
 use marks::{Ink, Mark};
 
-/// The refusal for people: its place, the source's lines with marks under them, and what to do.
+/// All that is wrong with a source that is refused, for people.
 pub fn text(file: &str, source: &[u8], diagnosis: &Diagnosis, style: Style) -> String {
+    let Found { problems, stopped } = found(source, diagnosis);
+    let texts: Vec<String> = problems
+        .iter()
+        .map(|problem| one(file, source, problem, style))
+        .collect();
+    let mut out = texts.join("\n");
+    if stopped {
+        let count = problems.len();
+        out += &format!("\n{file}: these are the first {count}; there may be more.\n");
+    }
+    out
+}
+
+/// What is wrong with a source that is refused, in the order in which it stands.
+struct Found {
+    problems: Vec<Problem>,
+    stopped: bool,
+}
+
+fn found(source: &[u8], diagnosis: &Diagnosis) -> Found {
+    let recovered = refal5::recover(source);
+    let (mut problems, stopped) = (recovered.problems, recovered.stopped);
+    // 42 comes of writing, which is not tried again.
+    if !problems
+        .iter()
+        .any(|problem| problem.diagnosis == *diagnosis)
+    {
+        problems.insert(
+            0,
+            Problem {
+                diagnosis: diagnosis.clone(),
+                possibly: false,
+            },
+        );
+    }
+    Found { problems, stopped }
+}
+
+/// A problem: its place, the source's lines with marks under them, and what to do.
+fn one(file: &str, source: &[u8], problem: &Problem, style: Style) -> String {
+    let diagnosis = &problem.diagnosis;
     let place = format!(
         "{file}:{}:{}:",
         diagnosis.meant.line, diagnosis.meant.column
     );
-    let number = format!("error [{}]:", diagnosis.refusal.number);
+    let kind = if problem.possibly {
+        "possibly an error"
+    } else {
+        "error"
+    };
+    let number = format!("{kind} [{}]:", diagnosis.refusal.number);
     let mut out = format!(
         "{} {} {}\n",
         style.bold(&place),
@@ -60,12 +106,30 @@ fn marked(diagnosis: &Diagnosis) -> Vec<Mark> {
     marks
 }
 
-/// The refusal for machines.
-pub fn json(file: &str, diagnosis: &Diagnosis) -> String {
+/// The refusal for machines, with the other problems of the source under `more`.
+pub fn json(file: &str, source: &[u8], diagnosis: &Diagnosis) -> String {
+    let object = Object::new().string("file", file).plain("ok", false);
+    let object = fields(object, diagnosis);
+    let Found { problems, stopped } = found(source, diagnosis);
+    let more: Vec<String> = problems
+        .iter()
+        .filter(|problem| problem.diagnosis != *diagnosis)
+        .map(|problem| {
+            let object = Object::new().plain("possibly", problem.possibly);
+            fields(object, &problem.diagnosis).end()
+        })
+        .collect();
+    let object = if more.is_empty() {
+        object
+    } else {
+        object.plain("more", array(&more)).plain("stopped", stopped)
+    };
+    object.end() + "\n"
+}
+
+fn fields(object: Object, diagnosis: &Diagnosis) -> Object {
     let refusal = &diagnosis.refusal;
-    let object = Object::new()
-        .string("file", file)
-        .plain("ok", false)
+    let object = object
         .plain("number", refusal.number)
         .plain("expected", refusal.expected)
         .plain("found", refusal.found)
@@ -81,8 +145,6 @@ pub fn json(file: &str, diagnosis: &Diagnosis) -> String {
     object
         .string("message", &diagnosis.message)
         .string("advice", &diagnosis.advice)
-        .end()
-        + "\n"
 }
 
 fn json_place(place: &Place) -> String {
