@@ -19,10 +19,12 @@
 //! ```
 
 pub mod ast;
+mod comments;
 mod diagnosis;
 mod items;
 pub mod lexer;
 mod names;
+mod notes;
 pub mod parser;
 pub mod raw;
 mod recovery;
@@ -30,9 +32,11 @@ mod refusal;
 pub mod rows;
 
 pub use ast::Span;
+pub use comments::{Comment, comments};
 pub use diagnosis::{Accepted, Diagnosis, Gap, Place, cannot_be_seen, check};
 pub use names::{
     PROGRAM_ENTRY_POINT, canonical_identifier, canonical_variable_index, identifiers_equal,
 };
+pub use notes::{About, Note, notes};
 pub use recovery::{Problem, Recovered, recover};
 pub use refusal::Refusal;

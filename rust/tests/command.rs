@@ -136,7 +136,8 @@ fn following_the_advice_helps() {
         .chain(files.iter().map(String::as_str))
         .collect();
     let output = refal5("fixed", &args, b"");
-    assert_eq!(text(&output.stdout), "");
+    let refused = |line: &&str| !line.contains(": note: ");
+    assert_eq!(text(&output.stdout).lines().find(refused), None);
     assert_eq!(output.status.code(), Some(0));
 }
 
@@ -145,14 +146,14 @@ fn accepted_sources() {
     let mut failures = Vec::new();
     for name in sources("accepted") {
         let file = format!("{name}.ref");
-        let check = refal5("accepted", &["check", &file], b"");
-        assert_eq!(check.status.code(), Some(0), "{file}");
+        let silent = refal5("accepted", &["check", "--no-notes", &file], b"");
+        assert_eq!(silent.status.code(), Some(0), "{file}");
         assert_eq!(
-            (text(&check.stdout), text(&check.stderr)),
+            (text(&silent.stdout), text(&silent.stderr)),
             ("", ""),
             "{file}"
         );
-        for command in ["tokens", "tree", "write"] {
+        for command in ["check", "tokens", "tree", "write"] {
             for (option, extension) in [("--color=auto", ""), ("--json", ".json")] {
                 let output = refal5("accepted", &[command, option, &file], b"");
                 assert_eq!(output.status.code(), Some(0), "{command} {file}");
@@ -195,9 +196,13 @@ fn several_files() {
     let output = refal5("accepted", &files, b"");
     assert_eq!(output.status.code(), Some(1));
     let lines: Vec<&str> = text(&output.stdout).lines().collect();
-    assert_eq!(lines[0], "empty.ref: accepted, 1 tokens, 0 nodes");
-    assert_eq!(lines[1], "worked-go.ref: accepted, 7 tokens, 4 nodes");
-    assert!(lines[2].starts_with("../refused/32-no-name.ref:1:1: error [32]: "));
+    assert_eq!(lines[0], "empty.ref: accepted, 0 tokens, 0 nodes");
+    assert_eq!(
+        lines[1],
+        "empty.ref:1:1: note: The file is empty: it has no rule."
+    );
+    assert_eq!(lines[2], "worked-go.ref: accepted, 6 tokens, 4 nodes");
+    assert!(lines[3].starts_with("../refused/32-no-name.ref:1:1: error [32]: "));
 
     let files = ["write", "worked-go.ref", "empty.ref", "three-variables.ref"];
     let output = refal5("accepted", &files, b"");
@@ -223,8 +228,31 @@ fn a_file_that_is_absent() {
     let output = refal5("accepted", &["check", "--json", "absent.ref"], b"");
     assert_eq!(output.status.code(), Some(2));
     assert!(text(&output.stdout).starts_with("{\"file\":\"absent.ref\",\"ok\":false,\"error\":\""));
-    let output = refal5("accepted", &["tree", "."], b"");
+}
+
+/// A folder stands for the files `*.ref` in it and in its folders.
+#[test]
+fn a_folder() {
+    let folder = Path::new(env!("CARGO_TARGET_TMPDIR")).join("folder");
+    for (name, source) in [("b/two.ref", "F { = ; }"), ("a.ref", "F {"), ("c.txt", "")] {
+        let file = folder.join(name);
+        fs::create_dir_all(file.parent().unwrap()).expect("the target folder is writable");
+        fs::write(file, source).expect("the target folder is writable");
+    }
+    fs::create_dir_all(folder.join("none")).expect("the target folder is writable");
+    let name = folder.to_str().expect("the target folder's name is UTF-8");
+    let output = refal5("accepted", &["check", "-v", name], b"");
+    assert_eq!(output.status.code(), Some(1));
+    let heads: Vec<&str> = text(&output.stdout)
+        .lines()
+        .filter_map(|line| line.strip_prefix(name))
+        .collect();
+    assert!(heads[0].starts_with("/a.ref:1:4: error [35]: "));
+    assert_eq!(heads[1], "/b/two.ref: accepted, 5 tokens, 4 nodes");
+    let none = format!("{name}/none");
+    let output = refal5("accepted", &["tree", &none], b"");
     assert_eq!(output.status.code(), Some(2));
+    assert!(text(&output.stderr).ends_with("the folder has no file *.ref\n"));
 }
 
 #[test]
@@ -235,6 +263,8 @@ fn usage() {
         &["chek", "empty.ref"],
         &["check", "--jsn", "empty.ref"],
         &["check", "--color=red", "empty.ref"],
+        &["check", "--color"],
+        &["check", "--color", "red", "empty.ref"],
         &["page", "empty.ref", "worked-go.ref"],
         &["page", "--json", "empty.ref"],
     ] {
@@ -246,9 +276,11 @@ fn usage() {
             "{args:?}"
         );
     }
-    let help = refal5("accepted", &["--help"], b"");
-    assert_eq!(help.status.code(), Some(0));
-    assert!(text(&help.stdout).contains("Exit status: 0"));
+    for word in ["--help", "help"] {
+        let help = refal5("accepted", &[word], b"");
+        assert_eq!(help.status.code(), Some(0));
+        assert!(text(&help.stdout).contains("Exit status: 0"));
+    }
     let version = refal5("accepted", &["check", "--version"], b"");
     assert_eq!(version.status.code(), Some(0));
     assert_eq!(
@@ -282,6 +314,8 @@ fn colours_only_where_wanted() {
         b"",
     );
     assert!(coloured.stdout.contains(&0x1b));
+    let parted = ["check", "--color", "always", "34-worked-table.ref"];
+    assert_eq!(refal5("refused", &parted, b"").stdout, coloured.stdout);
     let mut bare = String::new();
     let mut rest = text(&coloured.stdout);
     while let Some((before, after)) = rest.split_once('\u{1b}') {

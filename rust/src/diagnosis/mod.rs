@@ -21,6 +21,7 @@ use crate::{Refusal, Span};
 /// Counts of a source that is accepted.
 #[derive(Debug, Clone, Copy, PartialEq, Eq)]
 pub struct Accepted {
+    /// Without Eof.
     pub tokens: usize,
     pub nodes: usize,
 }
@@ -43,7 +44,7 @@ pub fn check(source: &[u8]) -> Result<Accepted, Box<Diagnosis>> {
     let mut node_rows = NodeRows::new();
     match node_rows.parse(tokens) {
         Ok(tree) => Ok(Accepted {
-            tokens: tokens.len(),
+            tokens: tokens.len() - 1,
             nodes: tree.len(),
         }),
         Err(refusal) => Err(Box::new(Diagnosis::of_parsing(tokens, refusal))),

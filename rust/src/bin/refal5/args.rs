@@ -11,6 +11,15 @@ pub enum Command {
     Page,
 }
 
+/// The commands by name.
+const COMMANDS: [(&str, Command); 5] = [
+    ("check", Command::Check),
+    ("tokens", Command::Tokens),
+    ("tree", Command::Tree),
+    ("write", Command::Write),
+    ("page", Command::Page),
+];
+
 /// When colours are used.
 #[derive(Debug, Clone, Copy, PartialEq, Eq)]
 pub enum When {
@@ -23,8 +32,14 @@ pub enum When {
 pub struct Args {
     pub command: Command,
     pub files: Vec<OsString>,
+    pub options: Options,
+}
+
+#[derive(Debug, Clone, Copy)]
+pub struct Options {
     pub json: bool,
     pub verbose: bool,
+    pub notes: bool,
     pub color: When,
 }
 
@@ -38,18 +53,27 @@ pub enum Parsed {
 /// The arguments, or what is wrong with them.
 pub fn parse(args: impl Iterator<Item = OsString>) -> Result<Parsed, String> {
     let mut words = Vec::new();
-    let (mut json, mut verbose, mut color) = (false, false, When::Auto);
-    let mut options = true;
-    for arg in args {
-        match arg.to_str().filter(|_| options) {
-            Some("--") => options = false,
+    let mut options = Options {
+        json: false,
+        verbose: false,
+        notes: true,
+        color: When::Auto,
+    };
+    let mut args = args.into_iter();
+    while let Some(arg) = args.next() {
+        match arg.to_str() {
+            Some("--") => {
+                words.extend(args.by_ref());
+            }
             Some("-h" | "--help") => return Ok(Parsed::Help),
             Some("-V" | "--version") => return Ok(Parsed::Version),
-            Some("--json") => json = true,
-            Some("-v" | "--verbose") => verbose = true,
-            Some("--color=auto") => color = When::Auto,
-            Some("--color=always") => color = When::Always,
-            Some("--color=never") => color = When::Never,
+            Some("--json") => options.json = true,
+            Some("-v" | "--verbose") => options.verbose = true,
+            Some("--no-notes") => options.notes = false,
+            Some("--color") => options.color = when(args.next().as_deref())?,
+            Some(option) if option.starts_with("--color=") => {
+                options.color = when(Some(OsStr::new(&option[8..])))?;
+            }
             Some(option) if option.starts_with('-') && option != "-" => {
                 return Err(format!("unknown option `{option}`"));
             }
@@ -57,36 +81,50 @@ pub fn parse(args: impl Iterator<Item = OsString>) -> Result<Parsed, String> {
         }
     }
     let mut words = words.into_iter();
-    let command = command(words.next().as_deref())?;
-    let files: Vec<OsString> = words.collect();
-    if files.is_empty() {
-        return Err("no file is given; - is standard input".into());
-    }
-    if files.iter().filter(|file| *file == "-").count() > 1 {
-        return Err("standard input can be read once only".into());
-    }
-    if command == Command::Page && (files.len() > 1 || json) {
-        return Err("page takes one file, and no --json".into());
-    }
-    Ok(Parsed::Run(Args {
-        command,
-        files,
-        json,
-        verbose,
-        color,
-    }))
-}
-
-fn command(word: Option<&OsStr>) -> Result<Command, String> {
-    let Some(word) = word else {
+    let Some(word) = words.next() else {
         return Err("no command is given".into());
     };
-    Ok(match word.to_str() {
-        Some("check") => Command::Check,
-        Some("tokens") => Command::Tokens,
-        Some("tree") => Command::Tree,
-        Some("write") => Command::Write,
-        Some("page") => Command::Page,
-        _ => return Err(format!("unknown command `{}`", word.display())),
-    })
+    if word == "help" {
+        return Ok(Parsed::Help);
+    }
+    let args = Args {
+        command: command(&word)?,
+        files: words.collect(),
+        options,
+    };
+    match wrong(&args) {
+        Some(what) => Err(what),
+        None => Ok(Parsed::Run(args)),
+    }
+}
+
+fn when(word: Option<&OsStr>) -> Result<When, String> {
+    match word.and_then(OsStr::to_str) {
+        Some("auto") => Ok(When::Auto),
+        Some("always") => Ok(When::Always),
+        Some("never") => Ok(When::Never),
+        _ => Err("--color takes auto, always or never".into()),
+    }
+}
+
+fn command(word: &OsStr) -> Result<Command, String> {
+    COMMANDS
+        .iter()
+        .find(|(name, _)| word == *name)
+        .map(|(_, command)| *command)
+        .ok_or_else(|| format!("unknown command `{}`", word.display()))
+}
+
+/// What a command does not take.
+fn wrong(args: &Args) -> Option<String> {
+    if args.files.is_empty() {
+        return Some("no file is given; - is standard input".into());
+    }
+    if args.files.iter().filter(|file| *file == "-").count() > 1 {
+        return Some("standard input can be read once only".into());
+    }
+    if args.command == Command::Page && (args.files.len() > 1 || args.options.json) {
+        return Some("page takes one file, and no --json".into());
+    }
+    None
 }

@@ -73,7 +73,7 @@ impl Sink<'_> {
 /// Lists each file; several under their names, each in a line that is a Refal comment.
 pub fn run(args: &Args, output: &mut Output, list: List) -> io::Result<Status> {
     let mut status = Status::Fine;
-    let headed = args.files.len() > 1 && !output.json;
+    let headed = args.files.len() > 1 && !output.options.json;
     for name in &args.files {
         let file = input::shown(name);
         output.progress.begin(&file);
@@ -104,7 +104,7 @@ fn one(
     let listing = Listing {
         file,
         source,
-        json: output.json,
+        json: output.options.json,
     };
     let mut sink = Sink {
         output,

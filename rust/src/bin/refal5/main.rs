@@ -31,7 +31,16 @@ fn main() -> ExitCode {
     let status = match args::parse(std::env::args_os().skip(1)) {
         Ok(Parsed::Help) => say(HELP),
         Ok(Parsed::Version) => say(concat!("refal5 ", env!("CARGO_PKG_VERSION"), "\n")),
-        Ok(Parsed::Run(args)) => run(&args),
+        Ok(Parsed::Run(mut args)) => match input::files(&args.files) {
+            Ok(files) => {
+                args.files = files;
+                run(&args)
+            }
+            Err(message) => {
+                eprintln!("refal5: {message}");
+                Status::Failed
+            }
+        },
         Err(message) => {
             eprintln!("refal5: {message}\nTry `refal5 --help`.");
             Status::Failed

@@ -53,6 +53,9 @@ fn point(at: &At<'_>) -> String {
             "Write a point only after the letter of a variable, as in `s.Name`, and in a number; in a name write `-` or `_`."
                 .into()
         }
+        Some((Kind::Variable, _)) => {
+            "Write one point in a variable, after its letter, as in `s.Name`.".into()
+        }
         Some((Kind::Number, _)) => {
             "Write one point in a number, before its E, as in `1.5E2`.".into()
         }

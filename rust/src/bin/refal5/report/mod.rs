@@ -2,12 +2,15 @@
 
 mod excerpt;
 mod marks;
+mod notes;
 
 use refal5::{Diagnosis, Gap, Place, Problem};
 
 use crate::json::{Object, array};
 use crate::output::Style;
 use marks::{Ink, Mark};
+
+pub use notes::{json as json_notes, text as notes};
 
 /// All that is wrong with a source that is refused, for people.
 pub fn text(file: &str, source: &[u8], diagnosis: &Diagnosis, style: Style) -> String {
