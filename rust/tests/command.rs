@@ -97,7 +97,15 @@ fn refused_sources() {
         for command in ["tree", "write", "page"] {
             let output = refal5("refused", &[command, &file], b"");
             assert_eq!(output.status.code(), Some(1), "{command} {file}");
-            assert_eq!(text(&output.stdout), "", "{command} {file}");
+            // The page of a source that is refused says what is wrong too.
+            let start = if command == "page" {
+                "<!doctype html>\n"
+            } else {
+                ""
+            };
+            let printed = text(&output.stdout);
+            assert_eq!(printed.get(..start.len()), Some(start), "{command} {file}");
+            assert_eq!(printed.is_empty(), start.is_empty(), "{command} {file}");
             assert_eq!(output.stderr, check.stdout, "{command} {file}");
         }
         let tokens = refal5("refused", &["tokens", &file], b"");
@@ -302,6 +310,8 @@ fn a_file_over_the_limit() {
         "<standard input>:1:1: error [1]: the file is longer than 16,777,216 bytes\n  \
          what to do: Split the file in two and check each part.\n"
     );
+    let output = refal5("accepted", &["page", "-"], &source);
+    assert_eq!((output.status.code(), text(&output.stdout)), (Some(1), ""));
 }
 
 #[test]
