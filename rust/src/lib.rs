@@ -28,7 +28,7 @@ mod notes;
 pub mod parser;
 pub mod raw;
 mod recovery;
-mod refusal;
+mod refusals;
 pub mod rows;
 
 pub use ast::Span;
@@ -39,4 +39,4 @@ pub use names::{
 };
 pub use notes::{About, Note, notes};
 pub use recovery::{Problem, Recovered, recover};
-pub use refusal::Refusal;
+pub use refusals::{Call, Example, Meaning, REFUSALS, Refusal, meaning};

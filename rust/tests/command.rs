@@ -131,6 +131,28 @@ fn sources_with_several_problems() {
     assert!(failures.is_empty(), "{}", failures.join("\n"));
 }
 
+/// What each command that takes other words prints, by the name of its golden file.
+#[test]
+fn explanations() {
+    let mut failures = Vec::new();
+    for (name, args) in [
+        ("all", &["explain"][..]),
+        ("34", &["explain", "34"]),
+        (
+            "34-and-20.json",
+            &["explain", "--json", "[34]", "REFAL5_TEXT_TOO_LONG"],
+        ),
+    ] {
+        let output = refal5("explain", args, b"");
+        assert_eq!(output.status.code(), Some(0), "{name}");
+        compare("explain", name, &output.stdout, &mut failures);
+    }
+    assert!(failures.is_empty(), "{}", failures.join("\n"));
+    let output = refal5("explain", &["explain", "99"], b"");
+    assert_eq!(output.status.code(), Some(2));
+    assert!(text(&output.stderr).contains("there is no refusal `99`"));
+}
+
 /// Each refused source with the change made that the advice names.
 #[test]
 fn following_the_advice_helps() {

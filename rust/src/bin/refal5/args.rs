@@ -9,15 +9,29 @@ pub enum Command {
     Tree,
     Write,
     Page,
+    Explain,
+}
+
+impl Command {
+    /// Whether its words are files.
+    pub fn takes_files(self) -> bool {
+        !matches!(self, Self::Explain)
+    }
+
+    /// Whether a folder stands for the files in it.
+    pub fn takes_folders(self) -> bool {
+        self.takes_files() && self != Self::Page
+    }
 }
 
 /// The commands by name.
-const COMMANDS: [(&str, Command); 5] = [
+const COMMANDS: [(&str, Command); 6] = [
     ("check", Command::Check),
     ("tokens", Command::Tokens),
     ("tree", Command::Tree),
     ("write", Command::Write),
     ("page", Command::Page),
+    ("explain", Command::Explain),
 ];
 
 /// When colours are used.
@@ -117,6 +131,9 @@ fn command(word: &OsStr) -> Result<Command, String> {
 
 /// What a command does not take.
 fn wrong(args: &Args) -> Option<String> {
+    if !args.command.takes_files() {
+        return None;
+    }
     if args.files.is_empty() {
         return Some("no file is given; - is standard input".into());
     }
