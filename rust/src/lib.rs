@@ -25,6 +25,7 @@ mod items;
 pub mod lexer;
 mod names;
 mod notes;
+mod outline;
 pub mod parser;
 pub mod raw;
 mod recovery;
@@ -38,5 +39,6 @@ pub use names::{
     PROGRAM_ENTRY_POINT, canonical_identifier, canonical_variable_index, identifiers_equal,
 };
 pub use notes::{About, Note, notes};
+pub use outline::{Rule, outline};
 pub use recovery::{Problem, Recovered, recover};
 pub use refusals::{Call, Example, Meaning, REFUSALS, Refusal, meaning};

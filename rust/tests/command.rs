@@ -94,7 +94,7 @@ fn refused_sources() {
             &json.stdout,
             &mut failures,
         );
-        for command in ["tree", "write", "page"] {
+        for command in ["tree", "write", "list", "page"] {
             let output = refal5("refused", &[command, &file], b"");
             assert_eq!(output.status.code(), Some(1), "{command} {file}");
             // The page of a source that is refused says what is wrong too.
@@ -183,7 +183,7 @@ fn accepted_sources() {
             ("", ""),
             "{file}"
         );
-        for command in ["check", "tokens", "tree", "write"] {
+        for command in ["check", "tokens", "tree", "write", "list"] {
             for (option, extension) in [("--color=auto", ""), ("--json", ".json")] {
                 let output = refal5("accepted", &[command, option, &file], b"");
                 assert_eq!(output.status.code(), Some(0), "{command} {file}");

@@ -9,6 +9,7 @@ pub enum Command {
     Tree,
     Write,
     Page,
+    List,
     Explain,
 }
 
@@ -25,12 +26,13 @@ impl Command {
 }
 
 /// The commands by name.
-const COMMANDS: [(&str, Command); 6] = [
+const COMMANDS: [(&str, Command); 7] = [
     ("check", Command::Check),
     ("tokens", Command::Tokens),
     ("tree", Command::Tree),
     ("write", Command::Write),
     ("page", Command::Page),
+    ("list", Command::List),
     ("explain", Command::Explain),
 ];
 

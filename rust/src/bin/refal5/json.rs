@@ -46,6 +46,13 @@ pub fn array(values: &[String]) -> String {
     format!("[{}]", values.join(","))
 }
 
+/// A string in quotes.
+pub fn quoted(value: &str) -> String {
+    let mut out = String::new();
+    quote(value, &mut out);
+    out
+}
+
 /// Puts a string in quotes.
 pub fn quote(value: &str, out: &mut String) {
     out.push('"');

@@ -5,6 +5,7 @@ mod check;
 mod explain;
 mod input;
 mod json;
+mod list;
 mod listing;
 mod output;
 mod page;
@@ -67,6 +68,7 @@ fn run(args: &Args) -> Status {
         Command::Tree => listing::run(args, &mut output, listing::tree),
         Command::Write => listing::run(args, &mut output, listing::write),
         Command::Page => page::run(args, &mut output),
+        Command::List => listing::run(args, &mut output, list::list),
         Command::Explain => explain::run(args, &output),
     };
     settle(result)

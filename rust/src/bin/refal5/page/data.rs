@@ -54,8 +54,7 @@ fn problems(recovered: &Recovered<'_>) -> String {
         };
         match diagnosis.gap {
             Some(gap) => {
-                let mut write = String::new();
-                json::quote(gap.write, &mut write);
+                let write = json::quoted(gap.write);
                 let at = units.at(gap.place.span.start);
                 object.plain("gap", format!("[{at},{write}]")).end()
             }
