@@ -22,6 +22,7 @@ pub mod ast;
 mod comments;
 mod diagnosis;
 mod items;
+mod layout;
 pub mod lexer;
 mod names;
 mod notes;
@@ -35,6 +36,7 @@ pub mod rows;
 pub use ast::Span;
 pub use comments::{Comment, comments};
 pub use diagnosis::{Accepted, Diagnosis, Gap, Place, cannot_be_seen, check};
+pub use layout::{NoLayout, layout};
 pub use names::{
     PROGRAM_ENTRY_POINT, canonical_identifier, canonical_variable_index, identifiers_equal,
 };

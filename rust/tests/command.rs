@@ -94,7 +94,7 @@ fn refused_sources() {
             &json.stdout,
             &mut failures,
         );
-        for command in ["tree", "write", "list", "page"] {
+        for command in ["tree", "write", "format", "list", "page"] {
             let output = refal5("refused", &[command, &file], b"");
             assert_eq!(output.status.code(), Some(1), "{command} {file}");
             // The page of a source that is refused says what is wrong too.
@@ -183,7 +183,7 @@ fn accepted_sources() {
             ("", ""),
             "{file}"
         );
-        for command in ["check", "tokens", "tree", "write", "list"] {
+        for command in ["check", "tokens", "tree", "write", "format", "list"] {
             for (option, extension) in [("--color=auto", ""), ("--json", ".json")] {
                 let output = refal5("accepted", &[command, option, &file], b"");
                 assert_eq!(output.status.code(), Some(0), "{command} {file}");
@@ -203,6 +203,22 @@ fn a_written_text_is_written_the_same_again() {
         let again = refal5("accepted", &["write", "-"], &written.stdout);
         assert_eq!(text(&again.stdout), text(&written.stdout), "{name}");
     }
+}
+
+#[test]
+fn files_that_are_laid_out() {
+    let laid_out = refal5("accepted", &["format", "layout.ref"], b"");
+    let output = refal5("accepted", &["format", "--check", "-"], &laid_out.stdout);
+    assert_eq!((output.status.code(), text(&output.stdout)), (Some(0), ""));
+    let args = ["format", "--check", "layout.ref", "empty.ref", "notes.ref"];
+    let output = refal5("accepted", &args, b"");
+    assert_eq!(output.status.code(), Some(1));
+    assert_eq!(
+        text(&output.stdout),
+        "layout.ref: is not laid out\nnotes.ref: is not laid out\n"
+    );
+    let output = refal5("accepted", &["tree", "--check", "layout.ref"], b"");
+    assert_eq!(output.status.code(), Some(2));
 }
 
 #[test]

@@ -9,6 +9,7 @@ pub enum Command {
     Tree,
     Write,
     Page,
+    Format,
     List,
     Explain,
 }
@@ -26,12 +27,13 @@ impl Command {
 }
 
 /// The commands by name.
-const COMMANDS: [(&str, Command); 7] = [
+const COMMANDS: [(&str, Command); 8] = [
     ("check", Command::Check),
     ("tokens", Command::Tokens),
     ("tree", Command::Tree),
     ("write", Command::Write),
     ("page", Command::Page),
+    ("format", Command::Format),
     ("list", Command::List),
     ("explain", Command::Explain),
 ];
@@ -56,6 +58,8 @@ pub struct Options {
     pub json: bool,
     pub verbose: bool,
     pub notes: bool,
+    /// Whether `format` only says which files are not laid out.
+    pub check: bool,
     pub color: When,
 }
 
@@ -73,6 +77,7 @@ pub fn parse(args: impl Iterator<Item = OsString>) -> Result<Parsed, String> {
         json: false,
         verbose: false,
         notes: true,
+        check: false,
         color: When::Auto,
     };
     let mut args = args.into_iter();
@@ -86,6 +91,7 @@ pub fn parse(args: impl Iterator<Item = OsString>) -> Result<Parsed, String> {
             Some("--json") => options.json = true,
             Some("-v" | "--verbose") => options.verbose = true,
             Some("--no-notes") => options.notes = false,
+            Some("--check") => options.check = true,
             Some("--color") => options.color = when(args.next().as_deref())?,
             Some(option) if option.starts_with("--color=") => {
                 options.color = when(Some(OsStr::new(&option[8..])))?;
@@ -141,6 +147,9 @@ fn wrong(args: &Args) -> Option<String> {
     }
     if args.files.iter().filter(|file| *file == "-").count() > 1 {
         return Some("standard input can be read once only".into());
+    }
+    if args.options.check && args.command != Command::Format {
+        return Some("--check goes with format".into());
     }
     if args.command == Command::Page && (args.files.len() > 1 || args.options.json) {
         return Some("page takes one file, and no --json".into());

@@ -3,6 +3,7 @@
 mod args;
 mod check;
 mod explain;
+mod format;
 mod input;
 mod json;
 mod list;
@@ -68,6 +69,7 @@ fn run(args: &Args) -> Status {
         Command::Tree => listing::run(args, &mut output, listing::tree),
         Command::Write => listing::run(args, &mut output, listing::write),
         Command::Page => page::run(args, &mut output),
+        Command::Format => format::run(args, &mut output),
         Command::List => listing::run(args, &mut output, list::list),
         Command::Explain => explain::run(args, &output),
     };
