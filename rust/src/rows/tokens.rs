@@ -28,6 +28,16 @@ impl<'a> Tokens<'a> {
         }
     }
 
+    /// The tokens in rows whose texts and spans are parts of this source.
+    pub(crate) fn over_str(source: &'a str, words: &'a [u32]) -> Self {
+        Self { source, words }
+    }
+
+    /// The tokens from this one on.
+    pub(crate) fn from(self, index: usize) -> Self {
+        Self::over_str(self.source, &self.words[index * TOKEN_WORDS..])
+    }
+
     pub fn source(self) -> &'a str {
         self.source
     }

@@ -41,6 +41,18 @@ impl Object {
     }
 }
 
+/// An array of values that are printed as they are.
+pub fn array(values: &[String]) -> String {
+    format!("[{}]", values.join(","))
+}
+
+/// A string in quotes.
+pub fn quoted(value: &str) -> String {
+    let mut out = String::new();
+    quote(value, &mut out);
+    out
+}
+
 /// Puts a string in quotes.
 pub fn quote(value: &str, out: &mut String) {
     out.push('"');
