@@ -2,8 +2,8 @@
  *
  * Every function takes every input. A slice is a pointer and a count of elements; what is lent for reading is not changed.
  * answer[0] is 0 where the call is done, else the refusal's number, and then every element lent for output is 0.
- *   answer[1]  rows or bytes put down (0 on refusal)
- *   answer[2]  token kind expected        answer[3]  token kind found
+ *   answer[1]  rows or bytes put down, or calls resolved (0 on refusal)
+ *   answer[2]  token kind expected        answer[3]  token kind found; the file, 1 or 2, in refusals 60 and 61
  *   answer[4]  span start, in bytes       answer[5]  span end, exclusive
  *   answer[6]  rows or bytes that would be needed
  * Slices lent to one call do not overlap, and answer overlaps none of them. A pointer is not null, also where the count is 0.
@@ -108,6 +108,15 @@ void refal5_parse(const uint32_t *tokens, size_t n, uint32_t *rows, size_t m, ui
 /* Writing: a tree's rows and its source as text, each token and then one space; n counts words. Refusals 40 to 42; the need of 42 is
  * the text's length. */
 void refal5_write(const uint32_t *tree, size_t n, const uint8_t *src, size_t k, uint8_t *out, size_t m, uint64_t answer[7]);
+
+/* Linking: two files, each a tree's rows and its source; n1 and n2 count words, m1 and m2 bytes. No two functions of both may have equal names, and
+ * every call must name a function or a declared name of either. The count is that of all calls of both. Refusals in this order: 40 and 41 of
+ * file one, of file two (answer[3] is 0), 60 at the first function that has an earlier equal one, 61 at the first call whose name is missing; file
+ * one's rows before file two's.
+ * work is any number of words, none allowed: the answer does not depend on how many there are or what they hold, and afterwards each is 0. With at least
+ * 2 words for each row of both trees, 2 * (n1 + n2) / 7, the time is linear on average; with fewer each name may cost a look at every row. */
+void refal5_link(const uint32_t *tree1, size_t n1, const uint8_t *src1, size_t m1, const uint32_t *tree2, size_t n2, const uint8_t *src2, size_t m2,
+                 uint32_t *work, size_t w, uint64_t answer[7]);
 
 #ifdef __cplusplus
 }

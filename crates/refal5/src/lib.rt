@@ -1,13 +1,14 @@
 // The exported library: what a Rust or C program links. Each function lends its slices to a proved one and puts the answer
-// into seven words: 0 refusal number (0: done), 1 count of rows or bytes put down (0 on refusal), 2 expected, 3 found, 4 span
+// into seven words: 0 refusal number (0: done), 1 count of rows or bytes put down, or of calls (0 on refusal), 2 expected, 3 found, 4 span
 // start, 5 span end, 6 need.
 use refal_ast::Answer;
 ghost use mathlib.Core.Path.{_≡_};
-ghost use lib.ListN.{length};
+ghost use lib.ListN.{length, replicate};
 ghost use Rattle.refal_ast.specs.Names.{canonicalName, canonicalIndex, namesEqual, formAnswer, formBytes};
 ghost use Rattle.refal_lexer.specs.Read.{readAnswer, readRows};
 ghost use Rattle.refal_parser.specs.Parse.{parseAnswer, parseRows};
 ghost use Rattle.refal_writer.specs.Write.{writeAnswer, writeBytes};
+ghost use Rattle.refal_link.specs.Link.{linkAnswer};
 ghost use Rattle.refal5.specs.Words.{answerWords};
 
 // An answer's seven words.
@@ -79,4 +80,20 @@ pub extern "C" fn refal5_write(tree: &[u32], src: &[u8], out: &mut [u8], answer:
     ensures left { λ _. ⌜ now (out .exit) ≡ writeBytes (now (tree .entry)) (now (src .entry)) (now (out .entry)) ⌝ }
 {
     *answer = words(refal_writer::write(tree, src, out));
+}
+
+// Linking: how many calls the two files have, each of which names a function or a declared name of either.
+#[no_mangle]
+pub extern "C" fn refal5_link<'a>(
+    tree1: &[u32],
+    src1: &'a [u8],
+    tree2: &[u32],
+    src2: &'a [u8],
+    work: &mut [u32],
+    answer: &mut [u64; 7],
+)
+    ensures told { λ _. ⌜ now (answer .exit) ≡ answerWords (linkAnswer (now (tree1 .entry)) (now (src1 .entry)) (now (tree2 .entry)) (now (src2 .entry))) ⌝ }
+    ensures left { λ _. ⌜ now (work .exit) ≡ replicate (length (now (work .entry))) 0 ⌝ }
+{
+    *answer = words(refal_link::link(tree1, src1, tree2, src2, work));
 }
