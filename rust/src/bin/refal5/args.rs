@@ -11,6 +11,7 @@ pub enum Command {
     Page,
     Format,
     List,
+    Diff,
     Explain,
 }
 
@@ -22,12 +23,12 @@ impl Command {
 
     /// Whether a folder stands for the files in it.
     pub fn takes_folders(self) -> bool {
-        self.takes_files() && self != Self::Page
+        self.takes_files() && !matches!(self, Self::Page | Self::Diff)
     }
 }
 
 /// The commands by name.
-const COMMANDS: [(&str, Command); 8] = [
+const COMMANDS: [(&str, Command); 9] = [
     ("check", Command::Check),
     ("tokens", Command::Tokens),
     ("tree", Command::Tree),
@@ -35,6 +36,7 @@ const COMMANDS: [(&str, Command); 8] = [
     ("page", Command::Page),
     ("format", Command::Format),
     ("list", Command::List),
+    ("diff", Command::Diff),
     ("explain", Command::Explain),
 ];
 
@@ -150,6 +152,9 @@ fn wrong(args: &Args) -> Option<String> {
     }
     if args.options.check && args.command != Command::Format {
         return Some("--check goes with format".into());
+    }
+    if args.command == Command::Diff && args.files.len() != 2 {
+        return Some("diff takes two files, the old one and the new one".into());
     }
     if args.command == Command::Page && (args.files.len() > 1 || args.options.json) {
         return Some("page takes one file, and no --json".into());

@@ -2,6 +2,7 @@
 
 mod args;
 mod check;
+mod diff;
 mod explain;
 mod format;
 mod input;
@@ -71,6 +72,7 @@ fn run(args: &Args) -> Status {
         Command::Page => page::run(args, &mut output),
         Command::Format => format::run(args, &mut output),
         Command::List => listing::run(args, &mut output, list::list),
+        Command::Diff => diff::run(args, &mut output),
         Command::Explain => explain::run(args, &output),
     };
     settle(result)
