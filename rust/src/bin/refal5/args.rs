@@ -13,12 +13,13 @@ pub enum Command {
     List,
     Diff,
     Explain,
+    Lsp,
 }
 
 impl Command {
     /// Whether its words are files.
     pub fn takes_files(self) -> bool {
-        !matches!(self, Self::Explain)
+        !matches!(self, Self::Explain | Self::Lsp)
     }
 
     /// Whether a folder stands for the files in it.
@@ -28,7 +29,7 @@ impl Command {
 }
 
 /// The commands by name.
-const COMMANDS: [(&str, Command); 9] = [
+const COMMANDS: [(&str, Command); 10] = [
     ("check", Command::Check),
     ("tokens", Command::Tokens),
     ("tree", Command::Tree),
@@ -38,6 +39,7 @@ const COMMANDS: [(&str, Command); 9] = [
     ("list", Command::List),
     ("diff", Command::Diff),
     ("explain", Command::Explain),
+    ("lsp", Command::Lsp),
 ];
 
 /// When colours are used.
@@ -141,6 +143,9 @@ fn command(word: &OsStr) -> Result<Command, String> {
 
 /// What a command does not take.
 fn wrong(args: &Args) -> Option<String> {
+    if args.command == Command::Lsp && !args.files.is_empty() {
+        return Some("lsp takes no file: an editor sends them".into());
+    }
     if !args.command.takes_files() {
         return None;
     }

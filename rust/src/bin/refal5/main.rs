@@ -9,6 +9,7 @@ mod input;
 mod json;
 mod list;
 mod listing;
+mod lsp;
 mod output;
 mod page;
 mod progress;
@@ -74,6 +75,7 @@ fn run(args: &Args) -> Status {
         Command::List => listing::run(args, &mut output, list::list),
         Command::Diff => diff::run(args, &mut output),
         Command::Explain => explain::run(args, &output),
+        Command::Lsp => lsp::run(),
     };
     settle(result)
 }
