@@ -21,6 +21,7 @@
 pub mod ast;
 mod comments;
 mod diagnosis;
+mod difference;
 mod items;
 mod layout;
 pub mod lexer;
@@ -36,7 +37,8 @@ pub mod rows;
 pub use ast::Span;
 pub use comments::{Comment, comments};
 pub use diagnosis::{Accepted, Diagnosis, Gap, Place, cannot_be_seen, check};
-pub use layout::{NoLayout, layout};
+pub use difference::{Change, Difference, differences};
+pub use layout::{NoLayout, layout, one_line};
 pub use names::{
     PROGRAM_ENTRY_POINT, canonical_identifier, canonical_variable_index, identifiers_equal,
 };

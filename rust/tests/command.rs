@@ -206,6 +206,30 @@ fn a_written_text_is_written_the_same_again() {
 }
 
 #[test]
+fn two_programs_that_differ() {
+    let mut failures = Vec::new();
+    for (option, name) in [
+        ("--color=auto", "rules.diff"),
+        ("--json", "rules.diff.json"),
+    ] {
+        let output = refal5("diff", &["diff", option, "old.ref", "new.ref"], b"");
+        assert_eq!(output.status.code(), Some(1));
+        compare("diff", name, &output.stdout, &mut failures);
+    }
+    assert!(failures.is_empty(), "{}", failures.join("\n"));
+    // Laid out anew and respelled, it is the same.
+    let laid_out = refal5("diff", &["format", "old.ref"], b"");
+    let respelled = text(&laid_out.stdout).replace("Ten-Years", "Ten_YEARS");
+    let output = refal5("diff", &["diff", "old.ref", "-"], respelled.as_bytes());
+    assert_eq!((output.status.code(), text(&output.stdout)), (Some(0), ""));
+    let output = refal5("diff", &["diff", "old.ref", "-"], b"F {");
+    assert_eq!(output.status.code(), Some(2));
+    assert!(text(&output.stderr).contains("<standard input>:1:4: error [35]"));
+    let output = refal5("diff", &["diff", "old.ref"], b"");
+    assert_eq!(output.status.code(), Some(2));
+}
+
+#[test]
 fn files_that_are_laid_out() {
     let laid_out = refal5("accepted", &["format", "layout.ref"], b"");
     let output = refal5("accepted", &["format", "--check", "-"], &laid_out.stdout);

@@ -1,6 +1,7 @@
 //! Lines of a program, from its pieces.
 
 use super::pieces::{Piece, What, pieces};
+use crate::Span;
 use crate::rows::{Kind, Tokens};
 
 /// A sentence that is longer is broken before its conditions and its `=`.
@@ -25,6 +26,28 @@ pub(super) fn text(tokens: Tokens<'_>) -> String {
     }
     lines.flush();
     lines.text
+}
+
+/// The tokens in a span on one line, without comments.
+pub fn one_line(tokens: Tokens<'_>, span: Span) -> String {
+    let mut line = String::new();
+    let (mut before, mut end) = (Some(Kind::LParen), span.start);
+    for token in tokens.iter_from(span.start) {
+        let Span { start, end: close } = token.span();
+        if start >= span.end {
+            break;
+        }
+        // The characters of a literal after its first.
+        if start < end {
+            continue;
+        }
+        if spaced(before, token.kind()) {
+            line.push(' ');
+        }
+        line.push_str(token.spelling());
+        (before, end) = (Some(token.kind()), close);
+    }
+    line
 }
 
 #[derive(Default)]

@@ -7,6 +7,8 @@ mod lines;
 mod pieces;
 mod verify;
 
+pub use lines::one_line;
+
 use crate::Refusal;
 use crate::rows::{NodeRows, Tokens};
 

@@ -11,23 +11,25 @@ pub enum Command {
     Page,
     Format,
     List,
+    Diff,
     Explain,
+    Lsp,
 }
 
 impl Command {
     /// Whether its words are files.
     pub fn takes_files(self) -> bool {
-        !matches!(self, Self::Explain)
+        !matches!(self, Self::Explain | Self::Lsp)
     }
 
     /// Whether a folder stands for the files in it.
     pub fn takes_folders(self) -> bool {
-        self.takes_files() && self != Self::Page
+        self.takes_files() && !matches!(self, Self::Page | Self::Diff)
     }
 }
 
 /// The commands by name.
-const COMMANDS: [(&str, Command); 8] = [
+const COMMANDS: [(&str, Command); 10] = [
     ("check", Command::Check),
     ("tokens", Command::Tokens),
     ("tree", Command::Tree),
@@ -35,7 +37,9 @@ const COMMANDS: [(&str, Command); 8] = [
     ("page", Command::Page),
     ("format", Command::Format),
     ("list", Command::List),
+    ("diff", Command::Diff),
     ("explain", Command::Explain),
+    ("lsp", Command::Lsp),
 ];
 
 /// When colours are used.
@@ -139,6 +143,9 @@ fn command(word: &OsStr) -> Result<Command, String> {
 
 /// What a command does not take.
 fn wrong(args: &Args) -> Option<String> {
+    if args.command == Command::Lsp && !args.files.is_empty() {
+        return Some("lsp takes no file: an editor sends them".into());
+    }
     if !args.command.takes_files() {
         return None;
     }
@@ -150,6 +157,9 @@ fn wrong(args: &Args) -> Option<String> {
     }
     if args.options.check && args.command != Command::Format {
         return Some("--check goes with format".into());
+    }
+    if args.command == Command::Diff && args.files.len() != 2 {
+        return Some("diff takes two files, the old one and the new one".into());
     }
     if args.command == Command::Page && (args.files.len() > 1 || args.options.json) {
         return Some("page takes one file, and no --json".into());

@@ -73,7 +73,7 @@ fn notes_on(source: &[u8]) -> Vec<Note> {
 }
 
 /// A number of things.
-fn counted(number: usize, thing: &str) -> String {
+pub fn counted(number: usize, thing: &str) -> String {
     let end = if number == 1 { "" } else { "s" };
     format!("{number} {thing}{end}")
 }

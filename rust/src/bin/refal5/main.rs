@@ -2,12 +2,14 @@
 
 mod args;
 mod check;
+mod diff;
 mod explain;
 mod format;
 mod input;
 mod json;
 mod list;
 mod listing;
+mod lsp;
 mod output;
 mod page;
 mod progress;
@@ -71,7 +73,9 @@ fn run(args: &Args) -> Status {
         Command::Page => page::run(args, &mut output),
         Command::Format => format::run(args, &mut output),
         Command::List => listing::run(args, &mut output, list::list),
+        Command::Diff => diff::run(args, &mut output),
         Command::Explain => explain::run(args, &output),
+        Command::Lsp => lsp::run(),
     };
     settle(result)
 }

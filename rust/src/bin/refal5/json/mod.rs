@@ -1,4 +1,8 @@
-//! JSON objects, one to a line.
+//! JSON, written and read.
+
+mod parse;
+
+pub use parse::{Value, parse};
 
 use std::fmt::{Display, Write};
 
