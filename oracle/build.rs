@@ -15,8 +15,12 @@ fn main() {
     println!("cargo::rustc-check-cfg=cfg(original)");
     println!("cargo::rerun-if-env-changed=REFAL5_ORIGINAL");
     let folder = folder();
-    for file in [AST, LEXER, PARSER] {
-        println!("cargo::rerun-if-changed={}", folder.join(file).display());
+    // A file that is absent is not named: cargo would run this script at each build.
+    println!("cargo::rerun-if-changed=build.rs");
+    for file in [AST, LEXER, PARSER].map(|file| folder.join(file)) {
+        if file.is_file() {
+            println!("cargo::rerun-if-changed={}", file.display());
+        }
     }
     let out = PathBuf::from(env::var_os("OUT_DIR").expect("cargo sets OUT_DIR"));
     if [AST, LEXER, PARSER]

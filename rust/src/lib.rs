@@ -19,17 +19,30 @@
 //! ```
 
 pub mod ast;
+mod comments;
 mod diagnosis;
+mod difference;
+mod items;
+mod layout;
 pub mod lexer;
 mod names;
+mod notes;
+mod outline;
 pub mod parser;
 pub mod raw;
-mod refusal;
+mod recovery;
+mod refusals;
 pub mod rows;
 
 pub use ast::Span;
-pub use diagnosis::{Accepted, Diagnosis, Place, check};
+pub use comments::{Comment, comments};
+pub use diagnosis::{Accepted, Diagnosis, Gap, Place, cannot_be_seen, check};
+pub use difference::{Change, Difference, differences};
+pub use layout::{NoLayout, layout, one_line};
 pub use names::{
     PROGRAM_ENTRY_POINT, canonical_identifier, canonical_variable_index, identifiers_equal,
 };
-pub use refusal::Refusal;
+pub use notes::{About, Note, notes};
+pub use outline::{Rule, outline};
+pub use recovery::{Problem, Recovered, recover};
+pub use refusals::{Call, Example, Meaning, REFUSALS, Refusal, meaning};

@@ -265,7 +265,7 @@ fn tokens_that_reading_never_gives() {
     assert_eq!(
         error.message,
         "bytes 2-4: the letter of the variable `x.1` is not s, t or e; \
-         the place shown, bytes 0-0, is the token after it: the end of the file"
+         the place shown, bytes 0-0, comes after it: the end of the file"
     );
 }
 
@@ -276,15 +276,15 @@ fn parse_errors_name_both_places() {
     assert_eq!((error.meant.start, error.span.start), (10, 12));
     assert_eq!(
         error.message,
-        "bytes 10-11: a declaration wants a function's name, but finds `;`; \
-         the place shown, bytes 12-13, is the token after it: the name `F`"
+        "bytes 10-11: a declaration wants a name, but finds `;`; \
+         the place shown, bytes 12-13, comes after it: the name `F`"
     );
     let error = parse_error("F { = <'ab'>; }");
     assert_eq!((error.meant.start, error.span.start), (7, 7));
     assert_eq!(
         error.message,
-        "bytes 7-11: a call wants a function's name after its `<`, but finds the literal `'a'`; \
-         the place shown, bytes 7-11, is the token after it: the literal `'b'`"
+        "bytes 7-11: a call wants a function's name after its `<`, but finds the quoted text `'a'`; \
+         the place shown, bytes 7-11, comes after it: the quoted text `'b'`"
     );
     let error = parse_error("F { = A");
     assert_eq!((error.refusal.number, error.refusal.expected), (35, 16));
@@ -296,7 +296,7 @@ fn parse_errors_name_both_places() {
     assert_eq!((error.refusal.number, error.refusal.found), (32, 17));
     assert_eq!(
         error.message,
-        "bytes 6-6: a function's name is wanted here, but the end of the file is found"
+        "bytes 6-6: a rule's name is wanted here, but the end of the file is found"
     );
     let deep = format!("F {{ = {}", "(".repeat(65));
     let error = parse_error(&deep);
@@ -307,13 +307,27 @@ fn parse_errors_name_both_places() {
     );
 }
 
+/// With the source at hand both error types say line and column.
+#[test]
+fn parse_errors_name_line_and_column() {
+    let source = "F {\n  '字' A }\nG { = ; }";
+    let tokens = Lexer::new(source).tokenize().unwrap();
+    let mut parser = Parser::new(tokens).in_source(source);
+    let error = parser.parse_program().unwrap_err();
+    assert_eq!((error.meant.start, error.span.start), (14, 16));
+    assert_eq!(
+        error.message,
+        "line 2, column 9: `}` has no place here; the place shown, line 3, column 1, comes after it: the name `G`"
+    );
+}
+
 #[test]
 fn lexer_errors_name_the_place() {
     let error = Lexer::new("F {\n  '字' é = ; }").tokenize().unwrap_err();
     assert_eq!((error.refusal.number, error.span.start), (10, 12));
     assert_eq!(
         error.message,
-        "line 2, column 7: the character `é` has no meaning here"
+        "line 2, column 7: the character `é` (U+00E9) has no meaning here"
     );
     assert_eq!(error.to_string(), error.message);
 }

@@ -77,7 +77,7 @@ fn refused_sources() {
             .parse::<u32>()
             .expect("a name starts with its number");
         assert!(
-            text(&check.stdout).contains(&format!(": refusal {number}: ")),
+            text(&check.stdout).contains(&format!(": error [{number}]: ")),
             "{file}"
         );
         compare(
@@ -94,10 +94,18 @@ fn refused_sources() {
             &json.stdout,
             &mut failures,
         );
-        for command in ["tree", "write", "page"] {
+        for command in ["tree", "write", "format", "list", "page"] {
             let output = refal5("refused", &[command, &file], b"");
             assert_eq!(output.status.code(), Some(1), "{command} {file}");
-            assert_eq!(text(&output.stdout), "", "{command} {file}");
+            // The page of a source that is refused says what is wrong too.
+            let start = if command == "page" {
+                "<!doctype html>\n"
+            } else {
+                ""
+            };
+            let printed = text(&output.stdout);
+            assert_eq!(printed.get(..start.len()), Some(start), "{command} {file}");
+            assert_eq!(printed.is_empty(), start.is_empty(), "{command} {file}");
             assert_eq!(output.stderr, check.stdout, "{command} {file}");
         }
         let tokens = refal5("refused", &["tokens", &file], b"");
@@ -105,6 +113,44 @@ fn refused_sources() {
         assert_eq!(tokens.status.code(), Some(i32::from(!read)), "{file}");
     }
     assert!(failures.is_empty(), "{}", failures.join("\n"));
+}
+
+/// Sources with several problems: each broken item's first, and what rests on a guess is marked.
+#[test]
+fn sources_with_several_problems() {
+    let mut failures = Vec::new();
+    for name in sources("several") {
+        let file = format!("{name}.ref");
+        for (option, extension) in [("--color=auto", "check"), ("--json", "json")] {
+            let output = refal5("several", &["check", option, &file], b"");
+            assert_eq!(output.status.code(), Some(1), "{file}");
+            let golden = format!("{name}.{extension}");
+            compare("several", &golden, &output.stdout, &mut failures);
+        }
+    }
+    assert!(failures.is_empty(), "{}", failures.join("\n"));
+}
+
+/// What each command that takes other words prints, by the name of its golden file.
+#[test]
+fn explanations() {
+    let mut failures = Vec::new();
+    for (name, args) in [
+        ("all", &["explain"][..]),
+        ("34", &["explain", "34"]),
+        (
+            "34-and-20.json",
+            &["explain", "--json", "[34]", "REFAL5_TEXT_TOO_LONG"],
+        ),
+    ] {
+        let output = refal5("explain", args, b"");
+        assert_eq!(output.status.code(), Some(0), "{name}");
+        compare("explain", name, &output.stdout, &mut failures);
+    }
+    assert!(failures.is_empty(), "{}", failures.join("\n"));
+    let output = refal5("explain", &["explain", "99"], b"");
+    assert_eq!(output.status.code(), Some(2));
+    assert!(text(&output.stderr).contains("there is no refusal `99`"));
 }
 
 /// Each refused source with the change made that the advice names.
@@ -120,7 +166,8 @@ fn following_the_advice_helps() {
         .chain(files.iter().map(String::as_str))
         .collect();
     let output = refal5("fixed", &args, b"");
-    assert_eq!(text(&output.stdout), "");
+    let refused = |line: &&str| !line.contains(": note: ");
+    assert_eq!(text(&output.stdout).lines().find(refused), None);
     assert_eq!(output.status.code(), Some(0));
 }
 
@@ -129,14 +176,14 @@ fn accepted_sources() {
     let mut failures = Vec::new();
     for name in sources("accepted") {
         let file = format!("{name}.ref");
-        let check = refal5("accepted", &["check", &file], b"");
-        assert_eq!(check.status.code(), Some(0), "{file}");
+        let silent = refal5("accepted", &["check", "--no-notes", &file], b"");
+        assert_eq!(silent.status.code(), Some(0), "{file}");
         assert_eq!(
-            (text(&check.stdout), text(&check.stderr)),
+            (text(&silent.stdout), text(&silent.stderr)),
             ("", ""),
             "{file}"
         );
-        for command in ["tokens", "tree", "write"] {
+        for command in ["check", "tokens", "tree", "write", "format", "list"] {
             for (option, extension) in [("--color=auto", ""), ("--json", ".json")] {
                 let output = refal5("accepted", &[command, option, &file], b"");
                 assert_eq!(output.status.code(), Some(0), "{command} {file}");
@@ -159,10 +206,50 @@ fn a_written_text_is_written_the_same_again() {
 }
 
 #[test]
+fn two_programs_that_differ() {
+    let mut failures = Vec::new();
+    for (option, name) in [
+        ("--color=auto", "rules.diff"),
+        ("--json", "rules.diff.json"),
+    ] {
+        let output = refal5("diff", &["diff", option, "old.ref", "new.ref"], b"");
+        assert_eq!(output.status.code(), Some(1));
+        compare("diff", name, &output.stdout, &mut failures);
+    }
+    assert!(failures.is_empty(), "{}", failures.join("\n"));
+    // Laid out anew and respelled, it is the same.
+    let laid_out = refal5("diff", &["format", "old.ref"], b"");
+    let respelled = text(&laid_out.stdout).replace("Ten-Years", "Ten_YEARS");
+    let output = refal5("diff", &["diff", "old.ref", "-"], respelled.as_bytes());
+    assert_eq!((output.status.code(), text(&output.stdout)), (Some(0), ""));
+    let output = refal5("diff", &["diff", "old.ref", "-"], b"F {");
+    assert_eq!(output.status.code(), Some(2));
+    assert!(text(&output.stderr).contains("<standard input>:1:4: error [35]"));
+    let output = refal5("diff", &["diff", "old.ref"], b"");
+    assert_eq!(output.status.code(), Some(2));
+}
+
+#[test]
+fn files_that_are_laid_out() {
+    let laid_out = refal5("accepted", &["format", "layout.ref"], b"");
+    let output = refal5("accepted", &["format", "--check", "-"], &laid_out.stdout);
+    assert_eq!((output.status.code(), text(&output.stdout)), (Some(0), ""));
+    let args = ["format", "--check", "layout.ref", "empty.ref", "notes.ref"];
+    let output = refal5("accepted", &args, b"");
+    assert_eq!(output.status.code(), Some(1));
+    assert_eq!(
+        text(&output.stdout),
+        "layout.ref: is not laid out\nnotes.ref: is not laid out\n"
+    );
+    let output = refal5("accepted", &["tree", "--check", "layout.ref"], b"");
+    assert_eq!(output.status.code(), Some(2));
+}
+
+#[test]
 fn standard_input() {
     let output = refal5("refused", &["check", "-"], b"F{A}");
     assert_eq!(output.status.code(), Some(1));
-    assert!(text(&output.stdout).starts_with("<standard input>:1:4: refusal 34: "));
+    assert!(text(&output.stdout).starts_with("<standard input>:1:4: error [34]: "));
     let output = refal5("refused", &["check", "-", "-"], b"");
     assert_eq!(output.status.code(), Some(2));
 }
@@ -179,9 +266,13 @@ fn several_files() {
     let output = refal5("accepted", &files, b"");
     assert_eq!(output.status.code(), Some(1));
     let lines: Vec<&str> = text(&output.stdout).lines().collect();
-    assert_eq!(lines[0], "empty.ref: accepted, 1 tokens, 0 nodes");
-    assert_eq!(lines[1], "worked-go.ref: accepted, 7 tokens, 4 nodes");
-    assert!(lines[2].starts_with("../refused/32-no-name.ref:1:1: refusal 32: "));
+    assert_eq!(lines[0], "empty.ref: accepted, 0 tokens, 0 nodes");
+    assert_eq!(
+        lines[1],
+        "empty.ref:1:1: note: The file is empty: it has no rule."
+    );
+    assert_eq!(lines[2], "worked-go.ref: accepted, 6 tokens, 4 nodes");
+    assert!(lines[3].starts_with("../refused/32-no-name.ref:1:1: error [32]: "));
 
     let files = ["write", "worked-go.ref", "empty.ref", "three-variables.ref"];
     let output = refal5("accepted", &files, b"");
@@ -203,12 +294,35 @@ fn a_file_that_is_absent() {
     );
     assert_eq!(output.status.code(), Some(2));
     assert!(text(&output.stderr).starts_with("refal5: absent.ref: "));
-    assert!(text(&output.stdout).contains("refusal 32"));
+    assert!(text(&output.stdout).contains("error [32]"));
     let output = refal5("accepted", &["check", "--json", "absent.ref"], b"");
     assert_eq!(output.status.code(), Some(2));
     assert!(text(&output.stdout).starts_with("{\"file\":\"absent.ref\",\"ok\":false,\"error\":\""));
-    let output = refal5("accepted", &["tree", "."], b"");
+}
+
+/// A folder stands for the files `*.ref` in it and in its folders.
+#[test]
+fn a_folder() {
+    let folder = Path::new(env!("CARGO_TARGET_TMPDIR")).join("folder");
+    for (name, source) in [("b/two.ref", "F { = ; }"), ("a.ref", "F {"), ("c.txt", "")] {
+        let file = folder.join(name);
+        fs::create_dir_all(file.parent().unwrap()).expect("the target folder is writable");
+        fs::write(file, source).expect("the target folder is writable");
+    }
+    fs::create_dir_all(folder.join("none")).expect("the target folder is writable");
+    let name = folder.to_str().expect("the target folder's name is UTF-8");
+    let output = refal5("accepted", &["check", "-v", name], b"");
+    assert_eq!(output.status.code(), Some(1));
+    let heads: Vec<&str> = text(&output.stdout)
+        .lines()
+        .filter_map(|line| line.strip_prefix(name))
+        .collect();
+    assert!(heads[0].starts_with("/a.ref:1:4: error [35]: "));
+    assert_eq!(heads[1], "/b/two.ref: accepted, 5 tokens, 4 nodes");
+    let none = format!("{name}/none");
+    let output = refal5("accepted", &["tree", &none], b"");
     assert_eq!(output.status.code(), Some(2));
+    assert!(text(&output.stderr).ends_with("the folder has no file *.ref\n"));
 }
 
 #[test]
@@ -219,6 +333,8 @@ fn usage() {
         &["chek", "empty.ref"],
         &["check", "--jsn", "empty.ref"],
         &["check", "--color=red", "empty.ref"],
+        &["check", "--color"],
+        &["check", "--color", "red", "empty.ref"],
         &["page", "empty.ref", "worked-go.ref"],
         &["page", "--json", "empty.ref"],
     ] {
@@ -230,9 +346,11 @@ fn usage() {
             "{args:?}"
         );
     }
-    let help = refal5("accepted", &["--help"], b"");
-    assert_eq!(help.status.code(), Some(0));
-    assert!(text(&help.stdout).contains("Exit status: 0"));
+    for word in ["--help", "help"] {
+        let help = refal5("accepted", &[word], b"");
+        assert_eq!(help.status.code(), Some(0));
+        assert!(text(&help.stdout).contains("Exit status: 0"));
+    }
     let version = refal5("accepted", &["check", "--version"], b"");
     assert_eq!(version.status.code(), Some(0));
     assert_eq!(
@@ -251,9 +369,11 @@ fn a_file_over_the_limit() {
     assert_eq!(output.status.code(), Some(1));
     assert_eq!(
         text(&output.stdout),
-        "<standard input>:1:1: refusal 1: the file is longer than 16,777,216 bytes\n  \
+        "<standard input>:1:1: error [1]: the file is longer than 16,777,216 bytes\n  \
          what to do: Split the file in two and check each part.\n"
     );
+    let output = refal5("accepted", &["page", "-"], &source);
+    assert_eq!((output.status.code(), text(&output.stdout)), (Some(1), ""));
 }
 
 #[test]
@@ -266,6 +386,8 @@ fn colours_only_where_wanted() {
         b"",
     );
     assert!(coloured.stdout.contains(&0x1b));
+    let parted = ["check", "--color", "always", "34-same-kind-after.ref"];
+    assert_eq!(refal5("refused", &parted, b"").stdout, coloured.stdout);
     let mut bare = String::new();
     let mut rest = text(&coloured.stdout);
     while let Some((before, after)) = rest.split_once('\u{1b}') {
@@ -315,7 +437,7 @@ fn on_a_terminal_there_are_colours_and_after_a_second_progress() {
         return;
     };
     assert!(
-        quick.contains("\u{1b}[1;31mrefusal 34:\u{1b}[0m"),
+        quick.contains("\u{1b}[1;31merror [34]:\u{1b}[0m"),
         "{quick}"
     );
     assert!(!quick.contains("file 1 of 1"), "{quick}");

@@ -7,8 +7,8 @@ use std::fs;
 use std::path::Path;
 
 use oracle::generate::{Rng, delivery, sources};
-use oracle::reference::{parse, read};
 use oracle::reference::read::signed_exponent;
+use oracle::reference::{parse, read};
 use oracle::{ast, lexer, messages, parser};
 
 const SEED: u64 = 6;

@@ -28,6 +28,11 @@ fn every_refusal_is_explained() {
         assert!(meant.span.end <= source.len() && meant.span.start <= shown.span.start);
         assert_eq!(diagnosis.shown_token.is_some(), diagnosis.differs());
         assert!(diagnosis.advice.ends_with('.'));
+        if let Some(gap) = diagnosis.gap {
+            let at = gap.place.span.start;
+            assert_eq!(at, gap.place.span.end);
+            assert!(0 < at && at <= meant.span.start);
+        }
         assert!(!diagnosis.to_string().contains(char::is_control));
     });
     for number in [2].into_iter().chain(10..=24).chain(31..=35) {

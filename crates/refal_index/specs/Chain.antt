@@ -7,7 +7,7 @@ use mathlib.Core.Path.{_≡_, refl, ap, sym, subst, _∙_}
 use native.Mathlib.Omega.{arith}
 use borrow.Author.Tests.{eqb-true, eqb-false, eq-eqb, ne-eqb}
 use lib.Dec.{eqb}
-use lib.ListN.{length, getD, set, replicate, length-set}
+use lib.ListN.{length, getD, set, length-set}
 use lib.Seq.{getD-set-same, getD-set-other}
 use Rattle.refal_rows.specs.Rows.{pickList}
 
@@ -94,14 +94,9 @@ chain-keep w w' m p (g ∷ l) e f c =
     (c .0, rw (e g (f .0)) (chain-keep w w' g (getD w g 0) l (λ i h. e i (let z : i < m = omega arith in z)) (f .1) (c .1)))
 
 -- ---- no row; one more
-getD-zeros : (m i : ℕ) → _≡_ {A = ℕ} (getD (replicate m 0) i 0) 0
-getD-zeros zero i = refl
-getD-zeros (suc m) zero = refl
-getD-zeros (suc m) (suc i) = getD-zeros m i
-
-pub index-none : (w : List ℕ) (m n b : ℕ) (k : ℕ → ℕ) → w ≡ replicate m 0 → Chained w n b k []
+pub index-none : (w : List ℕ) (n b : ℕ) (k : ℕ → ℕ) → ((h : ℕ) → h < b → getD w (n + h) 0 ≡ 0) → Chained w n b k []
 unfolding only
-index-none w m n b k e = record { falls = tt; chains = λ h hb. rw e (getD-zeros m (n + h)) }
+index-none w n b k e = record { falls = tt; chains = e }
 
 module _ (w : List ℕ) (n b : ℕ) (k : ℕ → ℕ) (g : ℕ) (l : List ℕ) (lt : g < n) (room : n + b ≤ length w) (kb : k g < b) where
   pub index-push : Falls g l → Chained w n b k l → Chained (pushed w n (k g) g) n b k (g ∷ l)

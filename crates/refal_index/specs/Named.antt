@@ -1,7 +1,7 @@
 -- Rows that bear names, Functions and declared Names: which of them answers to a name, and what it is that the words index them.
-use Prim.Native.Nat.{ℕ, zero, suc, _+_, _≤_, _<_}
+use Prim.Native.Nat.{ℕ, zero, suc, _+_, _-_, _≤_, _<_, min}
 use mathlib.Core.Bool.{Bool, true, false, not, _&&_, _||_, true≢false}
-use mathlib.Core.List.{List, [], _∷_}
+use mathlib.Core.List.{List, [], _∷_, _++_}
 use mathlib.Core.Path.{_≡_, refl, ap, ap₂, sym, _∙_}
 use native.Mathlib.Omega.{arith}
 use native.Mathlib.Decide.{decLe}
@@ -9,7 +9,8 @@ use native.Mathlib.Nat.{le-refl}
 use native.Mathlib.Numerals.{add-one}
 use lib.Dec.{eqb, leb}
 use borrow.Author.Tests.{leb-false, le-leb, lt-leb}
-use lib.ListN.{length, getD, set, replicate, length-set}
+use lib.ListN.{length, getD, set, take, drop, replicate, length-append, length-take, length-drop, length-set, length-replicate, getD-replicate, List·getD-append}
+use lib.Seq.{length-take-le, getD-append-add}
 use Rattle.refal_rows.specs.Rows.{pickList}
 use Rattle.refal_rows.specs.Tests.{and-left, and-right}
 use Rattle.refal_ast.specs.Kinds.{nodeName, nodeFunction}
@@ -136,9 +137,27 @@ unfolding answersTo
 answers-is functions key p e = rw e refl
 
 -- ---- no row entered
-pub holds-none : (W : List ℕ) (m n b : ℕ) (R : ℕ → Placed) → W ≡ replicate m 0 → (0 < b → n + b ≤ length W) → Holds W n b R 0
+zeros-at : (W rest : List ℕ) (n b h : ℕ) → n ≤ length W → h < b → getD (take n W ++ (replicate b 0 ++ rest)) (n + h) 0 ≡ 0
+zeros-at W rest n b h l k =
+    let e : length (take n W) ≡ n = length-take-le n W l in
+    ap (λ (i : ℕ). getD (take n W ++ (replicate b 0 ++ rest)) (i + h) 0) (sym e)
+    ∙ getD-append-add (take n W) (replicate b 0 ++ rest) h 0
+    ∙ List·getD-append (replicate b 0) rest 0 h (let z : h < length (replicate b 0) = omega (arith, length-replicate {A = ℕ} b 0) in z)
+    ∙ getD-replicate b h 0 0 k
+
+-- the heads are 0: b words from a on, where a is n if there are so many words
+pub holds-cleared : (W ys : List ℕ) (n b a k : ℕ) (R : ℕ → Placed) → a ≡ min n (length W) → k ≡ b → b ≤ length W - n → ys ≡ replicate (length (take k (drop a W))) 0 → Holds (take a W ++ (ys ++ drop k (drop a W))) n b R 0
 unfolding entered
-holds-none W m n b R e r = record { room = r; chained = λ h. index-none W m n b (rowBucket R b) e }
+holds-cleared W ys n b a k R p q l e = record {
+  room = λ h. let c = cleared h in omega (arith, length-append (take n W) (replicate b 0 ++ drop k (drop a W)), length-append (replicate b 0) (drop k (drop a W)), length-replicate {A = ℕ} b 0, length-take n W, ap length c);
+  chained = λ h. index-none _ n b (rowBucket R b) (λ i m. ap (λ (w : List ℕ). getD w (n + i) 0) (cleared h) ∙ zeros-at W (drop k (drop a W)) n b i (let z : n ≤ length W = omega arith in z) m);
+}
+  where
+    cleared : 0 < b → take a W ++ (ys ++ drop k (drop a W)) ≡ take n W ++ (replicate b 0 ++ drop k (drop a W))
+    cleared h =
+        let f : a ≡ n = omega arith in
+        let m : length (take k (drop a W)) ≡ b = length-take k (drop a W) ∙ (let z : min k (length (drop a W)) ≡ b = omega (arith, length-drop a W) in z) in
+        ap₂ (λ (i : ℕ) (y : List ℕ). take i W ++ (y ++ drop k (drop a W))) f (e ∙ ap (λ (i : ℕ). replicate i 0) m)
 
 -- ---- a row entered
 entered-in : (R : ℕ → Placed) (g : ℕ) → bears false (R g .node .kind) ≡ true → entered R (g + 1) ≡ g ∷ entered R g

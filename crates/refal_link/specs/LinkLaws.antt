@@ -1,5 +1,5 @@
 -- Laws of linking's loops over the rows' numbers: what is left from g on decides.
-use Prim.Native.Nat.{ℕ, zero, suc, _+_, _-_, _*_, _≤_, _<_, min}
+use Prim.Native.Nat.{ℕ, zero, suc, _+_, _-_, _*_, _/_, _≤_, _<_, min}
 use mathlib.Core.Bool.{Bool, true, false, not, _&&_, _||_, true≢false}
 use mathlib.Core.List.{List, [], _∷_, _++_}
 use mathlib.Core.Option.{Option, none, some}
@@ -226,9 +226,9 @@ module _ (w₁ s₁ w₂ s₂ : List ℕ) where
       let n : found ≡ length (calls rows) = let h = C .count in let z : length (calls (drop g rows)) ≡ 0 = ap length q in omega arith in
       ap Done n ∙ sym (ap (λ (o : Option Placed). shown 61 o (Done (length (calls rows)))) m)
 
--- ---- how many buckets there are for n rows in so many words: one a row, or fewer where the words end
+-- ---- how many buckets there are for n rows in so many words: one for eight rows, or fewer where the words end
 abbrev pub bucketCount : ℕ → ℕ → ℕ
-bucketCount n words = min (words - n) n
+bucketCount n words = min (words - n) (n / 8 + 1)
 
 -- ---- both together
 module _ (w₁ s₁ w₂ s₂ : List ℕ) (n g : ℕ) (e : atRow (rowAt w₁ s₁ w₂ s₂) n g ≡ repeated [] (functions (bothRows w₁ s₁ w₂ s₂))) where

@@ -168,14 +168,16 @@ fn resolve<'a>(
     Answer::Done(found)
 }
 
-// How many buckets there are for n rows in so many words: one a row, or fewer where the words end.
+// How many buckets there are for n rows in so many words: one for eight rows, since few rows bear names, or fewer where the words end.
 fn bucket_count(n: usize, words: usize) -> usize
+    requires { ⌜ n < 4294967296 ⌝ }
     ensures { λ r. ⌜ r ≡ bucketCount n words ⌝ }
 {
     if words <= n {
         return 0;
     }
-    refal_rows::least(words - n, n)
+    let most = n / 8 + 1;
+    refal_rows::least(words - n, most)
 }
 
 // The answer for two files that passed 40 and 41.
@@ -186,11 +188,14 @@ fn link_rows<'a>(
     tree2: &[u32],
     src2: &'a [u8],
 ) -> Answer
-    requires { ⌜ (bothCount (now tree1) (now tree2) < 4294967296) × (now work ≡ replicate (length (now work)) 0) ⌝ }
+    requires { ⌜ bothCount (now tree1) (now tree2) < 4294967296 ⌝ }
     ensures { λ r. ⌜ r ≡ linked (bothRows (now (tree1 .entry)) (now (src1 .entry)) (now (tree2 .entry)) (now (src2 .entry))) ⌝ }
 {
     let n = refal_files::count(tree1) + refal_files::count(tree2);
     let buckets = bucket_count(n, work.len());
+    let from = refal_rows::least(n, work.len());
+    let end = from + buckets;
+    refal_rows::clear(&mut work[from..end]);
     let g = repeated(work, n, buckets, tree1, src1, tree2, src2);
     if g < n {
         return refused_at(60, tree1, tree2, g);
@@ -198,7 +203,7 @@ fn link_rows<'a>(
     resolve(work, n, buckets, tree1, src1, tree2, src2)
 }
 
-// The answer, over words that are 0.
+// The answer, whatever the words hold.
 fn answer<'a>(
     work: &mut [u32],
     tree1: &[u32],
@@ -206,7 +211,6 @@ fn answer<'a>(
     tree2: &[u32],
     src2: &'a [u8],
 ) -> Answer
-    requires { ⌜ now work ≡ replicate (length (now work)) 0 ⌝ }
     ensures { λ r. ⌜ r ≡ linkAnswer (now (tree1 .entry)) (now (src1 .entry)) (now (tree2 .entry)) (now (src2 .entry)) ⌝ }
 {
     if !refal_tree::lawful(tree1) {
@@ -236,7 +240,6 @@ pub fn link<'a>(
     ensures { λ r. ⌜ r ≡ linkAnswer (now (tree1 .entry)) (now (src1 .entry)) (now (tree2 .entry)) (now (src2 .entry)) ⌝ }
     ensures { λ r. ⌜ now (work .exit) ≡ replicate (length (now (work .entry))) 0 ⌝ }
 {
-    refal_rows::clear(work);
     let r = answer(work, tree1, src1, tree2, src2);
     refal_rows::clear(work);
     r

@@ -2,6 +2,7 @@
 
 use std::borrow::Cow;
 
+use super::characters;
 use crate::Refusal;
 use crate::raw::MAX_BYTES;
 use crate::rows::Kind;
@@ -12,11 +13,18 @@ const SHOWN: usize = 24;
 /// What is wrong. `spelling` is the text that the refusal is about, where it is known.
 pub(crate) fn message(refusal: &Refusal, spelling: Option<&str>) -> String {
     let text = spelling.map_or(String::new(), |text| format!(" `{}`", clip(text)));
+    let character = spelling.and_then(|text| text.chars().next());
     let need = refusal.need;
     match refusal.number {
         1 => format!("the file is longer than {} bytes", grouped(MAX_BYTES)),
         2 => "the bytes from here on are not UTF-8 text".into(),
-        10 => format!("the character{text} has no meaning here"),
+        10 => format!(
+            "the character{} has no meaning here",
+            character.map_or(String::new(), |character| format!(
+                " {}",
+                characters::shown(character)
+            ))
+        ),
         11 => format!("there is no directive{text}"),
         12 => format!("the variable{text} has no index after its point"),
         13 => format!("the index of the variable{text} is longer than 15 characters"),
@@ -29,29 +37,26 @@ pub(crate) fn message(refusal: &Refusal, spelling: Option<&str>) -> String {
         17 => format!("the number{text} has no digit after its E"),
         18 => format!("the number{text} has a sign but no point and no E"),
         19 => format!("the number{text} is over 4294967295"),
-        20 => "the literal is longer than 255 characters".into(),
-        21 => "the literal is empty".into(),
-        22 => "the literal is not closed on its line".into(),
-        23 => "the literal is not closed".into(),
+        20 => "the quoted text is longer than 255 characters".into(),
+        21 => "the quotes hold no text".into(),
+        22 => "the quoted text is not closed on its line".into(),
+        23 => "the quoted text is not closed".into(),
         24 => "the comment is not closed".into(),
         25 => format!("{need} token rows are needed, and fewer were lent"),
         30 => "the rows are no list of tokens with Eof once, at its end".into(),
         31 => format!(
-            "a declaration wants a function's name, but finds {}",
+            "a declaration wants a name, but finds {}",
             found(refusal, spelling)
         ),
         32 => format!(
-            "a function's name is wanted here, but {} is found",
+            "a rule's name is wanted here, but {} is found",
             found(refusal, spelling)
         ),
         33 => format!(
             "a call wants a function's name after its `<`, but finds {}",
             found(refusal, spelling)
         ),
-        34 => format!(
-            "a term is wanted here, but {} is found",
-            found(refusal, spelling)
-        ),
+        34 => format!("{} has no place here", found(refusal, spelling)),
         35 => {
             let wanted = refusal
                 .expected_kind()
@@ -93,7 +98,7 @@ pub(crate) fn describe(kind: Kind, spelling: &str) -> String {
         Kind::Identifier => "the name",
         Kind::Variable => "the variable",
         Kind::Number => "the number",
-        Kind::Char => "the literal",
+        Kind::Char => "the quoted text",
         Kind::Eof => return kind.words().into(),
         _ => return format!("`{}`", clip(spelling)),
     };
@@ -102,8 +107,13 @@ pub(crate) fn describe(kind: Kind, spelling: &str) -> String {
 
 /// The start of a text, on one line and fit to be printed.
 pub(crate) fn clip(text: &str) -> Cow<'_, str> {
-    let plain = |c: char| !c.is_control() && c != '\u{feff}';
-    let end = text.char_indices().nth(SHOWN).map(|(at, _)| at);
+    clip_to(text, SHOWN)
+}
+
+/// The first characters of a text, at most so many, on one line and fit to be printed.
+pub(crate) fn clip_to(text: &str, most: usize) -> Cow<'_, str> {
+    let plain = |c: char| !characters::cannot_be_seen(c);
+    let end = text.char_indices().nth(most).map(|(at, _)| at);
     if end.is_none() && text.chars().all(plain) {
         return Cow::Borrowed(text);
     }

@@ -1,6 +1,9 @@
 //! A refusal explained to the person who wrote the source.
 
 mod advice;
+mod braces;
+pub(crate) mod characters;
+mod gap;
 pub(crate) mod messages;
 mod place;
 mod sentence;
@@ -8,6 +11,8 @@ mod sentence;
 use std::error::Error;
 use std::fmt;
 
+pub use characters::cannot_be_seen;
+pub use gap::Gap;
 pub use place::Place;
 
 use crate::rows::{Kind, NodeRows, TokenRows, Tokens};
@@ -16,6 +21,7 @@ use crate::{Refusal, Span};
 /// Counts of a source that is accepted.
 #[derive(Debug, Clone, Copy, PartialEq, Eq)]
 pub struct Accepted {
+    /// Without Eof.
     pub tokens: usize,
     pub nodes: usize,
 }
@@ -27,7 +33,7 @@ pub struct Accepted {
 /// assert_eq!(diagnosis.refusal.number, 34);
 /// assert_eq!((diagnosis.meant.line, diagnosis.meant.column), (3, 5));
 /// assert_eq!((diagnosis.shown.line, diagnosis.shown.column), (3, 7));
-/// assert_eq!(diagnosis.message, "a term is wanted here, but `=` is found");
+/// assert_eq!(diagnosis.message, "`=` has no place here");
 /// assert_eq!(diagnosis.advice, "End the sentence before this one with `;`: a sentence has one `=`.");
 /// ```
 pub fn check(source: &[u8]) -> Result<Accepted, Box<Diagnosis>> {
@@ -38,7 +44,7 @@ pub fn check(source: &[u8]) -> Result<Accepted, Box<Diagnosis>> {
     let mut node_rows = NodeRows::new();
     match node_rows.parse(tokens) {
         Ok(tree) => Ok(Accepted {
-            tokens: tokens.len(),
+            tokens: tokens.len() - 1,
             nodes: tree.len(),
         }),
         Err(refusal) => Err(Box::new(Diagnosis::of_parsing(tokens, refusal))),
@@ -55,6 +61,8 @@ pub struct Diagnosis {
     pub shown: Place,
     /// The token shown, in plain words, where it is another than the one meant.
     pub shown_token: Option<String>,
+    /// Where something is missing, right after the last token before it.
+    pub gap: Option<Gap>,
     /// What is wrong, without the places.
     pub message: String,
     /// What to do, in one sentence.
@@ -64,6 +72,13 @@ pub struct Diagnosis {
 impl Diagnosis {
     /// Explains a refusal of [`Tokens::read`].
     pub fn of_reading(source: &[u8], refusal: Refusal) -> Self {
+        let end = refusal.span.start.min(source.len());
+        let mut rows = TokenRows::new();
+        Self::after(source, rows.read(&source[..end]).ok(), refusal)
+    }
+
+    /// Explains a refusal of reading that comes after these tokens.
+    pub(crate) fn after(source: &[u8], before: Option<Tokens<'_>>, refusal: Refusal) -> Self {
         let place = Place::of(source, refusal.span);
         let Span { start, end } = refusal.span;
         let spelling = source
@@ -74,8 +89,9 @@ impl Diagnosis {
             meant: place,
             shown: place,
             shown_token: None,
+            gap: None,
             message: messages::message(&refusal, spelling.filter(|text| !text.is_empty())),
-            advice: advice::reading(source, &refusal),
+            advice: advice::reading(source, &refusal, before),
         }
     }
 
@@ -92,6 +108,7 @@ impl Diagnosis {
             meant: token.map_or(shown, |token| Place::of(source, token.span())),
             shown,
             shown_token: next.map(|next| messages::describe(next.kind(), next.spelling())),
+            gap: found.and_then(|at| gap::gap(tokens, at, &refusal)),
             message: messages::message(&refusal, token.map(|token| token.spelling())),
             advice: advice::parsing(tokens, found, &refusal),
         }
@@ -110,7 +127,7 @@ impl fmt::Display for Diagnosis {
         if let Some(token) = &self.shown_token {
             write!(
                 out,
-                "; the place shown, {}, is the token after it: {token}",
+                "; the place shown, {}, comes after it: {token}",
                 self.shown
             )?;
         }

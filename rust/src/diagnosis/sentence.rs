@@ -1,46 +1,45 @@
 //! In which part of a sentence a token stands.
 
-use crate::rows::{Kind, Token, Tokens};
+use crate::items::kind;
+use crate::rows::{Kind, Tokens};
 
-/// What the tokens before a place leave unfinished.
+/// What the tokens before a place leave unfinished. Indices are those of tokens.
 #[derive(Debug, Clone, Copy)]
-pub(super) enum Part<'a> {
+pub(super) enum Part {
     /// Inside this `(` or `<`.
-    Open(Token<'a>),
-    /// A sentence's pattern, or a condition's after its `:`.
-    Pattern,
-    /// What a condition tests, before its `:`.
-    Tested,
-    /// After `=`.
-    Result,
+    Open(usize),
+    /// A sentence's pattern, or a condition's after its `:`, from this token on.
+    Pattern(usize),
+    /// What a condition tests, after this comma, before its `:`.
+    Tested(usize),
+    /// After `=`, from this token on.
+    Result(usize),
     /// After `= ,`, before the block's `:`.
     Argument,
 }
 
 /// The part that the token at `at` stands in. All before it was parsed, so that what is closed was opened.
-pub(super) fn part(tokens: Tokens<'_>, at: usize) -> Part<'_> {
+pub(super) fn part(tokens: Tokens<'_>, at: usize) -> Part {
     let mut closed = 0;
     for index in (0..at).rev() {
-        let Some(token) = tokens.get(index) else {
-            break;
-        };
-        match token.kind() {
-            Kind::RParen | Kind::RAngle => closed += 1,
-            Kind::LParen | Kind::LAngle if closed > 0 => closed -= 1,
-            Kind::LParen | Kind::LAngle => return Part::Open(token),
-            Kind::Equals => return Part::Result,
-            Kind::Comma => return after_comma(tokens, index),
-            Kind::Colon | Kind::LBrace | Kind::RBrace | Kind::Semicolon => return Part::Pattern,
+        match kind(tokens, index) {
+            Some(Kind::RParen | Kind::RAngle) => closed += 1,
+            Some(Kind::LParen | Kind::LAngle) if closed > 0 => closed -= 1,
+            Some(Kind::LParen | Kind::LAngle) => return Part::Open(index),
+            Some(Kind::Equals) => return Part::Result(index + 1),
+            Some(Kind::Comma) => return after_comma(tokens, index),
+            Some(Kind::Colon | Kind::LBrace | Kind::RBrace | Kind::Semicolon) => {
+                return Part::Pattern(index + 1);
+            }
             _ => {}
         }
     }
-    Part::Pattern
+    Part::Pattern(0)
 }
 
-fn after_comma(tokens: Tokens<'_>, comma: usize) -> Part<'_> {
-    let before = comma.checked_sub(1).and_then(|at| tokens.get(at));
-    match before.map(|token| token.kind()) {
+fn after_comma(tokens: Tokens<'_>, comma: usize) -> Part {
+    match comma.checked_sub(1).and_then(|at| kind(tokens, at)) {
         Some(Kind::Equals) => Part::Argument,
-        _ => Part::Tested,
+        _ => Part::Tested(comma),
     }
 }

@@ -4,7 +4,7 @@ use std::error::Error;
 use std::fmt;
 
 use crate::Refusal;
-use crate::diagnosis::messages;
+use crate::diagnosis::{Place, messages};
 use crate::lexer::{Span, Token, TokenKind};
 
 /// Why a list of tokens is not parsed.
@@ -22,12 +22,12 @@ pub struct ParseError {
 
 impl ParseError {
     /// Explains a refusal whose span holds token indices.
-    pub(super) fn new(refusal: Refusal, tokens: &[Token]) -> Self {
+    pub(super) fn new(refusal: Refusal, tokens: &[Token], source: Option<&str>) -> Self {
         let index = refusal.span.start;
         let meant = index - usize::from(refusal.shows_the_token_after());
         match (tokens.get(meant), tokens.get(index)) {
             (Some(meant), Some(shown)) if matches!(refusal.number, 31..=37) => {
-                let message = message(&refusal, meant, shown);
+                let message = message(&refusal, meant, shown, source);
                 Self::at(refusal, shown.span, meant.span, message)
             }
             _ => {
@@ -59,19 +59,23 @@ impl fmt::Display for ParseError {
 impl Error for ParseError {}
 
 /// What is wrong, with the token meant and the place shown.
-fn message(refusal: &Refusal, meant: &Token, shown: &Token) -> String {
+fn message(refusal: &Refusal, meant: &Token, shown: &Token, source: Option<&str>) -> String {
     let what = messages::message(refusal, Some(&spelling(&meant.kind)));
-    let mut message = format!("{}: {what}", bytes(meant.span));
+    let mut message = format!("{}: {what}", place(meant.span, source));
     if refusal.shows_the_token_after() {
         let next = messages::describe(shown.kind.kind(), &spelling(&shown.kind));
-        let place = bytes(shown.span);
-        message += &format!("; the place shown, {place}, is the token after it: {next}");
+        let place = place(shown.span, source);
+        message += &format!("; the place shown, {place}, comes after it: {next}");
     }
     message
 }
 
-fn bytes(span: Span) -> String {
-    format!("bytes {}-{}", span.start, span.end)
+/// Line and column where the source is at hand, else bytes.
+fn place(span: Span, source: Option<&str>) -> String {
+    match source {
+        Some(source) => Place::of(source.as_bytes(), span.into()).to_string(),
+        None => format!("bytes {}-{}", span.start, span.end),
+    }
 }
 
 /// A token as writing spells it.

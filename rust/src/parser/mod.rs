@@ -22,22 +22,34 @@ use crate::rows::{NodeRows, Tree};
 /// let Item::Function(go) = &program.items[0] else { panic!() };
 /// assert_eq!((go.name.as_str(), go.visibility), ("Go", Visibility::Entry));
 ///
-/// let tokens = Lexer::new("F{A}").tokenize().unwrap();
-/// let error = Parser::new(tokens).parse_program().unwrap_err();
+/// let source = "F {\n  A }";
+/// let tokens = Lexer::new(source).tokenize().unwrap();
+/// let error = Parser::new(tokens).in_source(source).parse_program().unwrap_err();
 /// assert_eq!(
 ///     error.message,
-///     "bytes 3-4: a term is wanted here, but `}` is found; \
-///      the place shown, bytes 4-4, is the token after it: the end of the file"
+///     "line 2, column 5: `}` has no place here; \
+///      the place shown, line 2, column 6, comes after it: the end of the file"
 /// );
 /// ```
 pub struct Parser {
     tokens: Vec<Token>,
     cursor: usize,
+    source: Option<Box<str>>,
 }
 
 impl Parser {
     pub fn new(tokens: Vec<Token>) -> Self {
-        Self { tokens, cursor: 0 }
+        Self {
+            tokens,
+            cursor: 0,
+            source: None,
+        }
+    }
+
+    /// Has errors say line and column in the source that the tokens were read from; without it they say bytes.
+    pub fn in_source(mut self, source: &str) -> Self {
+        self.source = Some(source.into());
+        self
     }
 
     /// Parses from the cursor on. As in the original, it stays at Eof after a success, and at the token shown after an
@@ -53,7 +65,7 @@ impl Parser {
                 Ok(program)
             }
             Err(refusal) => {
-                let error = ParseError::new(refusal, tokens);
+                let error = ParseError::new(refusal, tokens, self.source.as_deref());
                 self.cursor += refusal.span.start;
                 Err(error)
             }

@@ -28,6 +28,16 @@ impl<'a> Tokens<'a> {
         }
     }
 
+    /// The tokens in rows whose texts and spans are parts of this source.
+    pub(crate) fn over_str(source: &'a str, words: &'a [u32]) -> Self {
+        Self { source, words }
+    }
+
+    /// The tokens from this one on.
+    pub(crate) fn from(self, index: usize) -> Self {
+        Self::over_str(self.source, &self.words[index * TOKEN_WORDS..])
+    }
+
     pub fn source(self) -> &'a str {
         self.source
     }
@@ -65,16 +75,32 @@ impl<'a> Tokens<'a> {
 
     /// The index of the first token with exactly this span.
     pub fn position(self, span: Span) -> Option<usize> {
+        let at = self.first_from(span.start);
+        (self.get(at)?.span() == span).then_some(at)
+    }
+
+    /// The index of the first token that starts at this offset or after it.
+    pub fn first_from(self, offset: usize) -> usize {
         let (mut low, mut high) = (0, self.len());
         while low < high {
             let middle = low + (high - low) / 2;
-            if self.get(middle)?.span().start < span.start {
+            let starts = self.get(middle).map(|token| token.span().start);
+            if starts.is_some_and(|start| start < offset) {
                 low = middle + 1;
             } else {
                 high = middle;
             }
         }
-        (self.get(low)?.span() == span).then_some(low)
+        low
+    }
+
+    /// The tokens that start at this offset or after it.
+    pub(crate) fn iter_from(self, offset: usize) -> TokenIter<'a> {
+        TokenIter {
+            tokens: self,
+            next: self.first_from(offset),
+            end: self.len(),
+        }
     }
 }
 

@@ -121,6 +121,15 @@ impl<'a> Node<'a> {
         &self.tree.source[start..start + self.word(3)]
     }
 
+    /// The text's bytes in the source.
+    pub fn text_span(self) -> Span {
+        let start = self.word(2);
+        Span {
+            start,
+            end: start + self.word(3),
+        }
+    }
+
     /// Where the text starts in the source.
     pub(crate) fn text_start(self) -> usize {
         self.word(2)

@@ -14,6 +14,8 @@ pub struct Browser {
     from: BufReader<File>,
     session: String,
     calls: u32,
+    /// How long something is waited for.
+    pub patience: Duration,
 }
 
 impl Browser {
@@ -52,6 +54,7 @@ impl Browser {
             from: BufReader::new(from.expect("the browser opens its output")),
             session: String::new(),
             calls: 0,
+            patience: Duration::from_secs(30),
         };
         let answer = browser.call("Target.createTarget", r#"{"url":"about:blank"}"#);
         let target = string_of(&answer, "targetId").expect("a target is made");
@@ -101,7 +104,7 @@ impl Browser {
     pub fn wait(&mut self, expression: &str) {
         let start = Instant::now();
         while self.eval(&format!("String({expression})")) != "true" {
-            let patience = start.elapsed() < Duration::from_secs(30);
+            let patience = start.elapsed() < self.patience;
             assert!(patience, "it does not become true: {expression}");
             std::thread::sleep(Duration::from_millis(20));
         }
@@ -126,6 +129,14 @@ impl Browser {
         let at = self.middle(element);
         let (x, y) = at.split_once(',').expect("two numbers");
         let params = format!(r#"{{"type":"mouseMoved","x":{x},"y":{y}}}"#);
+        self.call("Input.dispatchMouseEvent", &params);
+    }
+
+    /// Turns the wheel over an element, down by so many pixels.
+    pub fn wheel(&mut self, element: &str, by: i32) {
+        let at = self.middle(element);
+        let (x, y) = at.split_once(',').expect("two numbers");
+        let params = format!(r#"{{"type":"mouseWheel","x":{x},"y":{y},"deltaX":0,"deltaY":{by}}}"#);
         self.call("Input.dispatchMouseEvent", &params);
     }
 
@@ -197,7 +208,7 @@ impl Drop for Browser {
 }
 
 /// A JSON string.
-fn quoted(text: &str) -> String {
+pub fn quoted(text: &str) -> String {
     let mut out = String::from("\"");
     for c in text.chars() {
         match c {

@@ -1,7 +1,7 @@
 -- `refal_link::link` meets its contract.
 use mathlib.Core.Path.{_≡_, refl, sym, ap, _∙_}
 use Prim.Native.Nat.{ℕ}
-use lib.ListN.{length, replicate, length-replicate}
+use lib.ListN.{length, replicate}
 use borrow.Author.Needs.{needs}
 use Rattle.refal_link.proofs.link.Statement.{statement}
 use Rattle.refal_link.proofs.link.Tie as tie
@@ -10,26 +10,21 @@ use Rattle.refal_link.proofs.link.Lts as lts
 use Rattle.refal_link.proofs.answer.Reads as answer-reads
 use Rattle.refal_rows.proofs.clear.Reads as clear-reads
 
--- src/lib.rt:239:5
+-- src/lib.rt:243:9
+answer-requires : tie.Need-answer-requires
+answer-requires c κs = search needs
+
+-- src/lib.rt:244:5
 clear-requires : tie.Need-clear-requires
 clear-requires c κs = search needs
 
--- src/lib.rt:240:9
-answer-requires : tie.Need-answer-requires
-answer-requires c κs = c .before .before .before .clear .ensures ∙ ap (λ (k : ℕ). replicate k 0) (sym (c .before .before .before .clear .kept .0))
-
--- src/lib.rt:241:5
-clear-requires-2 : tie.Need-clear-requires-2
-clear-requires-2 c κs = search needs
-
--- src/lib.rt:229:1
+-- src/lib.rt:233:1
 same-length : tie.Need-same-length
 same-length c = search needs
 
--- src/lib.rt:229:1
+-- src/lib.rt:233:1
 returns : tie.Need-returns
-returns c = (c .before .before .before .before .before .before .answer .ensures, c .before .before .clear2 .ensures ∙ ap (λ (k : ℕ). replicate k 0) (c .before .before .before .before .before .before .answer .kept .0 ∙ c .before .before .before .before .before .before .before .before .before .before .clear .kept .0))
+returns c = (c .before .before .before .before .before .before .answer .ensures, c .before .before .clear .ensures ∙ ap (λ (k : ℕ). replicate k 0) (c .before .before .before .before .before .before .answer .kept .0))
 
 pub link-spec : {M : Type 1} → statement M
-link-spec =
-    tie.close (tie.spec clear-requires answer-requires clear-requires-2 same-length returns)
+link-spec = tie.close (tie.spec answer-requires clear-requires same-length returns)

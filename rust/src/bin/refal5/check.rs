@@ -2,7 +2,8 @@
 
 use std::io;
 
-use refal5::{Accepted, Diagnosis};
+use refal5::rows::TokenRows;
+use refal5::{Accepted, Diagnosis, Note};
 
 use crate::args::Args;
 use crate::json::Object;
@@ -17,10 +18,10 @@ pub fn run(args: &Args, output: &mut Output) -> io::Result<Status> {
         output.progress.begin(&file);
         let one = match input::read(name) {
             Ok(source) => match refal5::check(&source) {
-                Ok(accepted) => fine(&file, accepted, output)?,
+                Ok(accepted) => fine(&file, &source, accepted, output)?,
                 Err(diagnosis) => {
-                    if output.json {
-                        output.print(&report::json(&file, &diagnosis))?;
+                    if output.options.json {
+                        output.print(&report::json(&file, &source, &diagnosis))?;
                     } else {
                         let text = report::text(&file, &source, &diagnosis, output.styles());
                         output.print(&format!("{apart}{text}"))?;
@@ -36,26 +37,50 @@ pub fn run(args: &Args, output: &mut Output) -> io::Result<Status> {
     Ok(status)
 }
 
-fn fine(file: &str, accepted: Accepted, output: &Output) -> io::Result<Status> {
+/// A source that is accepted: its counts where they are wanted, and the notes on it.
+fn fine(file: &str, source: &[u8], accepted: Accepted, output: &Output) -> io::Result<Status> {
     let Accepted { tokens, nodes } = accepted;
-    if output.json {
+    let notes = if output.options.notes {
+        notes_on(source)
+    } else {
+        Vec::new()
+    };
+    if output.options.json {
         let object = Object::new()
             .string("file", file)
             .plain("ok", true)
             .plain("tokens", tokens)
             .plain("nodes", nodes);
+        let object = if output.options.notes {
+            object.plain("notes", report::json_notes(&notes))
+        } else {
+            object
+        };
         output.print(&(object.end() + "\n"))?;
-    } else if output.verbose {
-        output.print(&format!(
-            "{file}: accepted, {tokens} tokens, {nodes} nodes\n"
-        ))?;
+        return Ok(Status::Fine);
     }
+    if output.options.verbose {
+        let (tokens, nodes) = (counted(tokens, "token"), counted(nodes, "node"));
+        output.print(&format!("{file}: accepted, {tokens}, {nodes}\n"))?;
+    }
+    output.print(&report::notes(file, &notes, output.styles()))?;
     Ok(Status::Fine)
+}
+
+fn notes_on(source: &[u8]) -> Vec<Note> {
+    let mut rows = TokenRows::new();
+    rows.read(source).map_or(Vec::new(), refal5::notes)
+}
+
+/// A number of things.
+pub fn counted(number: usize, thing: &str) -> String {
+    let end = if number == 1 { "" } else { "s" };
+    format!("{number} {thing}{end}")
 }
 
 /// A file that cannot be read.
 pub fn unreadable(file: &str, error: &io::Error, output: &Output) -> io::Result<Status> {
-    if output.json {
+    if output.options.json {
         let object = Object::new()
             .string("file", file)
             .plain("ok", false)
@@ -74,8 +99,8 @@ pub fn refused(
     diagnosis: &Diagnosis,
     output: &Output,
 ) -> io::Result<Status> {
-    if output.json {
-        output.print(&report::json(file, diagnosis))?;
+    if output.options.json {
+        output.print(&report::json(file, source, diagnosis))?;
     } else {
         output.complain(&report::text(
             file,

@@ -17,9 +17,9 @@ use crate::{Status, input};
 pub type List = fn(&Listing<'_>, &mut Sink<'_>) -> Result<(), Trouble>;
 
 pub struct Listing<'a> {
-    file: &'a str,
-    source: &'a [u8],
-    json: bool,
+    pub file: &'a str,
+    pub source: &'a [u8],
+    pub json: bool,
 }
 
 /// Why a listing is not made.
@@ -51,7 +51,7 @@ pub struct Sink<'a> {
 impl Sink<'_> {
     const PIECE: usize = 1 << 16;
 
-    fn put(&mut self, text: &str) -> io::Result<()> {
+    pub fn put(&mut self, text: &str) -> io::Result<()> {
         if !text.is_empty() {
             self.ended = text.ends_with('\n');
         }
@@ -64,7 +64,7 @@ impl Sink<'_> {
         printed
     }
 
-    fn line(&mut self, text: &str) -> io::Result<()> {
+    pub fn line(&mut self, text: &str) -> io::Result<()> {
         self.put(text.trim_end())?;
         self.put("\n")
     }
@@ -73,7 +73,7 @@ impl Sink<'_> {
 /// Lists each file; several under their names, each in a line that is a Refal comment.
 pub fn run(args: &Args, output: &mut Output, list: List) -> io::Result<Status> {
     let mut status = Status::Fine;
-    let headed = args.files.len() > 1 && !output.json;
+    let headed = args.files.len() > 1 && !output.options.json;
     for name in &args.files {
         let file = input::shown(name);
         output.progress.begin(&file);
@@ -104,7 +104,7 @@ fn one(
     let listing = Listing {
         file,
         source,
-        json: output.json,
+        json: output.options.json,
     };
     let mut sink = Sink {
         output,
@@ -131,7 +131,7 @@ impl Listing<'_> {
     }
 
     /// Reads and parses, and lends the tree to `work`.
-    fn with_tree(
+    pub fn with_tree(
         &self,
         work: impl FnOnce(Tokens<'_>, Tree<'_>) -> Result<(), Trouble>,
     ) -> Result<(), Trouble> {
@@ -145,7 +145,7 @@ impl Listing<'_> {
     }
 }
 
-fn explained(tokens: Tokens<'_>, refusal: Refusal) -> Trouble {
+pub fn explained(tokens: Tokens<'_>, refusal: Refusal) -> Trouble {
     Trouble::Refused(Box::new(Diagnosis::of_parsing(tokens, refusal)))
 }
 

@@ -2,10 +2,14 @@
 
 mod args;
 mod check;
-mod excerpt;
+mod diff;
+mod explain;
+mod format;
 mod input;
 mod json;
+mod list;
 mod listing;
+mod lsp;
 mod output;
 mod page;
 mod progress;
@@ -32,13 +36,27 @@ fn main() -> ExitCode {
     let status = match args::parse(std::env::args_os().skip(1)) {
         Ok(Parsed::Help) => say(HELP),
         Ok(Parsed::Version) => say(concat!("refal5 ", env!("CARGO_PKG_VERSION"), "\n")),
-        Ok(Parsed::Run(args)) => run(&args),
+        Ok(Parsed::Run(args)) => start(args),
         Err(message) => {
             eprintln!("refal5: {message}\nTry `refal5 --help`.");
             Status::Failed
         }
     };
     ExitCode::from(status as u8)
+}
+
+/// Runs a command, with the files of folders in place of these.
+fn start(mut args: Args) -> Status {
+    if args.command.takes_folders() {
+        match input::files(&args.files) {
+            Ok(files) => args.files = files,
+            Err(message) => {
+                eprintln!("refal5: {message}");
+                return Status::Failed;
+            }
+        }
+    }
+    run(&args)
 }
 
 fn say(text: &str) -> Status {
@@ -53,6 +71,11 @@ fn run(args: &Args) -> Status {
         Command::Tree => listing::run(args, &mut output, listing::tree),
         Command::Write => listing::run(args, &mut output, listing::write),
         Command::Page => page::run(args, &mut output),
+        Command::Format => format::run(args, &mut output),
+        Command::List => listing::run(args, &mut output, list::list),
+        Command::Diff => diff::run(args, &mut output),
+        Command::Explain => explain::run(args, &output),
+        Command::Lsp => lsp::run(),
     };
     settle(result)
 }

@@ -3,22 +3,18 @@
 use std::env;
 use std::io::{self, IsTerminal, Write};
 
-use crate::args::{Args, When};
+use crate::args::{Args, Options, When};
 use crate::progress::Progress;
 
 pub struct Output {
-    pub json: bool,
-    pub verbose: bool,
-    color: When,
+    pub options: Options,
     pub progress: Progress,
 }
 
 impl Output {
     pub fn new(args: &Args) -> Self {
         Self {
-            json: args.json,
-            verbose: args.verbose,
-            color: args.color,
+            options: args.options,
             progress: Progress::start(args.files.len()),
         }
     }
@@ -42,7 +38,7 @@ impl Output {
     }
 
     fn wants_color(&self, terminal: bool) -> bool {
-        match self.color {
+        match self.options.color {
             When::Always => true,
             When::Never => false,
             When::Auto => {

@@ -29,7 +29,7 @@ pub struct Progress {
 impl Progress {
     pub fn start(files: usize) -> Self {
         let state = Arc::new(Mutex::new(State::default()));
-        let thread = io::stderr().is_terminal().then(|| {
+        let thread = (files > 0 && io::stderr().is_terminal()).then(|| {
             let state = Arc::clone(&state);
             let (stop, stopped) = mpsc::channel();
             let work = move || {

@@ -1,4 +1,4 @@
-//! A page's data: the source, and tokens and nodes in flat lists of small numbers.
+//! A page's data: the source, tokens and nodes in flat lists of small numbers, and what is wrong.
 //!
 //! Offsets count UTF-16 units, as the page's strings do. A token is its kind, the units since the last token's end and its
 //! own; each character of a literal has its own piece. A node is its kind, its first token less the last node's, the
@@ -6,32 +6,62 @@
 
 use std::fmt::Write;
 
-use refal5::Diagnosis;
-use refal5::raw::{self, NODE_WORDS, TOKEN_WORDS};
-use refal5::rows::{Kind, NodeKind, TokenRows, Tokens};
+use refal5::raw::NODE_WORDS;
+use refal5::rows::{Kind, NodeKind, Tokens};
+use refal5::{Problem, Recovered, Span};
 
-use crate::json;
+use super::units::Units;
+use crate::json::{self, Object, array};
 
 /// The kind of a character that its literal's first is not.
 const SAME_LITERAL: u32 = 18;
 /// The kind of a function marked `$ENTRY`.
 const ENTRY_FUNCTION: u32 = 15;
 
-/// The data as JSON that may stand in an HTML script, or the refusal explained.
-pub fn of(source: &[u8]) -> Result<String, Box<Diagnosis>> {
-    let mut token_rows = TokenRows::new();
-    let tokens = token_rows
-        .read(source)
-        .map_err(|refusal| Box::new(Diagnosis::of_reading(source, refusal)))?;
-    let nodes = nodes(tokens)?;
+/// The data as JSON that may stand in an HTML script. Of a source that is refused, what can be read and parses.
+pub fn of(source: &[u8]) -> String {
+    let recovered = refal5::recover(source);
     let mut out = String::from("{\"source\":");
-    json::quote(tokens.source(), &mut out);
+    // What follows bytes that are not UTF-8 is shown as well as can be.
+    json::quote(&String::from_utf8_lossy(source), &mut out);
     out.push_str(",\"tokens\":[");
-    put_tokens(tokens, &mut out);
+    put_tokens(recovered.tokens(), &mut out);
     out.push_str("],\"nodes\":[");
-    put_nodes(&nodes, &mut out);
-    out.push_str("]}");
-    Ok(out.replace('<', "\\u003c"))
+    put_nodes(&from_words(recovered.indexed()), &mut out);
+    out.push_str("],\"problems\":");
+    out.push_str(&problems(&recovered));
+    write!(out, ",\"stopped\":{}}}", recovered.stopped).expect("a string takes all");
+    out.replace('<', "\\u003c")
+}
+
+fn problems(recovered: &Recovered<'_>) -> String {
+    let units = Units::new(recovered.source(), &recovered.problems);
+    let span = |span: Span| format!("[{},{}]", units.at(span.start), units.at(span.end));
+    let one = |problem: &Problem| {
+        let diagnosis = &problem.diagnosis;
+        let meant = diagnosis.meant;
+        let object = Object::new()
+            .plain("number", diagnosis.refusal.number)
+            .plain("possibly", problem.possibly)
+            .string("place", &format!("{}:{}", meant.line, meant.column))
+            .string("message", &diagnosis.message)
+            .string("advice", &diagnosis.advice)
+            .plain("meant", span(meant.span));
+        let object = if diagnosis.differs() {
+            object.plain("shown", span(diagnosis.shown.span))
+        } else {
+            object
+        };
+        match diagnosis.gap {
+            Some(gap) => {
+                let write = json::quoted(gap.write);
+                let at = units.at(gap.place.span.start);
+                object.plain("gap", format!("[{at},{write}]")).end()
+            }
+            None => object.end(),
+        }
+    };
+    array(&recovered.problems.iter().map(one).collect::<Vec<_>>())
 }
 
 /// A node over tokens `first` up to `end`.
@@ -47,36 +77,6 @@ impl Node {
     fn is_terms(&self) -> bool {
         self.kind == NodeKind::Terms.number()
     }
-}
-
-/// Parses rows whose texts and spans hold the tokens' indices, so that the nodes' do.
-fn nodes(tokens: Tokens<'_>) -> Result<Vec<Node>, Box<Diagnosis>> {
-    let mut indexed = tokens.words().to_vec();
-    for (row, index) in indexed.chunks_mut(TOKEN_WORDS).zip(0..) {
-        if row[3] > 0 {
-            row[2] = index;
-        }
-        row[4] = index;
-        row[5] = index;
-    }
-    let mut words = Vec::new();
-    if let Err(refusal) = raw::parse(&indexed, &mut words) {
-        if refusal.number == 38 {
-            words = vec![0; refusal.need as usize * NODE_WORDS];
-            raw::parse(&indexed, &mut words).expect("as many rows as are needed are lent");
-        } else {
-            return Err(explained(tokens, refusal));
-        }
-    }
-    Ok(from_words(&words))
-}
-
-/// The refusal with the span that its token has in the source.
-fn explained(tokens: Tokens<'_>, mut refusal: refal5::Refusal) -> Box<Diagnosis> {
-    if let Some(token) = tokens.get(refusal.span.start) {
-        refusal.span = token.span();
-    }
-    Box::new(Diagnosis::of_parsing(tokens, refusal))
 }
 
 /// The nodes in order, with ranges for Terms, which have no span.
@@ -195,19 +195,29 @@ mod tests {
     #[test]
     fn a_small_source() {
         assert_eq!(
-            of("$ENTRY Go{'a''b'=<F>;}".as_bytes()).unwrap(),
+            of("$ENTRY Go{'a''b'=<F>;}".as_bytes()),
             "{\"source\":\"$ENTRY Go{'a''b'=\\u003cF>;}\",\
              \"tokens\":[1,0,6,3,1,2,7,0,1,6,1,1,18,0,2,18,0,1,15,1,1,11,0,1,3,0,1,12,0,1,16,0,1,8,0,1],\
-             \"nodes\":[15,0,12,8,4,3,8,7,6,0,3,4,11,0,1,1,11,1,1,1,11,1,1,1,6,2,3,2,14,0,3,1]}"
+             \"nodes\":[15,0,12,8,4,3,8,7,6,0,3,4,11,0,1,1,11,1,1,1,11,1,1,1,6,2,3,2,14,0,3,1],\
+             \"problems\":[],\"stopped\":false}"
         );
     }
 
     #[test]
     fn offsets_count_units() {
         assert_eq!(
-            of("F{'😀'=;}".as_bytes()).unwrap(),
+            of("F{'😀'=;}".as_bytes()),
             "{\"source\":\"F{'😀'=;}\",\"tokens\":[3,0,1,7,0,1,6,1,2,15,1,1,16,0,1,8,0,1],\
-             \"nodes\":[3,0,6,5,4,2,3,4,6,0,1,2,11,0,1,1,6,1,0,1]}"
+             \"nodes\":[3,0,6,5,4,2,3,4,6,0,1,2,11,0,1,1,6,1,0,1],\"problems\":[],\"stopped\":false}"
         );
+    }
+
+    #[test]
+    fn a_source_that_is_refused() {
+        let data = of("F{'😀'=A B=;} $ENTRY G{}".as_bytes());
+        assert!(data.contains(
+            "\"nodes\":[15,9,4,1],\"problems\":[{\"number\":34,\"possibly\":false,\"place\":\"1:10\","
+        ));
+        assert!(data.contains("\"meant\":[10,11],\"shown\":[11,12]}]"));
     }
 }
