@@ -2,7 +2,8 @@
 //!
 //! [`lexer`], [`parser`] and [`ast`] have the types of the original Rust front end, so that a program changes its `use`
 //! lines only. [`rows`] views the library's rows in place and allocates nothing. [`check`] explains what is wrong with a
-//! source to the person who wrote it. [`raw`] is the library's six functions over lent slices.
+//! source to the person who wrote it. [`link`] loads a rule file with the
+//! file that declares the tool's functions. [`raw`] is the library's functions over lent slices.
 //!
 //! ```
 //! use refal5::{lexer::Lexer, parser::Parser, ast::Item};
@@ -25,6 +26,7 @@ mod difference;
 mod items;
 mod layout;
 pub mod lexer;
+mod link;
 mod names;
 mod notes;
 mod outline;
@@ -39,6 +41,7 @@ pub use comments::{Comment, comments};
 pub use diagnosis::{Accepted, Diagnosis, Gap, Place, cannot_be_seen, check};
 pub use difference::{Change, Difference, differences};
 pub use layout::{NoLayout, layout, one_line};
+pub use link::{LinkError, MOST_LINK_PROBLEMS, Named, link, link_problems};
 pub use names::{
     PROGRAM_ENTRY_POINT, canonical_identifier, canonical_variable_index, identifiers_equal,
 };

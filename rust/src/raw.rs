@@ -1,7 +1,7 @@
-//! The six exported functions over slices that the caller lends: safe, and nothing is allocated.
+//! The exported functions over slices that the caller lends: safe, and nothing is allocated.
 //!
 //! A call either puts down its rows or bytes from the front and gives their number, leaving what stands past them, or
-//! is refused, and then every word or byte of the output is 0.
+//! is refused, and then every word or byte of the output is 0. Linking puts nothing down and gives the number of calls.
 
 use crate::Refusal;
 
@@ -21,6 +21,12 @@ pub const fn token_bound(bytes: usize) -> usize {
 /// Node rows that hold the tree of any list of so many tokens.
 pub const fn node_bound(tokens: usize) -> usize {
     tokens.saturating_mul(2)
+}
+
+/// Work words for two trees of so many rows in all, with which linking takes linear time: with fewer it may look at every row
+/// for each name.
+pub const fn link_words(rows: usize) -> usize {
+    rows.saturating_mul(2)
 }
 
 mod c {
@@ -55,6 +61,19 @@ mod c {
             k: usize,
             out: *mut u8,
             m: usize,
+            answer: *mut u64,
+        );
+        pub fn refal5_link(
+            tree1: *const u32,
+            n1: usize,
+            src1: *const u8,
+            m1: usize,
+            tree2: *const u32,
+            n2: usize,
+            src2: *const u8,
+            m2: usize,
+            work: *mut u32,
+            w: usize,
             answer: *mut u64,
         );
     }
@@ -162,6 +181,36 @@ pub fn write(tree: &[u32], source: &[u8], out: &mut [u8]) -> Result<usize, Refus
             source.len(),
             out.as_mut_ptr(),
             out.len(),
+            answer.as_mut_ptr(),
+        );
+    }
+    result(answer)
+}
+
+/// Links two trees whose texts stand in their sources: the number of calls. `work` is any number of words, of which each is 0
+/// afterwards; the answer does not depend on them. Refusals 40 and 41 of the first, of the second, then 60 and 61, whose
+/// `found` is the file, 1 or 2.
+pub fn link(
+    tree1: &[u32],
+    source1: &[u8],
+    tree2: &[u32],
+    source2: &[u8],
+    work: &mut [u32],
+) -> Result<usize, Refusal> {
+    let mut answer = [0; 7];
+    // Sound: see above.
+    unsafe {
+        c::refal5_link(
+            tree1.as_ptr(),
+            tree1.len(),
+            source1.as_ptr(),
+            source1.len(),
+            tree2.as_ptr(),
+            tree2.len(),
+            source2.as_ptr(),
+            source2.len(),
+            work.as_mut_ptr(),
+            work.len(),
             answer.as_mut_ptr(),
         );
     }

@@ -229,6 +229,75 @@ fn two_programs_that_differ() {
     assert_eq!(output.status.code(), Some(2));
 }
 
+/// `refal5 link` and `check --with`, by the name of the golden file.
+#[test]
+fn two_files_loaded_together() {
+    let mut failures = Vec::new();
+    for (name, status, args) in [
+        ("rules.link", 0, &["link", "rules.ref", "tool.ref"][..]),
+        ("missing.link", 1, &["link", "missing.ref", "tool.ref"]),
+        ("twice.link", 1, &["link", "twice.ref", "tool.ref"]),
+        // The tool's file first: the places are those of the other order.
+        ("tool-first.link", 1, &["link", "tool.ref", "twice.ref"]),
+        // A file that is refused is not linked.
+        ("broken.link", 1, &["link", "broken.ref", "tool.ref"]),
+        (
+            "all.check",
+            1,
+            &[
+                "check",
+                "-v",
+                "--with",
+                "tool.ref",
+                "rules.ref",
+                "missing.ref",
+                "broken.ref",
+            ],
+        ),
+    ] {
+        for (option, end) in [("--color=auto", ""), ("--json", ".json")] {
+            let output = refal5("link", &[args, &[option]].concat(), b"");
+            assert_eq!(output.status.code(), Some(status), "{name}");
+            assert_eq!(text(&output.stderr), "", "{name}");
+            compare(
+                "link",
+                &format!("{name}{end}"),
+                &output.stdout,
+                &mut failures,
+            );
+        }
+    }
+    assert!(failures.is_empty(), "{}", failures.join("\n"));
+    let output = refal5("link", &["link", "-", "tool.ref"], b"F { = <Keep>; }");
+    assert_eq!(
+        (output.status.code(), text(&output.stdout)),
+        (
+            Some(0),
+            "<standard input> with tool.ref: 2 calls, each of a rule or a declared function\n"
+        )
+    );
+    // Declarations that are refused leave nothing to link with; the files are checked.
+    let output = refal5("link", &["check", "--with=broken.ref", "missing.ref"], b"");
+    assert_eq!(output.status.code(), Some(1));
+    assert!(text(&output.stdout).starts_with("broken.ref:1:19: error [34]"));
+    assert!(!text(&output.stdout).contains("missing.ref"));
+    for wrong in [
+        &["link", "rules.ref"][..],
+        &["link", "rules.ref", "tool.ref", "missing.ref"],
+        &["link", "-", "-"],
+        &["link", "rules.ref", "absent.ref"],
+        &["tree", "--with", "tool.ref", "rules.ref"],
+        &["check", "rules.ref", "--with"],
+        &["check", "--with", "-", "-"],
+    ] {
+        assert_eq!(
+            refal5("link", wrong, b"").status.code(),
+            Some(2),
+            "{wrong:?}"
+        );
+    }
+}
+
 #[test]
 fn files_that_are_laid_out() {
     let laid_out = refal5("accepted", &["format", "layout.ref"], b"");

@@ -7,32 +7,45 @@ use std::fs;
 use std::path::{Path, PathBuf};
 
 use refal5::raw::{self, MAX_BYTES, NODE_WORDS, TOKEN_WORDS};
-use refal5::rows::{Kind, NodeKind, NodeRows, TokenRows};
-use refal5::{Example, Meaning, REFUSALS, Refusal};
+use refal5::rows::{Kind, NodeKind, NodeRows, TokenRows, Tokens, Tree};
+use refal5::{Call, Example, Meaning, REFUSALS, Refusal};
 
 fn number(result: Result<usize, Refusal>) -> u32 {
     result.map_or_else(|refusal| refusal.number, |_| 0)
 }
 
-/// The number that a source is refused with, or 0.
-fn refused(source: &[u8]) -> u32 {
-    let mut rows = TokenRows::new();
-    match rows.read(source) {
-        Ok(tokens) => NodeRows::new()
-            .parse(tokens)
-            .map_or_else(|refusal| refusal.number, |_| 0),
-        Err(refusal) => refusal.number,
-    }
+/// The number that reading and parsing a source is refused with, and, where it is for linking, linking it with an empty one;
+/// or 0.
+fn refused(call: Call, source: &[u8]) -> u32 {
+    let (mut rows, mut nodes) = (TokenRows::new(), NodeRows::new());
+    let parsed = rows.read(source).and_then(|tokens| nodes.parse(tokens));
+    let linked = parsed.and_then(|tree| match call {
+        Call::Linking => refal5::link(tree, nothing()).map_err(|error| error.refusal),
+        _ => Ok(0),
+    });
+    number(linked)
+}
+
+/// The tree of an empty source.
+fn nothing() -> Tree<'static> {
+    let tokens: &mut [u32] = Vec::leak(vec![0; TOKEN_WORDS]);
+    let tokens = Tokens::read(b"", tokens).expect("an empty source is read");
+    Tree::parse(tokens, &mut []).expect("and parsed")
 }
 
 #[test]
 fn examples_are_refused_and_accepted() {
     for meaning in REFUSALS {
         if let Example::Source(source) = meaning.wrong {
-            assert_eq!(refused(source), meaning.number, "{}", meaning.name);
+            assert_eq!(
+                refused(meaning.call, source),
+                meaning.number,
+                "{}",
+                meaning.name
+            );
         }
         if let Example::Source(source) = meaning.right {
-            assert_eq!(refused(source), 0, "{}", meaning.name);
+            assert_eq!(refused(meaning.call, source), 0, "{}", meaning.name);
         }
     }
 }

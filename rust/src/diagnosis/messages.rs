@@ -79,6 +79,8 @@ pub(crate) fn message(refusal: &Refusal, spelling: Option<&str>) -> String {
         }
         42 => format!("{need} bytes are needed for the text, and fewer were lent"),
         50 => "the output is shorter than the name".into(),
+        60 => "two functions have equal names".into(),
+        61 => "a call names neither a function nor a declared name".into(),
         _ => "the call is refused".into(),
     }
 }

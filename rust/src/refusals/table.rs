@@ -8,6 +8,7 @@ pub enum Call {
     Parsing,
     Writing,
     Names,
+    Linking,
 }
 
 /// A source, or, for what no source shows, words.
@@ -312,6 +313,24 @@ pub const REFUSALS: &[Meaning] = &[
         wrong: Example::Words("two bytes lent for `Foo`"),
         right: Example::Words("three bytes lent"),
     },
+    Meaning {
+        number: 60,
+        name: "NAME_TWICE",
+        call: Call::Linking,
+        title: "two rules of one name",
+        meaning: "A rule file and the file that declares the tool's functions have, together, one rule of each name. In a name small and capital letters are the same, and so are `-` and `_`. A name may be declared more than once, and beside its rule.",
+        wrong: Example::Source(b"Read-Date { = ; }\nREAD_DATE { A = ; }"),
+        right: Example::Source(b"Read-Date { = ; A = ; }"),
+    },
+    Meaning {
+        number: 61,
+        name: "NAME_MISSING",
+        call: Call::Linking,
+        title: "a call of a rule that is not there",
+        meaning: "Every call names a rule or a declared function of the rule file or of the file that declares the tool's functions.",
+        wrong: Example::Source(b"$EXTRN Stamp;\nF { e1 = <Stanp e1>; }"),
+        right: Example::Source(b"$EXTRN Stamp;\nF { e1 = <Stamp e1>; }"),
+    },
 ];
 
 impl Call {
@@ -321,6 +340,7 @@ impl Call {
             Self::Parsing => "parsing",
             Self::Writing => "writing",
             Self::Names => "names",
+            Self::Linking => "linking",
         }
     }
 }

@@ -12,6 +12,7 @@ pub enum Command {
     Format,
     List,
     Diff,
+    Link,
     Explain,
     Lsp,
 }
@@ -24,12 +25,12 @@ impl Command {
 
     /// Whether a folder stands for the files in it.
     pub fn takes_folders(self) -> bool {
-        self.takes_files() && !matches!(self, Self::Page | Self::Diff)
+        self.takes_files() && !matches!(self, Self::Page | Self::Diff | Self::Link)
     }
 }
 
 /// The commands by name.
-const COMMANDS: [(&str, Command); 10] = [
+const COMMANDS: [(&str, Command); 11] = [
     ("check", Command::Check),
     ("tokens", Command::Tokens),
     ("tree", Command::Tree),
@@ -38,6 +39,7 @@ const COMMANDS: [(&str, Command); 10] = [
     ("format", Command::Format),
     ("list", Command::List),
     ("diff", Command::Diff),
+    ("link", Command::Link),
     ("explain", Command::Explain),
     ("lsp", Command::Lsp),
 ];
@@ -54,6 +56,8 @@ pub enum When {
 pub struct Args {
     pub command: Command,
     pub files: Vec<OsString>,
+    /// The file that `check` links each with.
+    pub with: Option<OsString>,
     pub options: Options,
 }
 
@@ -77,6 +81,7 @@ pub enum Parsed {
 /// The arguments, or what is wrong with them.
 pub fn parse(args: impl Iterator<Item = OsString>) -> Result<Parsed, String> {
     let mut words = Vec::new();
+    let mut with = None;
     let mut options = Options {
         json: false,
         verbose: false,
@@ -96,6 +101,8 @@ pub fn parse(args: impl Iterator<Item = OsString>) -> Result<Parsed, String> {
             Some("-v" | "--verbose") => options.verbose = true,
             Some("--no-notes") => options.notes = false,
             Some("--check") => options.check = true,
+            Some("--with") => with = Some(args.next().ok_or("--with takes a file")?),
+            Some(option) if option.starts_with("--with=") => with = Some(option[7..].into()),
             Some("--color") => options.color = when(args.next().as_deref())?,
             Some(option) if option.starts_with("--color=") => {
                 options.color = when(Some(OsStr::new(&option[8..])))?;
@@ -116,6 +123,7 @@ pub fn parse(args: impl Iterator<Item = OsString>) -> Result<Parsed, String> {
     let args = Args {
         command: command(&word)?,
         files: words.collect(),
+        with,
         options,
     };
     match wrong(&args) {
@@ -152,11 +160,18 @@ fn wrong(args: &Args) -> Option<String> {
     if args.files.is_empty() {
         return Some("no file is given; - is standard input".into());
     }
-    if args.files.iter().filter(|file| *file == "-").count() > 1 {
+    let files = args.files.iter().chain(&args.with);
+    if files.filter(|file| *file == "-").count() > 1 {
         return Some("standard input can be read once only".into());
     }
     if args.options.check && args.command != Command::Format {
         return Some("--check goes with format".into());
+    }
+    if args.with.is_some() && args.command != Command::Check {
+        return Some("--with goes with check".into());
+    }
+    if args.command == Command::Link && args.files.len() != 2 {
+        return Some("link takes two files, the rules and the declarations".into());
     }
     if args.command == Command::Diff && args.files.len() != 2 {
         return Some("diff takes two files, the old one and the new one".into());

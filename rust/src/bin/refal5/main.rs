@@ -7,6 +7,7 @@ mod explain;
 mod format;
 mod input;
 mod json;
+mod link;
 mod list;
 mod listing;
 mod lsp;
@@ -74,6 +75,7 @@ fn run(args: &Args) -> Status {
         Command::Format => format::run(args, &mut output),
         Command::List => listing::run(args, &mut output, list::list),
         Command::Diff => diff::run(args, &mut output),
+        Command::Link => link::run(args, &mut output),
         Command::Explain => explain::run(args, &output),
         Command::Lsp => lsp::run(),
     };

@@ -15,7 +15,7 @@ impl Output {
     pub fn new(args: &Args) -> Self {
         Self {
             options: args.options,
-            progress: Progress::start(args.files.len()),
+            progress: Progress::start(args.files.len() + usize::from(args.with.is_some())),
         }
     }
 

@@ -1,6 +1,7 @@
 //! A refusal as the command prints it, for people and for machines.
 
 mod excerpt;
+pub mod link;
 mod marks;
 mod notes;
 
