@@ -10,6 +10,7 @@ mod json;
 mod list;
 mod listing;
 mod lsp;
+mod man;
 mod output;
 mod page;
 mod progress;
@@ -35,6 +36,7 @@ enum Status {
 fn main() -> ExitCode {
     let status = match args::parse(std::env::args_os().skip(1)) {
         Ok(Parsed::Help) => say(HELP),
+        Ok(Parsed::Manual) => say(&man::page(HELP)),
         Ok(Parsed::Version) => say(concat!("refal5 ", env!("CARGO_PKG_VERSION"), "\n")),
         Ok(Parsed::Run(args)) => start(args),
         Err(message) => {
