@@ -3,12 +3,12 @@
 // start, 5 span end, 6 need.
 use refal_ast::Answer;
 ghost use mathlib.Core.Path.{_≡_};
-ghost use lib.ListN.{length, replicate};
+ghost use lib.ListN.{length};
 ghost use Rattle.refal_ast.specs.Names.{canonicalName, canonicalIndex, namesEqual, formAnswer, formBytes};
 ghost use Rattle.refal_lexer.specs.Read.{readAnswer, readRows};
 ghost use Rattle.refal_parser.specs.Parse.{parseAnswer, parseRows};
 ghost use Rattle.refal_writer.specs.Write.{writeAnswer, writeBytes};
-ghost use Rattle.refal_link.specs.Link.{linkAnswer};
+ghost use Rattle.refal_link.specs.Link.{linkAnswer, linkWords};
 ghost use Rattle.refal_real.specs.Real.{realAnswer, realDigits, realForm};
 ghost use Rattle.refal5.specs.Words.{answerWords};
 
@@ -94,7 +94,7 @@ pub extern "C" fn refal5_link<'a>(
     answer: &mut [u64; 7],
 )
     ensures told { λ _. ⌜ now (answer .exit) ≡ answerWords (linkAnswer (now (tree1 .entry)) (now (src1 .entry)) (now (tree2 .entry)) (now (src2 .entry))) ⌝ }
-    ensures left { λ _. ⌜ now (work .exit) ≡ replicate (length (now (work .entry))) 0 ⌝ }
+    ensures left { λ _. ⌜ now (work .exit) ≡ linkWords (now (work .entry)) ⌝ }
 {
     *answer = words(refal_link::link(tree1, src1, tree2, src2, work));
 }
