@@ -2,7 +2,9 @@
 //!
 //! [`lexer`], [`parser`] and [`ast`] have the types of the original Rust front end, so that a program changes its `use`
 //! lines only. [`rows`] views the library's rows in place and allocates nothing. [`check`] explains what is wrong with a
-//! source to the person who wrote it. [`raw`] is the library's six functions over lent slices.
+//! source to the person who wrote it, [`recover`] finds all that is wrong and what still parses, and [`notes`] says what is
+//! read otherwise than it may be meant. [`layout`], [`outline`] and [`differences`] serve people who work on programs.
+//! [`raw`] is the library's six functions over lent slices.
 //!
 //! ```
 //! use refal5::{lexer::Lexer, parser::Parser, ast::Item};
