@@ -2,8 +2,10 @@
 //!
 //! [`lexer`], [`parser`] and [`ast`] have the types of the original Rust front end, so that a program changes its `use`
 //! lines only. [`rows`] views the library's rows in place and allocates nothing. [`check`] explains what is wrong with a
-//! source to the person who wrote it. [`link`] loads a rule file with the
-//! file that declares the tool's functions. [`raw`] is the library's functions over lent slices.
+//! source to the person who wrote it, [`recover`] finds all that is wrong and what still parses, and [`notes`] says what is
+//! read otherwise than it may be meant. [`link`] loads a rule file with the file that declares the tool's functions.
+//! [`layout`], [`outline`] and [`differences`] serve people who work on programs. [`raw`] is the library's functions over
+//! lent slices.
 //!
 //! ```
 //! use refal5::{lexer::Lexer, parser::Parser, ast::Item};
