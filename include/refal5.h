@@ -120,6 +120,15 @@ void refal5_write(const uint32_t *tree, size_t n, const uint8_t *src, size_t k, 
 void refal5_link(const uint32_t *tree1, size_t n1, const uint8_t *src1, size_t m1, const uint32_t *tree2, size_t n2, const uint8_t *src2, size_t m2,
                  uint32_t *work, size_t w, uint64_t answer[7]);
 
+/* The normal form of a real, a Number's text with a point or an E: digits (ASCII, the first one first) without leading or trailing
+ * zeros, of which answer[1] says how many were put down, and
+ *   form[0]  sign: 0 plus, 1 minus
+ *   form[1]  the power of ten's sign: 0 for zero or plus, 1 minus     form[2]  its magnitude
+ * so that the value is the digits as a whole number times that power of ten. Zero has no digits, plus sign, power 0. Two reals that
+ * are not refused have the same value exactly when their forms are equal. A text of n bytes has less than n digits. Refusals 64: no
+ * real that reading gives; 65: the exponent, leading zeros aside, has over 9 digits; 66: more digits than m, which the need says. */
+void refal5_real(const uint8_t *text, size_t n, uint8_t *digits, size_t m, uint64_t form[3], uint64_t answer[7]);
+
 #ifdef __cplusplus
 }
 #endif

@@ -205,6 +205,30 @@ fn a_written_text_is_written_the_same_again() {
     }
 }
 
+/// docs/refal5.1 is made from the help, and says all that it says.
+#[test]
+fn the_manual_page() {
+    let page = refal5("accepted", &["man"], b"");
+    assert_eq!(page.status.code(), Some(0));
+    let mut failures = Vec::new();
+    compare("../../../docs", "refal5.1", &page.stdout, &mut failures);
+    assert!(failures.is_empty(), "docs/refal5.1 is not what is made");
+    let help = refal5("accepted", &["help"], b"");
+    let bare = text(&page.stdout)
+        .replace("\\-", "-")
+        .replace("\\(aq", "'")
+        .replace("\\(ga", "`");
+    for line in text(&help.stdout)
+        .lines()
+        .filter(|line| line.starts_with("  "))
+    {
+        assert!(bare.contains(line), "{line}");
+    }
+    for heading in ["NAME", "USAGE", "COMMANDS", "OPTIONS", "EXIT STATUS"] {
+        assert!(bare.contains(&format!("\n.SH {heading}\n")), "{heading}");
+    }
+}
+
 #[test]
 fn two_programs_that_differ() {
     let mut failures = Vec::new();

@@ -3,12 +3,13 @@
 // start, 5 span end, 6 need.
 use refal_ast::Answer;
 ghost use mathlib.Core.Path.{_≡_};
-ghost use lib.ListN.{length, replicate};
+ghost use lib.ListN.{length};
 ghost use Rattle.refal_ast.specs.Names.{canonicalName, canonicalIndex, namesEqual, formAnswer, formBytes};
 ghost use Rattle.refal_lexer.specs.Read.{readAnswer, readRows};
 ghost use Rattle.refal_parser.specs.Parse.{parseAnswer, parseRows};
 ghost use Rattle.refal_writer.specs.Write.{writeAnswer, writeBytes};
-ghost use Rattle.refal_link.specs.Link.{linkAnswer};
+ghost use Rattle.refal_link.specs.Link.{linkAnswer, linkWords};
+ghost use Rattle.refal_real.specs.Real.{realAnswer, realDigits, realForm};
 ghost use Rattle.refal5.specs.Words.{answerWords};
 
 // An answer's seven words.
@@ -93,7 +94,23 @@ pub extern "C" fn refal5_link<'a>(
     answer: &mut [u64; 7],
 )
     ensures told { λ _. ⌜ now (answer .exit) ≡ answerWords (linkAnswer (now (tree1 .entry)) (now (src1 .entry)) (now (tree2 .entry)) (now (src2 .entry))) ⌝ }
-    ensures left { λ _. ⌜ now (work .exit) ≡ replicate (length (now (work .entry))) 0 ⌝ }
+    ensures left { λ _. ⌜ now (work .exit) ≡ linkWords (now (work .entry)) ⌝ }
 {
     *answer = words(refal_link::link(tree1, src1, tree2, src2, work));
+}
+
+// The normal form of a real's text: its digits, and in `form` its sign (0 plus, 1 minus), its power's sign (0 for zero or plus, 1
+// minus) and magnitude.
+#[no_mangle]
+pub extern "C" fn refal5_real(
+    text: &[u8],
+    digits: &mut [u8],
+    form: &mut [u64; 3],
+    answer: &mut [u64; 7],
+)
+    ensures told { λ _. ⌜ now (answer .exit) ≡ answerWords (realAnswer (now (text .entry)) (length (now (digits .entry)))) ⌝ }
+    ensures left { λ _. ⌜ now (digits .exit) ≡ realDigits (now (text .entry)) (now (digits .entry)) ⌝ }
+    ensures formed { λ _. ⌜ now (form .exit) ≡ realForm (now (text .entry)) (length (now (digits .entry))) ⌝ }
+{
+    *answer = words(refal_real::normal_form(text, digits, form));
 }

@@ -1,10 +1,10 @@
--- What `link` answers for the node words and the source of file one and of file two (02, card 3). The rows of both files stand in one list, file one's
--- before file two's; names are equal when their canonical forms are (refal_ast specs/Names.antt).
+-- What `link` answers for the node words and the source of file one and of file two, and what it leaves in the words lent (02, card 3). The rows of
+-- both files stand in one list, file one's before file two's; names are equal when their canonical forms are (refal_ast specs/Names.antt).
 use Prim.Native.Nat.{ℕ}
 use mathlib.Core.Bool.{Bool, false, not, _||_}
 use mathlib.Core.List.{List, [], _∷_, _++_}
 use mathlib.Core.Option.{Option, none, some}
-use lib.ListN.{length}
+use lib.ListN.{length, replicate}
 use Rattle.refal_text.specs.Pick.{pick}
 use Rattle.refal_ast.specs.Kinds.{nodeName, nodeFunction, nodeCall}
 use Rattle.refal_ast.specs.Names.{namesEqual}
@@ -66,3 +66,7 @@ checked w src rest = pick (not (lawful w)) (refuse 40) (pick (not (allSpelled sr
 -- of file one, then of file two
 unfoldable pub linkAnswer : List ℕ → List ℕ → List ℕ → List ℕ → Answer
 linkAnswer w₁ s₁ w₂ s₂ = checked w₁ s₁ (checked w₂ s₂ (linked (bothRows w₁ s₁ w₂ s₂)))
+
+-- what is left in the work words: zeros, whatever the answer
+abbrev pub linkWords : List ℕ → List ℕ
+linkWords old = replicate (length old) 0

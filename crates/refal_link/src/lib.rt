@@ -9,7 +9,6 @@ ghost use mathlib.Core.Bool.{true, false};
 ghost use mathlib.Core.List.{List, []};
 ghost use Prim.Native.Nat.{ℕ, _≤_, _<_};
 ghost use lib.Dec.{eqb};
-ghost use lib.ListN.{length, replicate};
 ghost use Rattle.refal_text.specs.Pick.{pick};
 ghost use Rattle.refal_ast.specs.Kinds.{nodeCall};
 ghost use Rattle.refal_ast.specs.Answers.{refusal};
@@ -17,7 +16,7 @@ ghost use Rattle.refal_ast.specs.Nodes.{HasRow, wordAt, colFrom, colTo};
 ghost use Rattle.refal_files.specs.Files.{bothRows};
 ghost use Rattle.refal_files.specs.FileLaws.{bothCount, rowAt};
 ghost use Rattle.refal_index.specs.Named.{Sized, Holds};
-ghost use Rattle.refal_link.specs.Link.{functions, repeated as firstRepeated, shownAt, refuse, resolved, linked, linkAnswer};
+ghost use Rattle.refal_link.specs.Link.{functions, repeated as firstRepeated, shownAt, refuse, resolved, linked, linkAnswer, linkWords};
 ghost use Rattle.refal_link.specs.LinkLaws.{repeats as isRepeated, lost as isLost, atRow, bucketCount};
 
 fn wide(x: u32) -> usize
@@ -238,7 +237,7 @@ pub fn link<'a>(
     work: &mut [u32],
 ) -> Answer
     ensures { λ r. ⌜ r ≡ linkAnswer (now (tree1 .entry)) (now (src1 .entry)) (now (tree2 .entry)) (now (src2 .entry)) ⌝ }
-    ensures { λ r. ⌜ now (work .exit) ≡ replicate (length (now (work .entry))) 0 ⌝ }
+    ensures { λ r. ⌜ now (work .exit) ≡ linkWords (now (work .entry)) ⌝ }
 {
     let r = answer(work, tree1, src1, tree2, src2);
     refal_rows::clear(work);

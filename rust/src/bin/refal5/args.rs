@@ -74,6 +74,7 @@ pub struct Options {
 #[derive(Debug)]
 pub enum Parsed {
     Help,
+    Manual,
     Version,
     Run(Args),
 }
@@ -119,6 +120,9 @@ pub fn parse(args: impl Iterator<Item = OsString>) -> Result<Parsed, String> {
     };
     if word == "help" {
         return Ok(Parsed::Help);
+    }
+    if word == "man" {
+        return Ok(Parsed::Manual);
     }
     let args = Args {
         command: command(&word)?,

@@ -11,6 +11,7 @@ mod link;
 mod list;
 mod listing;
 mod lsp;
+mod man;
 mod output;
 mod page;
 mod progress;
@@ -36,6 +37,7 @@ enum Status {
 fn main() -> ExitCode {
     let status = match args::parse(std::env::args_os().skip(1)) {
         Ok(Parsed::Help) => say(HELP),
+        Ok(Parsed::Manual) => say(&man::page(HELP)),
         Ok(Parsed::Version) => say(concat!("refal5 ", env!("CARGO_PKG_VERSION"), "\n")),
         Ok(Parsed::Run(args)) => start(args),
         Err(message) => {
