@@ -2,7 +2,7 @@
 
 use bench::measure::{Effort, Measured, measure, reading, whole};
 use bench::memory::{Counting, original_peak};
-use bench::{plot, table};
+use bench::{linking, plot, table};
 use oracle::generate::delivery::{HOSTILE, delivery, hostile};
 use oracle::generate::rules::rules;
 use oracle::terms::MAX_SOURCE;
@@ -17,11 +17,13 @@ bench: times the original, the proved library and an unverified mark in one run
 
   bench [--quick] [--deliveries] [--seed N] [--svg FILE]
   bench --growth
+  bench --linking
 
   --quick      deliveries of 64 KiB and 1 MiB, hostile files of 1 MiB, few repetitions
   --deliveries no hostile files
   --seed N     the seed of the deliveries (default 1)
   --growth     only the library's reading of hostile files of 1, 4 and 16 MiB
+  --linking    only linking of rules of 1 to 16 MiB against parsing, and of small ones without work words
   --svg FILE   writes a plot of the time over the size of a delivery
 
 Everything lent is made and touched before it is timed, and each is called once untimed before each
@@ -46,6 +48,10 @@ fn main() -> ExitCode {
             },
             "--growth" => {
                 print!("{}", table::growth(&growth()));
+                return ExitCode::SUCCESS;
+            }
+            "--linking" => {
+                print!("{}", linking::tables(seed));
                 return ExitCode::SUCCESS;
             }
             "--svg" => svg = words.next(),

@@ -237,7 +237,7 @@ fn writing(src: &str, tree: &[u32], effort: Effort) -> Option<Writing> {
 
 /// Seconds of processor time, so that a busy machine does not count, after a first call that is not timed: each of those
 /// that are compared finds the caches, the predictors and the allocator as its own last call left them.
-fn time<T>(mut work: impl FnMut() -> T) -> (f64, T) {
+pub fn time<T>(mut work: impl FnMut() -> T) -> (f64, T) {
     drop(black_box(work()));
     once(work)
 }
@@ -266,7 +266,7 @@ fn medians(original: Vec<f64>, released: Vec<f64>, ours: Vec<f64>, mark: Vec<f64
     }
 }
 
-fn median(mut times: Vec<f64>) -> Option<f64> {
+pub fn median(mut times: Vec<f64>) -> Option<f64> {
     times.sort_by(f64::total_cmp);
     times.get(times.len() / 2).copied()
 }

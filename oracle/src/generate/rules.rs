@@ -4,8 +4,18 @@ use super::Rng;
 
 /// A rule file that reading and parsing accept, of exactly `size` bytes (white space fills the rest).
 pub fn rules(seed: u64, size: usize) -> String {
+    made(seed, size, None)
+}
+
+/// The same with a number of its own for each class, and calls of classes that are there: linking accepts it.
+pub fn linked(seed: u64, size: usize) -> String {
+    made(seed, size, Some(0))
+}
+
+fn made(seed: u64, size: usize, numbered: Option<usize>) -> String {
     let mut maker = Maker {
         rng: Rng::new(seed),
+        numbered,
         text: String::from("* Stamps for incoming pages.\n$EXTRN Stamp, Keep, Year, Trim, Next;\n"),
     };
     let mut kept = if maker.text.len() <= size {
@@ -65,6 +75,8 @@ const FIELDS: [&str; 8] = ["Page", "Rest", "Head", "Tail", "Name", "No", "Date",
 
 struct Maker {
     rng: Rng,
+    /// How many classes there are, where each has a number of its own.
+    numbered: Option<usize>,
     text: String,
 }
 
@@ -75,14 +87,18 @@ impl Maker {
 
     /// One retention class: a comment, its sentences, and the one that hands on.
     fn class(&mut self) {
-        let number = self.rng.below(1000);
+        let number = self.numbered.unwrap_or_else(|| self.rng.below(1000));
         self.put(&format!(
             "\n* Retention class {number}.\nClass-{number} {{\n"
         ));
         for _ in 0..self.rng.within(4, 16) {
             self.sentence(number);
         }
-        let next = self.rng.below(1000);
+        // A class that does not fit at the end is left out: no other calls it.
+        let next = self
+            .rng
+            .below(self.numbered.map_or(1000, |count| count + 1));
+        self.numbered = self.numbered.map(|count| count + 1);
         self.put(&format!("  e.Page = <Class-{next} e.Page>;\n}}\n"));
     }
 
@@ -129,11 +145,12 @@ mod tests {
     #[test]
     fn rules_are_accepted() {
         for (seed, size) in [(1, 0), (1, 10), (2, 4096), (3, 65_536)] {
-            let text = rules(seed, size);
-            assert_eq!(text.len(), size);
-            let tokens = read::tokens(text.as_bytes()).expect("read");
-            let rows: Vec<u32> = tokens.iter().flatten().copied().collect();
-            parse::tree(&rows).expect("parsed");
+            for text in [rules(seed, size), linked(seed, size)] {
+                assert_eq!(text.len(), size);
+                let tokens = read::tokens(text.as_bytes()).expect("read");
+                let rows: Vec<u32> = tokens.iter().flatten().copied().collect();
+                parse::tree(&rows).expect("parsed");
+            }
         }
     }
 }
