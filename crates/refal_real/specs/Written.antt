@@ -194,7 +194,7 @@ num-pad (suc k) n h =
 spells-shown : (s : List ℕ) (n : ℕ) → Digits s → num s ≡ n → length s ≤ 9 → Spells (shown s) n
 unfolding num less
 spells-shown [] n d e l = record { some = omega arith; few = omega arith; digits = (omega arith, omega arith, tt); is = rw tens-zero e }
-spells-shown (b ∷ t) n d e l = record { some = omega arith; few = l; digits = d; is = e }
+spells-shown (b ∷ t) n d e l = record { some = omega arith; few = omega arith; digits = d; is = e }
 
 pub spells-decimal : (n : ℕ) → n < 1000000000 → Spells (decimal n) n
 unfolding decimal

@@ -121,12 +121,15 @@ pub fn same(a: &[u8], d: Digits, b: &[u8], e: Digits) -> bool
     ensures { λ r. ⌜ r ≡ sameList (digitsAt (now (a .entry)) d) (digitsAt (now (b .entry)) e) ⌝ }
 {
     let n = count(d);
-    if n != count(e) {
+    let m = count(e);
+    if n != m {
         return false;
     }
     let mut i = 0;
     while i < n {
-        if digit_at(a, d, i) != digit_at(b, e, i) {
+        let x = digit_at(a, d, i);
+        let y = digit_at(b, e, i);
+        if x != y {
             return false;
         }
         i += 1;

@@ -12,9 +12,9 @@ use refal_ast::Refusal;
 use refal_rows::least;
 ghost use mathlib.Core.Path.{_≡_};
 ghost use Prim.Native.Nat.{_+_, _-_, _≤_, _<_};
-ghost use lib.ListN.{length};
+ghost use lib.ListN.{length, replicate};
 ghost use Rattle.refal_text.specs.Pick.{pick};
-ghost use Rattle.refal_real.specs.Real.{bit, refusedBy, outcome, realAnswer, realDigits, realForm, realsEqual};
+ghost use Rattle.refal_real.specs.Real.{bit, refusedBy, noWords, outcome, realAnswer, realDigits, realForm, realsEqual};
 ghost use Rattle.refal_real.specs.Found.{Located, scaledOf, formAt, formBy, outcomeOf, Inside};
 ghost use Rattle.refal_real.specs.Kept.{Within};
 
@@ -122,9 +122,14 @@ fn wide(b: bool) -> u64
     if b { 1 } else { 0 }
 }
 
-fn refused(number: u32, need: usize) -> Answer
-    ensures { λ r. ⌜ r ≡ refusedBy number need ⌝ }
+// A refusal: all that was lent becomes 0.
+fn refuse(digits: &mut [u8], form: &mut [u64; 3], number: u32, need: usize) -> Answer
+    ensures answer { λ r. ⌜ r ≡ refusedBy number need ⌝ }
+    ensures left { λ _. ⌜ now (digits .exit) ≡ replicate (length (now (digits .entry))) 0 ⌝ }
+    ensures formed { λ _. ⌜ now (form .exit) ≡ noWords ⌝ }
 {
+    refal_rows::clear_bytes(digits);
+    *form = [0, 0, 0];
     Answer::Refused(Refusal {
         number,
         expected: 0,
@@ -142,18 +147,12 @@ pub fn normal_form(text: &[u8], digits: &mut [u8], form: &mut [u64; 3]) -> Answe
     ensures formed { λ _. ⌜ now (form .exit) ≡ realForm (now (text .entry)) (length (now (digits .entry))) ⌝ }
 {
     match parse(text) {
-        Parsed::Refused(x) => {
-            refal_rows::clear_bytes(digits);
-            *form = [0, 0, 0];
-            refused(x, 0)
-        }
+        Parsed::Refused(number) => refuse(digits, form, number, 0),
         Parsed::Real(f) => {
             let d = f.digits;
             let n = digits::count(d);
             if digits.len() < n {
-                refal_rows::clear_bytes(digits);
-                *form = [0, 0, 0];
-                return refused(66, n);
+                return refuse(digits, form, 66, n);
             }
             digits::put(text, d, digits);
             *form = [wide(f.minus), wide(f.down), f.power as u64];

@@ -19,10 +19,10 @@ kept-requires : tie.Need-kept-requires
 kept-requires c κs = let L = c .before .before .pre .0 in let m = c .least .ensures in (L .from, omega arith, omega arith, L .to)
 
 sub-zeros : tie.Need-sub-zeros
-sub-zeros c = c .before .kept .ensures .last
+sub-zeros c = let K = c .before .kept .ensures in let a = K .last in let b = K .next in let e = K .end in omega arith
 
 sub-zeros-2 : tie.Need-sub-zeros-2
-sub-zeros-2 c = c .before .before .kept .ensures .end
+sub-zeros-2 c = let K = c .before .before .kept .ensures in let a = K .last in let b = K .next in let e = K .end in omega arith
 
 add-zeros : tie.Need-add-zeros
 add-zeros c = let L = c .before .before .before .before .before .pre .0 in omega arith

@@ -12,14 +12,11 @@ use Rattle.refal_real.proofs.normal_form.Tie as tie
 parse-requires : tie.Need-parse-requires
 parse-requires c κs = search needs
 
-enum-known-x : tie.Need-enum-known-x
-enum-known-x c = search needs
+enum-known-number : tie.Need-enum-known-number
+enum-known-number c = search needs
 
-clear-bytes-requires : tie.Need-clear-bytes-requires
-clear-bytes-requires c κs = search needs
-
-refused-requires : tie.Need-refused-requires
-refused-requires c κs = search needs
+refuse-requires : tie.Need-refuse-requires
+refuse-requires c κs = search needs
 
 enum-known-f : tie.Need-enum-known-f
 enum-known-f c = search needs
@@ -27,17 +24,14 @@ enum-known-f c = search needs
 count-requires : tie.Need-count-requires
 count-requires c κs = let w = told-within (c .before .before .before .before .before .before .before .args .text .now) (c .before .before .before .before .parse .result) _ (c .before .before .f .given .1) (c .before .before .before .before .parse .ensures .1) in (w .first, omega arith, w .next, omega arith)
 
-clear-bytes-requires-2 : tie.Need-clear-bytes-requires-2
-clear-bytes-requires-2 c κs = search needs
-
-refused-requires-2 : tie.Need-refused-requires-2
-refused-requires-2 c κs = search needs
+refuse-requires-2 : tie.Need-refuse-requires-2
+refuse-requires-2 c κs = search needs
 
 same-length : tie.Need-same-length
 same-length c = search needs
 
 returns : tie.Need-returns
-returns c = let t = c .before .before .before .before .before .before .before .before .before .before .before .before .before .before .before .args .text .now in let w = told-within t (c .before .before .before .before .before .before .before .before .before .before .before .before .parse .result) _ (c .before .before .before .before .before .before .before .before .before .before .f .given .1) (c .before .before .before .before .before .before .before .before .before .before .before .before .parse .ensures .1) in let n = c .before .before .before .before .before .before .before .count .ensures ∙ sym (count-is t _ w) in let T = short-told t (c .before .before .before .before .before .before .before .before .before .before .before .before .before .before .before .args .digits .now) _ (told-form t (c .before .before .before .before .before .before .before .before .before .before .before .before .parse .result) _ (c .before .before .before .before .before .before .before .before .before .before .f .given .1) (c .before .before .before .before .before .before .before .before .before .before .before .before .parse .ensures .0)) (omega (arith, n, c .before .before .before .before .before .before .if1 .taken)) in (c .refused2 .ensures ∙ ap (refusedBy 66) n ∙ T .answer, (c .before .before .before .before .clear-bytes2 .ensures ∙ T .left, T .formed))
+returns c = let t = c .before .before .before .before .before .before .before .before .before .before .before .before .before .before .args .text .now in let w = told-within t (c .before .before .before .before .before .before .before .before .before .before .before .parse .result) _ (c .before .before .before .before .before .before .before .before .before .f .given .1) (c .before .before .before .before .before .before .before .before .before .before .before .parse .ensures .1) in let n = c .before .before .before .before .before .before .count .ensures ∙ sym (count-is t _ w) in let T = short-told t (c .before .before .before .before .before .before .before .before .before .before .before .before .before .before .args .digits .now) _ (told-form t (c .before .before .before .before .before .before .before .before .before .before .before .parse .result) _ (c .before .before .before .before .before .before .before .before .before .f .given .1) (c .before .before .before .before .before .before .before .before .before .before .before .parse .ensures .0)) (omega (arith, n, c .before .before .before .before .before .if1 .taken)) in let r = c .before .before .refuse2 .ensures in (r .0 ∙ ap (refusedBy 66) n ∙ T .answer, (r .1 .0 ∙ T .left, r .1 .1 ∙ T .formed))
 
 put-requires : tie.Need-put-requires
 put-requires c κs = let t = c .before .before .before .before .before .before .before .before .before .before .args .text .now in let w = told-within t (c .before .before .before .before .before .before .before .parse .result) _ (c .before .before .before .before .before .f .given .1) (c .before .before .before .before .before .before .before .parse .ensures .1) in let n = count-is t _ w in (w, omega (arith, c .before .before .count .ensures, n, c .before .if1 .left))
@@ -52,7 +46,7 @@ same-length-2 : tie.Need-same-length-2
 same-length-2 c = search needs
 
 returns-2 : tie.Need-returns-2
-returns-2 c = let t = c .before .before .before .before .before .before .before .before .before .before .before .before .args .text .now in let T = refused-told t (c .before .before .before .before .before .before .before .before .before .before .before .before .args .digits .now) _ (told-refused t (c .before .before .before .before .before .before .before .before .before .parse .result) _ (c .before .before .before .before .before .before .before .x .given .1) (c .before .before .before .before .before .before .before .before .before .parse .ensures .0)) in (c .refused .ensures ∙ T .answer, (c .before .before .before .before .clear-bytes .ensures ∙ T .left, T .formed))
+returns-2 c = let t = c .before .before .before .before .before .before .before .before .before .before .before .args .text .now in let T = refused-told t (c .before .before .before .before .before .before .before .before .before .before .before .args .digits .now) _ (told-refused t (c .before .before .before .before .before .before .before .before .parse .result) _ (c .before .before .before .before .before .before .number .given .1) (c .before .before .before .before .before .before .before .before .parse .ensures .0)) in let r = c .before .before .refuse .ensures in (r .0 ∙ T .answer, (r .1 .0 ∙ T .left, r .1 .1 ∙ T .formed))
 
 same-length-3 : tie.Need-same-length-3
 same-length-3 c = search needs
@@ -65,13 +59,11 @@ normal-form-spec =
     tie.close
     (tie.spec
     parse-requires
-    enum-known-x
-    clear-bytes-requires
-    refused-requires
+    enum-known-number
+    refuse-requires
     enum-known-f
     count-requires
-    clear-bytes-requires-2
-    refused-requires-2
+    refuse-requires-2
     same-length
     returns
     put-requires

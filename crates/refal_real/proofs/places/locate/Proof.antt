@@ -9,7 +9,7 @@ use Rattle.refal_real.proofs.places.locate.Statement.{statement}
 use Rattle.refal_real.proofs.places.locate.Tie as tie
 
 returns : tie.Need-returns
-returns c = (too-long (c .before .before .args .text .now) (c .if1 .taken), tt)
+returns c = (too-long (c .before .before .args .text .now) (omega (arith, c .if1 .taken)), tt)
 
 past-sign-requires : tie.Need-past-sign-requires
 past-sign-requires c κs = search needs
@@ -33,13 +33,13 @@ returns-4 : tie.Need-returns-4
 returns-4 c = let t = c .before .before .before .before .before .before .before .before .before .args .text .now in let w = c .before .before .before .before .before .whole-end .ensures in (e-bare t (c .before .before .before .before .before .before .past-sign .result) (c .before .before .before .before .before .whole-end .result .end) (c .before .before .before .point .result) (starts-at t (c .before .before .before .before .before .before .past-sign .result) (c .before .before .before .before .before .before .past-sign .ensures .0)) (omega (arith, w .0, c .before .before .before .before .if2 .left)) (w .0) (c .before .before .before .point .ensures .0) (c .before .exponent .result) (c .before .before .if3 .left) (c .before .exponent .ensures .0) (c .if4 .taken), tt)
 
 returns-5 : tie.Need-returns-5
-returns-5 c = let t = c .before .before .before .before .before .before .before .before .before .before .args .text .now in let w = c .before .before .before .before .before .before .whole-end .ensures in (whole-alone t (c .before .before .before .before .before .before .before .past-sign .result) (c .before .before .before .before .before .before .whole-end .result .end) (c .before .before .before .before .point .result) (starts-at t (c .before .before .before .before .before .before .before .past-sign .result) (c .before .before .before .before .before .before .before .past-sign .ensures .0)) (omega (arith, w .0, c .before .before .before .before .before .if2 .left)) (w .0) (c .before .before .before .before .point .ensures .0) (c .before .before .exponent .result) (c .before .before .before .if3 .left) (c .before .before .exponent .ensures .0) (c .before .if4 .left) (c .if5 .taken), tt)
+returns-5 c = let t = c .before .before .before .before .before .before .before .before .before .before .args .text .now in let w = c .before .before .before .before .before .before .whole-end .ensures in (whole-alone t (c .before .before .before .before .before .before .before .past-sign .result) (c .before .before .before .before .before .before .whole-end .result .end) (c .before .before .before .before .point .result) (starts-at t (c .before .before .before .before .before .before .before .past-sign .result) (c .before .before .before .before .before .before .before .past-sign .ensures .0)) (omega (arith, w .0, c .before .before .before .before .before .if2 .left)) (w .0) (c .before .before .before .before .point .ensures .0) (c .before .before .exponent .result) (c .before .before .before .if3 .left) (c .before .before .exponent .ensures .0) (c .before .if4 .left) (let p = c .before .before .before .before .point .ensures in let e = c .before .before .exponent .ensures in omega (arith, w .0, c .before .before .before .before .before .if2 .left, p .1, e .1, c .if5 .taken)), tt)
 
 returns-6 : tie.Need-returns-6
-returns-6 c = let t = c .before .before .before .before .before .before .before .before .before .before .before .args .text .now in let w = c .before .before .before .before .before .before .before .whole-end .ensures in (more-behind t (c .before .before .before .before .before .before .before .before .past-sign .result) (c .before .before .before .before .before .before .before .whole-end .result .end) (c .before .before .before .before .before .point .result) (starts-at t (c .before .before .before .before .before .before .before .before .past-sign .result) (c .before .before .before .before .before .before .before .before .past-sign .ensures .0)) (omega (arith, w .0, c .before .before .before .before .before .before .if2 .left)) (w .0) (c .before .before .before .before .before .point .ensures .0) (c .before .before .before .exponent .result) (c .before .before .before .before .if3 .left) (c .before .before .before .exponent .ensures .0) (c .before .before .if4 .left) (c .before .if5 .left) (c .if6 .taken), tt)
+returns-6 c = let t = c .before .before .before .before .before .before .before .before .before .before .before .args .text .now in let w = c .before .before .before .before .before .before .before .whole-end .ensures in (more-behind t (c .before .before .before .before .before .before .before .before .past-sign .result) (c .before .before .before .before .before .before .before .whole-end .result .end) (c .before .before .before .before .before .point .result) (starts-at t (c .before .before .before .before .before .before .before .before .past-sign .result) (c .before .before .before .before .before .before .before .before .past-sign .ensures .0)) (omega (arith, w .0, c .before .before .before .before .before .before .if2 .left)) (w .0) (c .before .before .before .before .before .point .ensures .0) (c .before .before .before .exponent .result) (c .before .before .before .before .if3 .left) (c .before .before .before .exponent .ensures .0) (c .before .before .if4 .left) (λ q. omega (arith, q, c .before .if5 .left)) (let p = c .before .before .before .before .before .point .ensures in let e = c .before .before .before .exponent .ensures in omega (arith, w .0, p .1, e .1, c .if6 .taken)), tt)
 
 returns-7 : tie.Need-returns-7
-returns-7 c = let t = c .before .before .before .before .before .before .before .before .before .before .before .args .text .now in let w = c .before .before .before .before .before .before .before .whole-end .ensures in let p = c .before .before .before .before .before .point .ensures in let e = c .before .before .before .exponent .ensures in (a-real t (c .before .before .before .before .before .before .before .before .past-sign .result) (c .before .before .before .before .before .before .before .whole-end .result .end) (c .before .before .before .before .before .point .result) (starts-at t (c .before .before .before .before .before .before .before .before .past-sign .result) (c .before .before .before .before .before .before .before .before .past-sign .ensures .0)) (omega (arith, w .0, c .before .before .before .before .before .before .if2 .left)) (w .0) (p .0) (c .before .before .before .exponent .result) (c .before .before .before .before .if3 .left) (e .0) (c .before .before .if4 .left) (c .before .if5 .left) (c .if6 .left) (e .2) (c .before .before .before .before .before .before .before .before .before .if1 .left), record { short = c .before .before .before .before .before .before .before .before .before .if1 .left; from = omega (arith, w .0); whole = p .1; to = p .2; exponent = let z : c .before .before .before .exponent .result .end ≡ length t = omega (arith, c .if6 .left, e .2) in sym (ap (λ (x : Part). x .end) (e .0)) ∙ z })
+returns-7 c = let t = c .before .before .before .before .before .before .before .before .before .before .before .args .text .now in let w = c .before .before .before .before .before .before .before .whole-end .ensures in let p = c .before .before .before .before .before .point .ensures in let e = c .before .before .before .exponent .ensures in (a-real t (c .before .before .before .before .before .before .before .before .past-sign .result) (c .before .before .before .before .before .before .before .whole-end .result .end) (c .before .before .before .before .before .point .result) (starts-at t (c .before .before .before .before .before .before .before .before .past-sign .result) (c .before .before .before .before .before .before .before .before .past-sign .ensures .0)) (omega (arith, w .0, c .before .before .before .before .before .before .if2 .left)) (w .0) (p .0) (c .before .before .before .exponent .result) (c .before .before .before .before .if3 .left) (e .0) (c .before .before .if4 .left) (λ q. omega (arith, q, c .before .if5 .left)) (omega (arith, c .if6 .left)) (e .2) (omega (arith, c .before .before .before .before .before .before .before .before .before .if1 .left)), record { short = omega (arith, c .before .before .before .before .before .before .before .before .before .if1 .left); from = omega (arith, w .0); whole = p .1; to = p .2; exponent = let z : c .before .before .before .exponent .result .end ≡ length t = omega (arith, c .if6 .left, e .2) in sym (ap (λ (x : Part). x .end) (e .0)) ∙ z })
 
 pub locate-spec : {M : Type 1} → statement M
 locate-spec =
