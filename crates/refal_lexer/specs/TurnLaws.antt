@@ -179,9 +179,9 @@ module _ (s : List ℕ) (at k row : ℕ) (e : k ≡ classOf (getD s 0 0)) where
       let x : one T ≡ tokenAt at s = ap one f ∙ other-is z in
       (b ∙ ap (λ (y : Found). stepOf y row) x, sym (ap (λ (y : Found). rowsOf y rows row) (sym x ∙ ap one g)))
 
-  pub put-one : (T : Scan) (rows rows′ : List ℕ) (kind detail text len start end : ℕ) → (k ≡ 3 → ⊥) → T ≡ classScan k at s → T ≡ Token kind detail text len start end
-      → rows′ ≡ putRow 6 rows row (words (token kind detail text len start end))
-      → (On (cursor end (row + 1) false) ≡ stepOf (tokenAt at s) row) × (rows′ ≡ rowsOf (tokenAt at s) rows row)
-  put-one T rows rows′ kind detail text len start end z f g b =
+  pub put-one : (T : Scan) (r : Step) (rows rows′ : List ℕ) (kind detail text len start end : ℕ) → (k ≡ 3 → ⊥) → T ≡ classScan k at s → T ≡ Token kind detail text len start end
+      → r ≡ On (cursor end (row + 1) false) → rows′ ≡ putRow 6 rows row (words (token kind detail text len start end))
+      → (r ≡ stepOf (tokenAt at s) row) × (rows′ ≡ rowsOf (tokenAt at s) rows row)
+  put-one T r rows rows′ kind detail text len start end z f g a b =
       let x : one (Token kind detail text len start end) ≡ tokenAt at s = ap one (sym g ∙ f) ∙ other-is z in
-      (ap (λ (y : Found). stepOf y row) x, b ∙ ap (λ (y : Found). rowsOf y rows row) x)
+      (a ∙ ap (λ (y : Found). stepOf y row) x, b ∙ ap (λ (y : Found). rowsOf y rows row) x)

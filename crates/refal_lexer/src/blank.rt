@@ -7,6 +7,9 @@ ghost use Rattle.refal_lexer.specs.Carried.{lineAfter};
 ghost use Rattle.refal_lexer.specs.Blanks.{whiteLen};
 ghost use Rattle.refal_lexer.specs.Blanks.{closeTo, commentAt};
 ghost use Rattle.refal_lexer.specs.Carried.{whites, stopAt, blanksFrom};
+ghost use Rattle.refal_lexer.specs.ClassLaws.{Table};
+ghost use Rattle.refal_lexer.specs.SpaceLaws.{beginsBlank, spaceLen, lineBehind};
+use crate::class;
 
 // A place of the source, and whether a star would start a comment there.
 pub struct Place {
@@ -129,7 +132,7 @@ fn stop(c: Comment, at: usize, line: bool, end: usize) -> Blank
 }
 
 // Repeat: white space, a star comment, a block comment.
-pub fn blanks(src: &[u8], at: usize, line: bool) -> Blank
+fn repeat(src: &[u8], at: usize, line: bool) -> Blank
     requires { ⌜ at + length (now src) ≤ 16777216 ⌝ }
     ensures { λ r. ⌜ r ≡ blanksFrom 0 at line (now (src .entry)) ⌝ }
 {
@@ -151,4 +154,44 @@ pub fn blanks(src: &[u8], at: usize, line: bool) -> Blank
     }
     let end = at + i;
     Blank::Past { at: end, line: l }
+}
+
+// One space, or none, at the front: how many bytes.
+fn space_len(src: &[u8]) -> usize
+    ensures { λ r. ⌜ (r ≡ spaceLen (now (src .entry))) × (r ≤ length (now (src .entry))) ⌝ }
+{
+    let b = refal_text::byte(src, 0);
+    if b == b' ' { 1 } else { 0 }
+}
+
+// The flag behind n spaces, one or none, at `at`.
+fn line_behind(n: usize, at: usize, line: bool) -> bool
+    ensures { λ r. ⌜ r ≡ lineBehind n at line ⌝ }
+{
+    line & ((n == 0) | (at != 0))
+}
+
+// Whether white space or a comment can begin with a byte of class k.
+fn begins(k: u8) -> bool
+    ensures { λ r. ⌜ r ≡ beginsBlank k ⌝ }
+{
+    ((k == class::WHITE) | (k == class::WIDE)) | ((k == class::STAR) | (k == class::SLASH))
+}
+
+// White space and comments. Most tokens have one space before them, or none: that costs no branch, and then the class of a byte tells that
+// there are no more blanks.
+pub fn blanks(src: &[u8], at: usize, line: bool, table: &[u8]) -> Blank
+    requires { ⌜ (at + length (now src) ≤ 16777216) × Table (now table) ⌝ }
+    ensures { λ r. ⌜ r ≡ blanksFrom 0 at line (now (src .entry)) ⌝ }
+{
+    let n = space_len(src);
+    let here = at + n;
+    let l = line_behind(n, at, line);
+    let b = refal_text::byte(src, n);
+    let k = class::class_of(b, table);
+    let more = begins(k);
+    if !more {
+        return Blank::Past { at: here, line: l };
+    }
+    repeat(&src[n..], here, l)
 }

@@ -6,7 +6,13 @@ ghost use Rattle.refal_lexer.specs.Classes.{upper, digit, sign, singleKi
 use refal_ast::kinds::token as kind;
 
 // The classes that decide a token, by name; those of `specs/Classes.antt`.
+pub const WHITE: u8 = 2;
+
 pub const QUOTE: u8 = 3;
+
+pub const STAR: u8 = 4;
+
+pub const SLASH: u8 = 5;
 
 pub const DOLLAR: u8 = 6;
 

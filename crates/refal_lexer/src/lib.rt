@@ -1,6 +1,6 @@
 // The lexer: from the bytes of a source to the rows of its tokens.
 ghost use mathlib.Core.Path.{_≡_};
-ghost use mathlib.Core.Bool.{true};
+ghost use mathlib.Core.Bool.{true, false};
 ghost use Prim.Native.Nat.{_+_, _≤_, _<_};
 ghost use lib.ListN.{length};
 ghost use Rattle.refal_lexer.specs.ClassLaws.{Table};
@@ -101,31 +101,21 @@ fn stop(s: Scan, row: usize) -> Step
     }
 }
 
-// The token at the front of src, where c stands, puts its row or rows.
-fn put_next(src: &[u8], c: Cursor, rows: &mut [u32], table: &[u8]) -> Step
-    requires { ⌜ (0 < length (now src)) × (c .at + length (now src) ≤ 16777216) × (c .row ≤ c .at) × Table (now table) ⌝ }
-    ensures { λ r. ⌜ r ≡ stepOf (tokenAt (c .at) (now (src .entry))) (c .row) ⌝ }
-    ensures { λ r. ⌜ now (rows .exit) ≡ rowsOf (tokenAt (c .at) (now (src .entry))) (now (rows .entry)) (c .row) ⌝ }
+// A token's row, and where reading goes on.
+fn put_row(
+    rows: &mut [u32],
+    row: usize,
+    kind: u32,
+    detail: u32,
+    text: usize,
+    len: usize,
+    start: usize,
+    end: usize,
+) -> Step
+    requires { ⌜ (row ≤ 16777216) × (text ≤ 16777216) × (len ≤ 16777216) × (start ≤ 16777216) × (end ≤ 16777216) ⌝ }
+    ensures { λ r. ⌜ r ≡ Step.On (cursor end (row + 1) false) ⌝ }
+    ensures { λ r. ⌜ now (rows .exit) ≡ putRow 6 (now (rows .entry)) row (words (token kind detail text len start end)) ⌝ }
 {
-    let at = c.at;
-    let row = c.row;
-    let b = src[0];
-    let k = class::class_of(b, table);
-    if k == class::QUOTE {
-        return literal::literal(src, c, b, rows);
-    }
-    let s = token::scan(src, at, b, k, table);
-    let Scan::Token {
-        kind,
-        detail,
-        text,
-        len,
-        start,
-        end,
-    } = s
-    else {
-        return stop(s, row);
-    };
     refal_rows::put6(
         rows,
         row,
@@ -142,6 +132,54 @@ fn put_next(src: &[u8], c: Cursor, rows: &mut [u32], table: &[u8]) -> Step
         row: next,
         line: false,
     })
+}
+
+// The token at the front of src, where c stands, puts its row or rows.
+fn put_next(src: &[u8], c: Cursor, rows: &mut [u32], table: &[u8]) -> Step
+    requires { ⌜ (0 < length (now src)) × (c .at + length (now src) ≤ 16777216) × (c .row ≤ c .at) × Table (now table) ⌝ }
+    ensures { λ r. ⌜ r ≡ stepOf (tokenAt (c .at) (now (src .entry))) (c .row) ⌝ }
+    ensures { λ r. ⌜ now (rows .exit) ≡ rowsOf (tokenAt (c .at) (now (src .entry))) (now (rows .entry)) (c .row) ⌝ }
+{
+    let at = c.at;
+    let row = c.row;
+    let b = src[0];
+    let k = class::class_of(b, table);
+    if k == class::SINGLE {
+        let kind = class::single_kind(b);
+        let end = at + 1;
+        return put_row(rows, row, kind, 0, 0, 0, at, end);
+    }
+    if k == class::UPPER {
+        let s = word::name(src, at, table);
+        let Scan::Token {
+            kind,
+            detail,
+            text,
+            len,
+            start,
+            end,
+        } = s
+        else {
+            return stop(s, row);
+        };
+        return put_row(rows, row, kind, detail, text, len, start, end);
+    }
+    if k == class::QUOTE {
+        return literal::literal(src, c, b, rows);
+    }
+    let s = token::scan(src, at, b, k, table);
+    let Scan::Token {
+        kind,
+        detail,
+        text,
+        len,
+        start,
+        end,
+    } = s
+    else {
+        return stop(s, row);
+    };
+    put_row(rows, row, kind, detail, text, len, start, end)
 }
 
 fn answer(s: Step) -> Answer
@@ -176,7 +214,7 @@ fn lex_by(src: &[u8], rows: &mut [u32], table: &[u8]) -> Answer
     loop {
         let at = c.at;
         let row = c.row;
-        let b = blank::blanks(&src[at..], at, c.line);
+        let b = blank::blanks(&src[at..], at, c.line, table);
         let Blank::Past { at: from, line } = b else {
             return opened(b);
         };

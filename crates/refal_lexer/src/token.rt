@@ -3,7 +3,7 @@ ghost use mathlib.Core.Path.{_≡_};
 ghost use Prim.Native.Nat.{_+_, _≤_, _<_};
 ghost use lib.ListN.{length, drop, getD};
 ghost use Rattle.refal_text.specs.Utf8.{decode};
-ghost use Rattle.refal_lexer.specs.Classes.{classOf};
+ghost use Rattle.refal_lexer.specs.Classes.{classOf, cSingle, cUpper};
 ghost use Rattle.refal_lexer.specs.ClassLaws.{Table};
 ghost use Rattle.refal_lexer.specs.Tokens.{signScan, wideScan, rareScan, classScan};
 use crate::Scan;
@@ -75,24 +75,12 @@ fn rare(src: &[u8], at: usize, k: u8, table: &[u8]) -> Scan
     }
 }
 
-// The token whose first byte, b, is of class k.
+// The token whose first byte, b, is of class k: neither one of one byte nor a name, which are put down without it.
 pub fn scan(src: &[u8], at: usize, b: u8, k: u8, table: &[u8]) -> Scan
-    requires { ⌜ (0 < length (now src)) × (at + length (now src) ≤ 16777216) × (b ≡ getD (now src) 0 0) × Table (now table) ⌝ }
+    requires { ⌜ (0 < length (now src)) × (at + length (now src) ≤ 16777216) × (b ≡ getD (now src) 0 0) × Table (now table) × (k ≡ cSingle → ⊥) × (k ≡ cUpper → ⊥) ⌝ }
     ensures { λ r. ⌜ r ≡ classScan k at (now (src .entry)) ⌝ }
 {
-    if k == class::SINGLE {
-        let end = at + 1;
-        return Scan::Token {
-            kind: class::single_kind(b),
-            detail: 0,
-            text: 0,
-            len: 0,
-            start: at,
-            end,
-        };
-    }
     match k {
-        class::UPPER => crate::word::name(src, at, table),
         class::DIGIT => crate::number::number(src, at, 0),
         class::VARIABLE => crate::word::variable(src, at, b, table),
         _ => rare(src, at, k, table),

@@ -33,7 +33,7 @@ part-blanks-end : tie.Need-part-blanks-end Inv-loop μ-loop
 part-blanks-end c = search needs
 
 blanks-requires : tie.Need-blanks-requires Inv-loop μ-loop
-blanks-requires c κs = let r = rest-length (c .before .loop .c .at) (c .before .before .before .before .before .args .src .now) in omega arith
+blanks-requires c κs = let r = rest-length (c .before .loop .c .at) (c .before .before .before .before .before .args .src .now) in (omega arith, c .before .before .before .before .before .pre .1)
 
 enum-known-b : tie.Need-enum-known-b Inv-loop μ-loop
 enum-known-b c = search needs
