@@ -1,6 +1,6 @@
 -- Laws of the rows of two files by number: number g is row g of file one where that has so many rows, else a row of file two. What a loop over the
 -- numbers has before it at g is the list of rows from g on.
-use Prim.Native.Nat.{ℕ, zero, suc, _+_, _-_, _/_, _≤_, _<_}
+use Prim.Native.Nat.{ℕ, suc, _+_, _-_, _/_, _≤_, _<_}
 use mathlib.Core.Bool.{Bool, true, false}
 use mathlib.Core.List.{List, [], _∷_, _++_}
 use mathlib.Core.Path.{_≡_, refl, ap, sym, _∙_}

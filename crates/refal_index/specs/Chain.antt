@@ -1,6 +1,6 @@
 -- Chains of rows in lent words: n links (row g's at g), then b heads of buckets; 0 ends a chain, g + 1 goes on at row g. What the words hold is a list of
 -- rows, newest first, and a row is put in above all that are in.
-use Prim.Native.Nat.{ℕ, zero, suc, _+_, _≤_, _<_}
+use Prim.Native.Nat.{ℕ, _+_, _≤_, _<_}
 use mathlib.Core.Bool.{Bool, true, false, _||_}
 use mathlib.Core.List.{List, [], _∷_}
 use mathlib.Core.Path.{_≡_, refl, ap, sym, subst, _∙_}

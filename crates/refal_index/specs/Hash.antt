@@ -4,7 +4,7 @@ use mathlib.Core.Bool.{true}
 use mathlib.Core.List.{List, [], _∷_}
 use mathlib.Core.Path.{_≡_, refl, ap, sym}
 use native.Mathlib.Omega.{arith}
-use native.Mathlib.Nat.{mul-lt-mul-of-pos-right, mul-le-mul-right, mul-comm, div-lt-iff-lt-mul, mod-lt}
+use native.Mathlib.Nat.{mul-lt-mul-of-pos-right, mul-le-mul-right, div-lt-iff-lt-mul, mod-lt}
 use native.Mathlib.Numerals.{add-one}
 use lib.ListN.{length, drop, getD, drop-of-length-le}
 use lib.Seq.{drop-cons}

@@ -1,9 +1,9 @@
 -- Laws of linking's loops over the rows' numbers: what is left from g on decides.
 use Prim.Native.Nat.{ℕ, zero, suc, _+_, _-_, _*_, _/_, _≤_, _<_, min}
-use mathlib.Core.Bool.{Bool, true, false, not, _&&_, _||_, true≢false}
+use mathlib.Core.Bool.{Bool, true, false, not, _&&_, _||_}
 use mathlib.Core.List.{List, [], _∷_, _++_}
 use mathlib.Core.Option.{Option, none, some}
-use mathlib.Core.Path.{_≡_, refl, ap, ap₂, sym, _∙_}
+use mathlib.Core.Path.{_≡_, refl, ap, sym, _∙_}
 use native.Mathlib.Omega.{arith}
 use native.Mathlib.Nat.{le-refl}
 use native.Mathlib.Numerals.{add-one}
@@ -23,7 +23,7 @@ use Rattle.refal_ast.specs.Limits.{mostLevels}
 use Rattle.refal_spelling.specs.Spellings.{allSpelled}
 use Rattle.refal_files.specs.Files.{Placed, textOf, bothRows, ofKind}
 use Rattle.refal_files.specs.FileLaws.{bothCount, rowAt, rows-from, rows-end, kind-in, kind-out, kind-end}
-use Rattle.refal_index.specs.Named.{bears, answersTo, seen}
+use Rattle.refal_index.specs.Named.{answersTo, seen}
 use Rattle.refal_link.specs.Link.{functions, declared, calls, among, repeated, missing, shown, shownAt, resolved, linked, refuse, checked, linkAnswer}
 
 -- ---- lawful words are not too many

@@ -1,29 +1,29 @@
 -- The theorems of Accepts.antt.
 use Prim.Native.Nat.{ℕ, zero, suc, _+_, _-_, _≤_, _<_}
-use mathlib.Core.Bool.{Bool, true, false, not, _&&_, _||_, true≢false}
-use mathlib.Core.List.{List, [], _∷_, _++_, map}
+use mathlib.Core.Bool.{Bool, true, false, not, _||_, true≢false}
+use mathlib.Core.List.{List, [], _∷_, map}
 use mathlib.Core.Option.{Option, none, some}
 use mathlib.Core.Path.{_≡_, refl, ap, ap₂, sym, subst, _∙_}
 use native.Mathlib.Omega.{arith}
 use native.Mathlib.Decide.{decLe}
 use native.Mathlib.Nat.{le-refl, add-comm}
 use native.Mathlib.Numerals.{add-one}
-use lib.Dec.{eqb, leb}
+use lib.Dec.{eqb}
 use lib.ListN.{length, drop, length-append}
-use borrow.Author.Tests.{le-leb, lt-leb, eqb-true, eqb-false, eq-eqb, ne-eqb, not-true, not-false}
+use borrow.Author.Tests.{lt-leb, eqb-true, eqb-false, eq-eqb, not-false}
 use Rattle.refal_text.specs.Pick.{pick}
 use Rattle.refal_rows.specs.Tests.{and-left, and-right}
 use Rattle.refal_ast.specs.Kinds.{nodeName, nodeFunction, nodeCall}
 use Rattle.refal_ast.specs.Names.{namesEqual, same-sym, canonicalName}
 use Rattle.refal_ast.specs.Nodes.{Node, nodeAt, nodesOf}
 use Rattle.refal_ast.specs.declared.Answer.{Answer}
-use Rattle.refal_ast.specs.declared.Answer.the-variants.{Done, Refused}
+use Rattle.refal_ast.specs.declared.Answer.the-variants.{Done}
 use Rattle.refal_tree.specs.Lawful.{lawful}
 use Rattle.refal_spelling.specs.Spellings.{allSpelled}
-use Rattle.refal_files.specs.Files.{Placed, placed, nodeText, textOf, fileRows, bothRows, ofKind}
+use Rattle.refal_files.specs.Files.{Placed, placed, textOf, fileRows, bothRows, ofKind}
 use Rattle.refal_files.specs.FileLaws.{rowCount, bothCount, rowAt, row-one, row-two, kind-end, of-append}
 use Rattle.refal_index.specs.Named.{bears, answersTo, seen, seen-hit, seen-some, answers-is, answers-both}
-use Rattle.refal_link.specs.Link.{functions, declared, calls, repeated, missing, shown, shownAt, resolved, linked, refuse, checked, linkAnswer}
+use Rattle.refal_link.specs.Link.{functions, calls, repeated, shown, shownAt, resolved, linked, refuse, checked, linkAnswer}
 use Rattle.refal_link.specs.LinkLaws.{repeats, repeats-is, atRow, OpenAt, open-start, open-hit, open-next, open-end, Counting, calls-start, lost, lost-is, lost-not, calls-hit, calls-next, calls-end, linked-none, both-checked}
 use Rattle.refal_link.specs.Accepts.{Place, one, two, Stands, nameAt, Met, by-function, by-declared, Links, callsAmong, callsIn, AcceptsExactly, EitherWay}
 

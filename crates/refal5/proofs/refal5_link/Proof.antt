@@ -1,12 +1,9 @@
+-- `refal5::refal5_link` meets its contract.
 use mathlib.Core.Path.{ap, _∙_}
 use Rattle.refal5.specs.Words.{answerWords}
 use borrow.Author.Needs.{needs}
 use Rattle.refal5.proofs.refal5_link.Statement.{statement}
 use Rattle.refal5.proofs.refal5_link.Tie as tie
-use Rattle.refal5.proofs.refal5_link.Reads as reads
-use Rattle.refal5.proofs.refal5_link.Lts as lts
-use Rattle.refal5.proofs.words.Reads as words-reads
-use Rattle.refal_link.proofs.link.Reads as link-reads
 
 -- src/lib.rt:98:21
 link-requires : tie.Need-link-requires

@@ -1,15 +1,11 @@
+-- `refal_files::kind` meets its contract.
 use native.Mathlib.Omega.{arith}
-use mathlib.Core.Path.{_≡_, ap, sym, _∙_}
-use Prim.Native.Nat.{ℕ, _<_, _≤_}
+use mathlib.Core.Path.{ap, sym, _∙_}
 use Rattle.refal_files.specs.Files.{Placed}
-use Rattle.refal_files.specs.FileLaws.{rowCount, row-one, row-two}
+use Rattle.refal_files.specs.FileLaws.{row-one, row-two}
 use borrow.Author.Needs.{needs}
 use Rattle.refal_files.proofs.kind.Statement.{statement}
 use Rattle.refal_files.proofs.kind.Tie as tie
-use Rattle.refal_files.proofs.kind.Reads as reads
-use Rattle.refal_files.proofs.kind.Lts as lts
-use Rattle.refal_ast.proofs.nodes.kind.Reads as kind-reads
-use Rattle.refal_files.proofs.count.Reads as count-reads
 
 -- src/lib.rt:21:9
 count-requires : tie.Need-count-requires

@@ -1,14 +1,11 @@
+-- `refal_files::text` meets its contract.
 use native.Mathlib.Omega.{arith}
-use mathlib.Core.Path.{_≡_, ap, sym, _∙_}
-use Rattle.refal_files.specs.Files.{Placed, textOf}
+use mathlib.Core.Path.{ap, sym, _∙_}
+use Rattle.refal_files.specs.Files.{textOf}
 use Rattle.refal_files.specs.FileLaws.{row-one, row-two}
 use borrow.Author.Needs.{needs}
 use Rattle.refal_files.proofs.text.Statement.{statement}
 use Rattle.refal_files.proofs.text.Tie as tie
-use Rattle.refal_files.proofs.text.Reads as reads
-use Rattle.refal_files.proofs.text.Lts as lts
-use Rattle.refal_files.proofs.count.Reads as count-reads
-use Rattle.refal_spelling.proofs.text.Reads as text-reads
 
 -- src/lib.rt:40:9
 count-requires : tie.Need-count-requires

@@ -1,4 +1,5 @@
-use mathlib.Core.Path.{refl, sym, ap, _∙_}
+-- `refal_index::answers` meets its contract.
+use mathlib.Core.Path.{sym, ap, _∙_}
 use borrow.Author.Tests.{not-true, not-false}
 use Rattle.refal_ast.specs.Names.{namesEqual}
 use Rattle.refal_files.specs.FileLaws.{rowAt}
@@ -6,12 +7,6 @@ use Rattle.refal_index.specs.Named.{bears, answers-not, answers-is}
 use borrow.Author.Needs.{needs}
 use Rattle.refal_index.proofs.answers.Statement.{statement}
 use Rattle.refal_index.proofs.answers.Tie as tie
-use Rattle.refal_index.proofs.answers.Reads as reads
-use Rattle.refal_index.proofs.answers.Lts as lts
-use Rattle.refal_ast.proofs.names.identifiers_equal.Reads as identifiers-equal-reads
-use Rattle.refal_files.proofs.kind.Reads as kind-reads
-use Rattle.refal_files.proofs.text.Reads as text-reads
-use Rattle.refal_index.proofs.bears.Reads as bears-reads
 
 -- src/lib.rt:80:15
 kind-requires : tie.Need-kind-requires

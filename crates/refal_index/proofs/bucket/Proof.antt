@@ -1,14 +1,11 @@
+-- `refal_index::bucket` meets its contract.
 use native.Mathlib.Omega.{arith}
 use mathlib.Core.Path.{refl}
 use Prim.Native.Nat.{_*_, _%_}
-use native.Mathlib.Nat.{mod-lt}
 use Rattle.refal_index.specs.Hash.{cut-fits, cut-below, bucket-is}
 use borrow.Author.Needs.{needs}
 use Rattle.refal_index.proofs.bucket.Statement.{statement}
 use Rattle.refal_index.proofs.bucket.Tie as tie
-use Rattle.refal_index.proofs.bucket.Reads as reads
-use Rattle.refal_index.proofs.bucket.Lts as lts
-use Rattle.refal_index.proofs.hash.Reads as hash-reads
 
 -- src/lib.rt:42:9
 hash-requires : tie.Need-hash-requires

@@ -1,5 +1,6 @@
+-- `refal_index::enter` meets its contract.
 use native.Mathlib.Omega.{arith}
-use mathlib.Core.Path.{refl, sym, ap, _∙_}
+use mathlib.Core.Path.{sym, ap, _∙_}
 use borrow.Author.Tests.{not-true, not-false}
 use mathlib.Core.Bool.{false}
 use Prim.Native.Nat.{ℕ}
@@ -11,12 +12,6 @@ use Rattle.refal_index.specs.Named.{bears, no-buckets, no-name, named}
 use borrow.Author.Needs.{needs}
 use Rattle.refal_index.proofs.enter.Statement.{statement}
 use Rattle.refal_index.proofs.enter.Tie as tie
-use Rattle.refal_index.proofs.enter.Reads as reads
-use Rattle.refal_index.proofs.enter.Lts as lts
-use Rattle.refal_files.proofs.kind.Reads as kind-reads
-use Rattle.refal_files.proofs.text.Reads as text-reads
-use Rattle.refal_index.proofs.bears.Reads as bears-reads
-use Rattle.refal_index.proofs.push.Reads as push-reads
 
 -- src/lib.rt:179:9
 returns : tie.Need-returns

@@ -1,18 +1,13 @@
+-- `refal_index::find` meets its contract.
 use native.Mathlib.Omega.{arith}
-use mathlib.Core.Path.{_≡_, refl, sym, _∙_}
-use Prim.Native.Nat.{ℕ, _+_, _-_}
-use Rattle.refal_files.specs.Files.{Placed}
+use mathlib.Core.Path.{sym, _∙_}
+use Prim.Native.Nat.{_-_}
 use Rattle.refal_files.specs.FileLaws.{rowAt}
 use Rattle.refal_index.specs.Chain.{Walk, walk-low, walk-next}
-use Rattle.refal_index.specs.Named.{Holds, rowBucket, answersTo, find-start, find-hit, find-end}
+use Rattle.refal_index.specs.Named.{rowBucket, answersTo, find-start, find-hit, find-end}
 use borrow.Author.Needs.{needs}
 use Rattle.refal_index.proofs.find.Statement.{statement}
 use Rattle.refal_index.proofs.find.Tie as tie
-use Rattle.refal_index.proofs.find.Reads as reads
-use Rattle.refal_index.proofs.find.Lts as lts
-use Rattle.refal_index.proofs.answers.Reads as answers-reads
-use Rattle.refal_index.proofs.bucket.Reads as bucket-reads
-use Rattle.refal_index.proofs.wide.Reads as wide-reads
 
 abbrev Inv-loop : tie.InvT-loop
 Inv-loop work n buckets tree1 src1 tree2 src2 functions name at p₀ p = Walk work n buckets (rowBucket (rowAt tree1 src1 tree2 src2) buckets) (λ i. answersTo functions name (rowAt tree1 src1 tree2 src2 i)) p

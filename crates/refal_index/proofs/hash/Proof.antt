@@ -1,16 +1,13 @@
+-- `refal_index::hash` meets its contract.
 use native.Mathlib.Omega.{arith}
 use mathlib.Core.Path.{_≡_, refl, sym, _∙_}
 use Prim.Native.Nat.{_-_, _≤_, _<_}
 use lib.ListN.{length, drop}
 use Rattle.refal_ast.specs.Names.{canonicalName}
-use Rattle.refal_index.specs.Hash.{hashOf, hashFrom, hash-step, hash-end, mix}
+use Rattle.refal_index.specs.Hash.{hashOf, hashFrom, hash-step, hash-end}
 use borrow.Author.Needs.{needs}
 use Rattle.refal_index.proofs.hash.Statement.{statement}
 use Rattle.refal_index.proofs.hash.Tie as tie
-use Rattle.refal_index.proofs.hash.Reads as reads
-use Rattle.refal_index.proofs.hash.Lts as lts
-use Rattle.refal_ast.proofs.names.canonical_byte.Reads as canonical-byte-reads
-use Rattle.refal_index.proofs.wide_byte.Reads as wide-byte-reads
 
 abbrev Inv-loop : tie.InvT-loop
 Inv-loop name x₀ i₀ x i = (i ≤ length name) × (x < 4294967296) × (hashFrom x (canonicalName (drop i name)) ≡ hashOf name)

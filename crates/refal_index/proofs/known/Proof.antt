@@ -1,12 +1,8 @@
+-- `refal_index::known` meets its contract.
 use native.Mathlib.Omega.{arith}
-use mathlib.Core.Path.{refl}
 use borrow.Author.Needs.{needs}
 use Rattle.refal_index.proofs.known.Statement.{statement}
 use Rattle.refal_index.proofs.known.Tie as tie
-use Rattle.refal_index.proofs.known.Reads as reads
-use Rattle.refal_index.proofs.known.Lts as lts
-use Rattle.refal_index.proofs.find.Reads as find-reads
-use Rattle.refal_index.proofs.search.Reads as search-reads
 
 -- src/lib.rt:159:9
 search-requires : tie.Need-search-requires

@@ -1,12 +1,10 @@
+-- `refal_index::push` meets its contract.
 use native.Mathlib.Omega.{arith}
 use mathlib.Core.Path.{refl}
 use lib.ListN.{length-set}
 use borrow.Author.Needs.{needs}
 use Rattle.refal_index.proofs.push.Statement.{statement}
 use Rattle.refal_index.proofs.push.Tie as tie
-use Rattle.refal_index.proofs.push.Reads as reads
-use Rattle.refal_index.proofs.push.Lts as lts
-use Rattle.refal_index.proofs.bucket.Reads as bucket-reads
 
 -- src/lib.rt:54:18
 bucket-requires : tie.Need-bucket-requires

@@ -1,15 +1,13 @@
+-- `refal_index::search` meets its contract.
 use native.Mathlib.Omega.{arith}
 use mathlib.Core.Bool.{false}
-use mathlib.Core.Path.{_≡_, refl, sym, ap, _∙_}
+use mathlib.Core.Path.{_≡_, sym, ap, _∙_}
 use Prim.Native.Nat.{_-_, _≤_}
 use Rattle.refal_files.specs.FileLaws.{rowAt}
 use Rattle.refal_index.specs.Named.{answersTo, seen, seen-none, seen-more, seen-hit}
 use borrow.Author.Needs.{needs}
 use Rattle.refal_index.proofs.search.Statement.{statement}
 use Rattle.refal_index.proofs.search.Tie as tie
-use Rattle.refal_index.proofs.search.Reads as reads
-use Rattle.refal_index.proofs.search.Lts as lts
-use Rattle.refal_index.proofs.answers.Reads as answers-reads
 
 abbrev Inv-loop : tie.InvT-loop
 Inv-loop tree1 src1 tree2 src2 g functions name i₀ i = (i ≤ g) × (seen (λ j. answersTo functions name (rowAt tree1 src1 tree2 src2 j)) i ≡ false)

@@ -1,16 +1,11 @@
+-- `refal_link::answer` meets its contract.
 use native.Mathlib.Omega.{arith}
-use mathlib.Core.Path.{_≡_, refl, sym, _∙_}
+use mathlib.Core.Path.{sym, _∙_}
 use borrow.Author.Tests.{not-true, not-false}
 use Rattle.refal_link.specs.LinkLaws.{lawful-length, unlawful-one, misspelled-one, unlawful-two, misspelled-two, both-checked}
 use borrow.Author.Needs.{needs}
 use Rattle.refal_link.proofs.answer.Statement.{statement}
 use Rattle.refal_link.proofs.answer.Tie as tie
-use Rattle.refal_link.proofs.answer.Reads as reads
-use Rattle.refal_link.proofs.answer.Lts as lts
-use Rattle.refal_link.proofs.link_rows.Reads as link-rows-reads
-use Rattle.refal_link.proofs.refused.Reads as refused-reads
-use Rattle.refal_spelling.proofs.spellings.Reads as spellings-reads
-use Rattle.refal_tree.proofs.lawful.Reads as lawful-reads
 
 -- src/lib.rt:216:9
 lawful-requires : tie.Need-lawful-requires

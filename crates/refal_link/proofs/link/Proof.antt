@@ -1,13 +1,10 @@
-use mathlib.Core.Path.{_≡_, refl, sym, ap, _∙_}
+-- `refal_link::link` meets its contract.
+use mathlib.Core.Path.{ap, _∙_}
 use Prim.Native.Nat.{ℕ}
-use lib.ListN.{length, replicate}
+use lib.ListN.{replicate}
 use borrow.Author.Needs.{needs}
 use Rattle.refal_link.proofs.link.Statement.{statement}
 use Rattle.refal_link.proofs.link.Tie as tie
-use Rattle.refal_link.proofs.link.Reads as reads
-use Rattle.refal_link.proofs.link.Lts as lts
-use Rattle.refal_link.proofs.answer.Reads as answer-reads
-use Rattle.refal_rows.proofs.clear.Reads as clear-reads
 
 -- src/lib.rt:243:9
 answer-requires : tie.Need-answer-requires

@@ -1,23 +1,13 @@
+-- `refal_link::link_rows` meets its contract.
 use native.Mathlib.Omega.{arith}
-use mathlib.Core.Path.{_≡_, refl, sym, ap, subst, _∙_}
-use mathlib.Core.List.{[]}
-use Prim.Native.Nat.{_+_, _-_, _<_, _≤_}
-use lib.ListN.{length}
+use mathlib.Core.Path.{_≡_, subst, _∙_}
+use Prim.Native.Nat.{_+_, _-_, _≤_}
 use Rattle.refal_files.specs.FileLaws.{rowAt}
-use Rattle.refal_index.specs.Named.{Sized, Holds, holds-cleared}
+use Rattle.refal_index.specs.Named.{Holds, holds-cleared}
 use Rattle.refal_link.specs.LinkLaws.{linked-60, linked-none}
 use borrow.Author.Needs.{needs}
 use Rattle.refal_link.proofs.link_rows.Statement.{statement}
 use Rattle.refal_link.proofs.link_rows.Tie as tie
-use Rattle.refal_link.proofs.link_rows.Reads as reads
-use Rattle.refal_link.proofs.link_rows.Lts as lts
-use Rattle.refal_files.proofs.count.Reads as count-reads
-use Rattle.refal_link.proofs.bucket_count.Reads as bucket-count-reads
-use Rattle.refal_link.proofs.refused_at.Reads as refused-at-reads
-use Rattle.refal_link.proofs.repeated.Reads as repeated-reads
-use Rattle.refal_link.proofs.resolve.Reads as resolve-reads
-use Rattle.refal_rows.proofs.clear.Reads as clear-reads
-use Rattle.refal_rows.proofs.least.Reads as least-reads
 
 -- src/lib.rt:194:13
 count-requires : tie.Need-count-requires

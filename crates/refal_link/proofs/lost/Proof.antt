@@ -1,22 +1,14 @@
+-- `refal_link::lost` meets its contract.
 use native.Mathlib.Omega.{arith}
-use mathlib.Core.Bool.{Bool, false, not, _&&_}
-use mathlib.Core.Path.{refl, sym, ap, _∙_}
+use mathlib.Core.Bool.{false, not}
+use mathlib.Core.Path.{sym, ap, _∙_}
 use mathlib.Core.List.{List}
 use Prim.Native.Nat.{ℕ}
-use lib.Dec.{eqb}
-use borrow.Author.Tests.{eq-eqb, ne-eqb}
-use Rattle.refal_ast.specs.Kinds.{nodeCall}
-use Rattle.refal_files.specs.FileLaws.{rowAt, bothCount}
+use Rattle.refal_files.specs.FileLaws.{rowAt}
 use Rattle.refal_index.specs.Named.{answersTo, seen}
 use Rattle.refal_link.specs.LinkLaws.{lost-not, lost-is}
-use borrow.Author.Needs.{needs}
 use Rattle.refal_link.proofs.lost.Statement.{statement}
 use Rattle.refal_link.proofs.lost.Tie as tie
-use Rattle.refal_link.proofs.lost.Reads as reads
-use Rattle.refal_link.proofs.lost.Lts as lts
-use Rattle.refal_files.proofs.kind.Reads as kind-reads
-use Rattle.refal_files.proofs.text.Reads as text-reads
-use Rattle.refal_index.proofs.known.Reads as known-reads
 
 -- src/lib.rt:132:8
 kind-requires : tie.Need-kind-requires

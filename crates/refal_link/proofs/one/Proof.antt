@@ -1,11 +1,9 @@
+-- `refal_link::one` meets its contract.
 use native.Mathlib.Omega.{arith}
 use mathlib.Core.Path.{refl}
 use borrow.Author.Tests.{eq-eqb, ne-eqb}
-use borrow.Author.Needs.{needs}
 use Rattle.refal_link.proofs.one.Statement.{statement}
 use Rattle.refal_link.proofs.one.Tie as tie
-use Rattle.refal_link.proofs.one.Reads as reads
-use Rattle.refal_link.proofs.one.Lts as lts
 
 -- src/lib.rt:140:1
 returns : tie.Need-returns

@@ -1,14 +1,11 @@
+-- `refal_link::refused_at` meets its contract.
 use native.Mathlib.Omega.{arith}
-use mathlib.Core.Path.{_≡_, ap, sym, _∙_}
+use mathlib.Core.Path.{ap, sym, _∙_}
 use Rattle.refal_files.specs.FileLaws.{row-one, row-two}
 use Rattle.refal_link.specs.Link.{shownAt}
 use borrow.Author.Needs.{needs}
 use Rattle.refal_link.proofs.refused_at.Statement.{statement}
 use Rattle.refal_link.proofs.refused_at.Tie as tie
-use Rattle.refal_link.proofs.refused_at.Reads as reads
-use Rattle.refal_link.proofs.refused_at.Lts as lts
-use Rattle.refal_files.proofs.count.Reads as count-reads
-use Rattle.refal_link.proofs.spanned.Reads as spanned-reads
 
 -- src/lib.rt:64:9
 count-requires : tie.Need-count-requires

@@ -1,3 +1,4 @@
+-- `refal_link::repeated` meets its contract.
 use native.Mathlib.Omega.{arith}
 use mathlib.Core.Path.{_≡_, refl, sym, ap, _∙_}
 use Prim.Native.Nat.{ℕ, _-_, _≤_}
@@ -8,10 +9,6 @@ use Rattle.refal_link.specs.LinkLaws.{OpenAt, atRow, open-start, open-hi
 use borrow.Author.Needs.{needs}
 use Rattle.refal_link.proofs.repeated.Statement.{statement}
 use Rattle.refal_link.proofs.repeated.Tie as tie
-use Rattle.refal_link.proofs.repeated.Reads as reads
-use Rattle.refal_link.proofs.repeated.Lts as lts
-use Rattle.refal_index.proofs.enter.Reads as enter-reads
-use Rattle.refal_link.proofs.repeats.Reads as repeats-reads
 
 abbrev Inv-loop : tie.InvT-loop
 Inv-loop work₀ n buckets tree1 src1 tree2 src2 g₀ work g = (g ≤ n) × OpenAt tree1 src1 tree2 src2 g × Holds work n buckets (rowAt tree1 src1 tree2 src2) g × (length work ≡ length work₀)

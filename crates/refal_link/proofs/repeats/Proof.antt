@@ -1,19 +1,14 @@
+-- `refal_link::repeats` meets its contract.
 use native.Mathlib.Omega.{arith}
 use mathlib.Core.Bool.{true}
-use mathlib.Core.Path.{refl, sym, ap, _∙_}
+use mathlib.Core.Path.{sym, ap, _∙_}
 use mathlib.Core.List.{List}
 use Prim.Native.Nat.{ℕ}
 use Rattle.refal_files.specs.FileLaws.{rowAt}
 use Rattle.refal_index.specs.Named.{answersTo, seen}
 use Rattle.refal_link.specs.LinkLaws.{repeats-not, repeats-is}
-use borrow.Author.Needs.{needs}
 use Rattle.refal_link.proofs.repeats.Statement.{statement}
 use Rattle.refal_link.proofs.repeats.Tie as tie
-use Rattle.refal_link.proofs.repeats.Reads as reads
-use Rattle.refal_link.proofs.repeats.Lts as lts
-use Rattle.refal_files.proofs.kind.Reads as kind-reads
-use Rattle.refal_files.proofs.text.Reads as text-reads
-use Rattle.refal_index.proofs.known.Reads as known-reads
 
 -- src/lib.rt:86:8
 kind-requires : tie.Need-kind-requires

@@ -1,19 +1,11 @@
+-- `refal_link::resolve` meets its contract.
 use native.Mathlib.Omega.{arith}
-use mathlib.Core.Path.{_≡_, refl, sym, ap, _∙_}
-use Prim.Native.Nat.{ℕ, _+_, _-_, _≤_}
-use lib.Dec.{eqb}
-use Rattle.refal_text.specs.Pick.{pick}
-use Rattle.refal_ast.specs.Kinds.{nodeCall}
+use mathlib.Core.Path.{sym, _∙_}
+use Prim.Native.Nat.{_-_, _≤_}
 use Rattle.refal_link.specs.LinkLaws.{Counting, calls-start, calls-hit, calls-next, calls-end}
 use borrow.Author.Needs.{needs}
 use Rattle.refal_link.proofs.resolve.Statement.{statement}
 use Rattle.refal_link.proofs.resolve.Tie as tie
-use Rattle.refal_link.proofs.resolve.Reads as reads
-use Rattle.refal_link.proofs.resolve.Lts as lts
-use Rattle.refal_files.proofs.kind.Reads as kind-reads
-use Rattle.refal_link.proofs.lost.Reads as lost-reads
-use Rattle.refal_link.proofs.one.Reads as one-reads
-use Rattle.refal_link.proofs.refused_at.Reads as refused-at-reads
 
 abbrev Inv-loop : tie.InvT-loop
 Inv-loop work n buckets tree1 src1 tree2 src2 found₀ g₀ found g = (g ≤ n) × (found ≤ g) × Counting tree1 src1 tree2 src2 g found

@@ -1,12 +1,8 @@
+-- `refal_link::spanned` meets its contract.
 use mathlib.Core.Path.{refl, _∙_}
 use borrow.Author.Needs.{needs}
 use Rattle.refal_link.proofs.spanned.Statement.{statement}
 use Rattle.refal_link.proofs.spanned.Tie as tie
-use Rattle.refal_link.proofs.spanned.Reads as reads
-use Rattle.refal_link.proofs.spanned.Lts as lts
-use Rattle.refal_ast.proofs.nodes.span_from.Reads as span-from-reads
-use Rattle.refal_ast.proofs.nodes.span_to.Reads as span-to-reads
-use Rattle.refal_link.proofs.wide.Reads as wide-reads
 
 -- src/lib.rt:47:22
 span-from-requires : tie.Need-span-from-requires
