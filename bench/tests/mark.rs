@@ -3,6 +3,7 @@
 use bench::mark;
 use compare::runs::{Size, compare};
 use oracle::cases::{Case, Functions, Reference};
+use oracle::reference::link::File;
 use oracle::terms::Answer;
 
 struct Mark;
@@ -25,6 +26,9 @@ impl Functions for Mark {
     }
     fn write(&self, tree: &[u32], src: &[u8], out: &mut [u8]) -> Answer {
         Reference.write(tree, src, out)
+    }
+    fn link(&self, one: File<'_>, two: File<'_>, work: &mut [u32]) -> Answer {
+        Reference.link(one, two, work)
     }
 }
 

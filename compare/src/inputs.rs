@@ -1,16 +1,18 @@
 //! Random calls from a seed.
 
 use oracle::cases::Case;
-use oracle::generate::{Rng, sources, tokens, trees};
+use oracle::generate::{Rng, files, sources, tokens, trees};
 use oracle::reference::{parse, read, write};
+use oracle::terms::NODE_WIDTH;
 
-/// A random call of any of the six functions, lent about as much as it needs.
+/// A random call of any of the seven functions, lent about as much as it needs.
 pub fn any(rng: &mut Rng) -> Case {
-    match rng.below(12) {
+    match rng.below(14) {
         0 => name(rng),
         1..=5 => reading(rng),
         6..=8 => parsing(rng),
-        _ => writing(rng),
+        9..=11 => writing(rng),
+        _ => linking(rng),
     }
 }
 
@@ -81,4 +83,23 @@ pub fn writing(rng: &mut Rng) -> Case {
     let exact = write::text(&tree, &src).map_or_else(|_| rng.below(30), |text| text.len());
     let lent = lent(rng, exact, 4);
     Case::Write { tree, src, lent }
+}
+
+pub fn linking(rng: &mut Rng) -> Case {
+    let (tree1, src1) = files::any(rng, 4);
+    let (tree2, src2) = if rng.once_in(2) {
+        files::declarations()
+    } else {
+        files::any(rng, 4)
+    };
+    let rows = (tree1.len() + tree2.len()) / NODE_WIDTH;
+    let exact = rng.below(3) * rows;
+    let lent = lent(rng, exact, NODE_WIDTH);
+    Case::Link {
+        tree1,
+        src1,
+        tree2,
+        src2,
+        lent,
+    }
 }

@@ -1,6 +1,7 @@
 //! librefal5.a's functions as safe Rust ones.
 
 use oracle::cases::{Case, Functions};
+use oracle::reference::link::File;
 use oracle::terms::Answer;
 
 /// Whether the archive was there when this was built.
@@ -16,6 +17,7 @@ pub fn has(case: &Case) -> bool {
             Case::Read { .. } => cfg!(feature = "read"),
             Case::Parse { .. } => cfg!(feature = "parse"),
             Case::Write { .. } => cfg!(feature = "write"),
+            Case::Link { .. } => cfg!(feature = "link"),
         }
 }
 
@@ -55,6 +57,20 @@ mod c {
             k: usize,
             out: *mut u8,
             m: usize,
+            answer: *mut u64,
+        );
+        #[cfg(feature = "link")]
+        pub fn refal5_link(
+            tree1: *const u32,
+            n1: usize,
+            src1: *const u8,
+            m1: usize,
+            tree2: *const u32,
+            n2: usize,
+            src2: *const u8,
+            m2: usize,
+            work: *mut u32,
+            w: usize,
             answer: *mut u64,
         );
     }
@@ -165,6 +181,32 @@ impl Functions for Library {
     fn write(&self, tree: &[u32], src: &[u8], out: &mut [u8]) -> Answer {
         oracle::reference::write(tree, src, out)
     }
+
+    #[cfg(feature = "link")]
+    fn link(&self, one: File<'_>, two: File<'_>, work: &mut [u32]) -> Answer {
+        let mut answer = UNSET;
+        // Sound: each pointer comes from a slice with the length beside it.
+        unsafe {
+            c::refal5_link(
+                one.tree.as_ptr(),
+                one.tree.len(),
+                one.src.as_ptr(),
+                one.src.len(),
+                two.tree.as_ptr(),
+                two.tree.len(),
+                two.src.as_ptr(),
+                two.src.len(),
+                work.as_mut_ptr(),
+                work.len(),
+                answer.as_mut_ptr(),
+            );
+        }
+        answer
+    }
+    #[cfg(not(feature = "link"))]
+    fn link(&self, one: File<'_>, two: File<'_>, work: &mut [u32]) -> Answer {
+        oracle::reference::link(one, two, work)
+    }
 }
 
 #[cfg(not(library))]
@@ -186,5 +228,8 @@ impl Functions for Library {
     }
     fn write(&self, tree: &[u32], src: &[u8], out: &mut [u8]) -> Answer {
         oracle::reference::write(tree, src, out)
+    }
+    fn link(&self, one: File<'_>, two: File<'_>, work: &mut [u32]) -> Answer {
+        oracle::reference::link(one, two, work)
     }
 }

@@ -13,6 +13,8 @@ enum Edit {
     CutBoth(usize),
     /// Leaves out a tree's node and all below it, and puts the nexts right.
     Prune(usize, usize),
+    /// The same of a second tree.
+    PruneSecond(usize, usize),
     /// Makes a word 0.
     Zero(usize),
     /// Lends less.
@@ -64,10 +66,20 @@ fn edits(case: &Case) -> Vec<Edit> {
             lent = *l;
         }
         Case::Write { tree, src, lent: l } => {
-            prunings(tree, &mut edits);
+            prunings(tree, Edit::Prune, &mut edits);
             cuts(tree.len(), 7, Edit::Cut, &mut edits);
             words(tree, &mut edits);
             cuts(src.len(), 1, Edit::CutSecond, &mut edits);
+            lent = *l;
+        }
+        Case::Link {
+            tree1,
+            tree2,
+            lent: l,
+            ..
+        } => {
+            prunings(tree1, Edit::Prune, &mut edits);
+            prunings(tree2, Edit::PruneSecond, &mut edits);
             lent = *l;
         }
     }
@@ -99,12 +111,12 @@ fn words(words: &[u32], edits: &mut Vec<Edit>) {
     edits.extend(nonzero.map(Edit::Zero));
 }
 
-fn prunings(tree: &[u32], edits: &mut Vec<Edit>) {
+fn prunings(tree: &[u32], prune: fn(usize, usize) -> Edit, edits: &mut Vec<Edit>) {
     let rows = tree.len() / 7;
     for at in 0..rows {
         let end = tree[7 * at + 6] as usize;
         if at < end && end <= rows {
-            edits.push(Edit::Prune(at, end));
+            edits.push(prune(at, end));
         }
     }
 }
@@ -144,6 +156,13 @@ fn apply(case: &Case, edit: Edit) -> Case {
                 }
             }
             _ => edit_words(tree, edit),
+        },
+        Case::Link {
+            tree1, tree2, lent, ..
+        } => match edit {
+            Edit::Lend(less) => *lent = less,
+            Edit::PruneSecond(at, end) => edit_words(tree2, Edit::Prune(at, end)),
+            _ => edit_words(tree1, edit),
         },
     }
     case

@@ -2,6 +2,7 @@
 
 use compare::runs::{Size, compare};
 use oracle::cases::{Functions, Reference};
+use oracle::reference::link::File;
 use oracle::reference::parse::{checked, first_left_off};
 use oracle::terms::{Answer, node, token};
 
@@ -22,6 +23,8 @@ enum Fault {
     SpanOfLeftOff,
     SemicolonWritten,
     LeftOffAnywhere,
+    OtherFile,
+    WorkLeft,
 }
 
 /// The reference with one fault put in.
@@ -112,6 +115,19 @@ impl Functions for Faulty {
         }
         answer
     }
+    fn link(&self, one: File<'_>, two: File<'_>, work: &mut [u32]) -> Answer {
+        let mut answer = Reference.link(one, two, work);
+        match self.0 {
+            Fault::OtherFile if answer[0] == 60 => answer[3] ^= 3,
+            Fault::WorkLeft if answer[0] == 61 => {
+                if let Some(word) = work.last_mut() {
+                    *word = 1;
+                }
+            }
+            _ => (),
+        }
+        answer
+    }
 }
 
 /// The tree with no `;` left off.
@@ -148,6 +164,8 @@ fn are_found() {
         Fault::SpanOfLeftOff,
         Fault::SemicolonWritten,
         Fault::LeftOffAnywhere,
+        Fault::OtherFile,
+        Fault::WorkLeft,
     ] {
         let found = compare(&Faulty(fault), |_| true, 1, size, |_| ());
         let found = found.expect_err(&format!("{fault:?} is not found"));

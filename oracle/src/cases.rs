@@ -1,6 +1,7 @@
 //! One call of one function with what is lent to it, and all that it leaves.
 
 use crate::reference;
+use crate::reference::link::File;
 use crate::terms::Answer;
 
 /// What lent output holds before a call, so that what must stay can be told.
@@ -37,6 +38,13 @@ pub enum Case {
         src: Vec<u8>,
         lent: usize,
     },
+    Link {
+        tree1: Vec<u32>,
+        src1: Vec<u8>,
+        tree2: Vec<u32>,
+        src2: Vec<u8>,
+        lent: usize,
+    },
 }
 
 /// The answer and the whole of the lent output after the call.
@@ -57,7 +65,7 @@ impl Outcome {
     }
 }
 
-/// The six functions, in the shape of the exported C functions.
+/// The seven functions, in the shape of the exported C functions.
 pub trait Functions {
     fn canonical_name(&self, name: &[u8], out: &mut [u8]) -> Answer;
     fn canonical_index(&self, name: &[u8], out: &mut [u8]) -> Answer;
@@ -65,6 +73,7 @@ pub trait Functions {
     fn read(&self, src: &[u8], rows: &mut [u32]) -> Answer;
     fn parse(&self, tokens: &[u32], rows: &mut [u32]) -> Answer;
     fn write(&self, tree: &[u32], src: &[u8], out: &mut [u8]) -> Answer;
+    fn link(&self, one: File<'_>, two: File<'_>, work: &mut [u32]) -> Answer;
 }
 
 /// The plain reference.
@@ -89,6 +98,9 @@ impl Functions for Reference {
     fn write(&self, tree: &[u32], src: &[u8], out: &mut [u8]) -> Answer {
         reference::write(tree, src, out)
     }
+    fn link(&self, one: File<'_>, two: File<'_>, work: &mut [u32]) -> Answer {
+        reference::link(one, two, work)
+    }
 }
 
 /// Makes the call and gives all that it left. Panics where the call touched what was not lent for
@@ -102,6 +114,23 @@ pub fn run(case: &Case, functions: &impl Functions) -> Outcome {
         Case::Read { src, lent } => words(*lent, |rows| functions.read(src, rows)),
         Case::Parse { tokens, lent } => words(*lent, |rows| functions.parse(tokens, rows)),
         Case::Write { tree, src, lent } => bytes(*lent, |out| functions.write(tree, src, out)),
+        Case::Link {
+            tree1,
+            src1,
+            tree2,
+            src2,
+            lent,
+        } => {
+            let one = File {
+                tree: tree1,
+                src: src1,
+            };
+            let two = File {
+                tree: tree2,
+                src: src2,
+            };
+            words(*lent, |work| functions.link(one, two, work))
+        }
     };
     assert!(before == *case, "what was lent for reading changed");
     outcome
@@ -142,7 +171,7 @@ pub fn original_agrees(case: &Case, outcome: &Outcome) -> bool {
     use crate::terms::{put_bytes, put_rows};
     let added = matches!(
         outcome.number(),
-        1 | 2 | 25 | 30 | 37 | 38 | 40 | 41 | 42 | 50
+        1 | 2 | 25 | 30 | 37 | 38 | 40 | 41 | 42 | 50 | 60 | 61
     );
     if added {
         return true;
@@ -173,7 +202,7 @@ pub fn original_agrees(case: &Case, outcome: &Outcome) -> bool {
                 .collect();
             original::parse(&rows).map(|tree| words(*lent, |out| put_rows(tree, 38, out)))
         }
-        Case::Write { .. } => None,
+        Case::Write { .. } | Case::Link { .. } => None,
     };
     theirs.is_none_or(|theirs| theirs == *outcome)
 }

@@ -4,6 +4,8 @@
 pub type TokenRow = [u32; 6];
 /// Words of a node row: those of a token row, then the row after the node's subtree.
 pub type NodeRow = [u32; 7];
+/// How many words a node row has.
+pub const NODE_WIDTH: usize = size_of::<NodeRow>() / size_of::<u32>();
 /// Refusal number or 0, count, expected, found, span start, span end, need.
 pub type Answer = [u64; 7];
 

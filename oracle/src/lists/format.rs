@@ -18,12 +18,27 @@ pub fn line(case: &Case, outcome: &Outcome) -> String {
         Case::Write { tree, src, lent } => {
             format!("write {} {} {lent:x}", words(tree), bytes(src))
         }
+        Case::Link {
+            tree1,
+            src1,
+            tree2,
+            src2,
+            lent,
+        } => format!(
+            "link {} {} {} {} {lent:x}",
+            words(tree1),
+            bytes(src1),
+            words(tree2),
+            bytes(src2)
+        ),
     };
     let output = match outcome {
         Outcome::Truth(truth) => u8::from(*truth).to_string(),
         Outcome::Bytes(answer, out) => {
             format!("{} {}", words(answer), bytes(&out[..put(case, answer)]))
         }
+        // The words lent are 0 after any answer.
+        Outcome::Words(answer, _) if matches!(case, Case::Link { .. }) => words(answer),
         Outcome::Words(answer, out) => {
             format!("{} {}", words(answer), words(&out[..put(case, answer)]))
         }
@@ -108,6 +123,17 @@ fn case_of(line: &str) -> Option<(Case, Outcome)> {
                 Case::Write { tree, src, lent },
                 bytes_outcome(answer, out, lent)?,
             )
+        }
+        ["link", tree1, src1, tree2, src2, lent, answer] => {
+            let lent = number_of(lent)?;
+            let case = Case::Link {
+                tree1: words_of(tree1)?,
+                src1: bytes_of(src1)?,
+                tree2: words_of(tree2)?,
+                src2: bytes_of(src2)?,
+                lent,
+            };
+            (case, Outcome::Words(answer_of(answer)?, vec![0; lent]))
         }
         _ => return None,
     })

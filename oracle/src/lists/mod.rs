@@ -1,6 +1,7 @@
 //! The fixed lists of tests/vectors: how they are made, written and read back.
 
 pub mod format;
+pub mod linking;
 pub mod names;
 pub mod parsing;
 pub mod reading;
@@ -19,7 +20,7 @@ pub struct List {
     pub cases: fn() -> Vec<Case>,
 }
 
-pub const LISTS: [List; 4] = [
+pub const LISTS: [List; 5] = [
     List {
         file: "names.txt",
         title: "canonical names, canonical indices, equality of names",
@@ -39,6 +40,11 @@ pub const LISTS: [List; 4] = [
         file: "write.txt",
         title: "writing: node rows and source to text",
         cases: writing::cases,
+    },
+    List {
+        file: "link.txt",
+        title: "linking: two files' node rows and sources to a number of calls",
+        cases: linking::cases,
     },
 ];
 

@@ -131,7 +131,7 @@ fn record(case: &Case) -> Option<Vec<u8>> {
         Case::Index { name, lent } => line(b'i', name, *lent),
         Case::Equal { a, b } => line(b'e', &[&a[..], b].concat(), a.len()),
         Case::Read { src, lent } => line(b'r', src, *lent),
-        Case::Parse { .. } | Case::Write { .. } => None,
+        Case::Parse { .. } | Case::Write { .. } | Case::Link { .. } => None,
     }
 }
 

@@ -4,6 +4,7 @@
 //! Simple and slow on purpose. Each function has the exported C function's shape: what is lent for
 //! reading, what is lent for output, and the seven words of the answer.
 
+pub mod link;
 pub mod names;
 pub mod parse;
 pub mod read;
@@ -11,6 +12,7 @@ pub mod spelling;
 pub mod utf8;
 pub mod write;
 
+pub use link::link;
 pub use names::{canonical_index, canonical_name, names_equal};
 pub use parse::parse;
 pub use read::read;

@@ -19,10 +19,7 @@ pub fn write(tree: &[u32], src: &[u8], out: &mut [u8]) -> Answer {
 
 /// The text, or 40 or 41.
 pub fn text(words: &[u32], src: &[u8]) -> Result<Vec<u8>, Refusal> {
-    let rows = lawful_rows(words).ok_or(Refusal::plain(40))?;
-    if !rows.iter().all(|row| text_is_good(row, src)) {
-        return Err(Refusal::plain(41));
-    }
+    let rows = checked(words, src)?;
     let mut writer = Writer {
         rows: &rows,
         src,
@@ -30,6 +27,15 @@ pub fn text(words: &[u32], src: &[u8]) -> Result<Vec<u8>, Refusal> {
     };
     writer.nodes(0, rows.len());
     Ok(writer.text)
+}
+
+/// The rows of a tree that passes 40 and 41, or the refusal.
+pub fn checked(words: &[u32], src: &[u8]) -> Result<Vec<NodeRow>, Refusal> {
+    let rows = lawful_rows(words).ok_or(Refusal::plain(40))?;
+    if !rows.iter().all(|row| text_is_good(row, src)) {
+        return Err(Refusal::plain(41));
+    }
+    Ok(rows)
 }
 
 /// The rows of a lawful tree of depth 64 or less.
