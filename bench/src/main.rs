@@ -1,6 +1,6 @@
 //! Times the original, the proved library and the mark in one run, and prints tables.
 
-use bench::measure::{Effort, Measured, measure, reading, whole};
+use bench::measure::{Effort, Measured, Written, measure, reading, whole, written};
 use bench::memory::{Counting, original_peak};
 use bench::{linking, plot, table};
 use oracle::generate::delivery::{HOSTILE, delivery, hostile};
@@ -22,7 +22,8 @@ bench: times the original, the proved library and an unverified mark in one run
   --quick      deliveries of 64 KiB and 1 MiB, hostile files of 1 MiB, few repetitions
   --deliveries no hostile files
   --seed N     the seed of the deliveries (default 1)
-  --growth     only the library's reading of hostile files of 1, 4 and 16 MiB
+  --growth     only the library's reading of hostile files of 1, 4 and 16 MiB, and its writing of trees of
+               hostile files whose texts have 1, 2, 4, 8 and 16 MiB
   --linking    only linking of rules of 1 to 16 MiB against parsing, and of small ones without work words
   --svg FILE   writes a plot of the time over the size of a delivery
 
@@ -47,7 +48,8 @@ fn main() -> ExitCode {
                 None => return usage(),
             },
             "--growth" => {
-                print!("{}", table::growth(&growth()));
+                print!("{}", table::growth_of_reading(&growth_of_reading()));
+                print!("{}", table::growth_of_writing(&growth_of_writing()));
                 return ExitCode::SUCCESS;
             }
             "--linking" => {
@@ -132,7 +134,7 @@ fn main() -> ExitCode {
 }
 
 /// The library's seconds of reading each hostile file, and comments that are opened and never closed, by size.
-fn growth() -> Vec<(String, Vec<(usize, f64)>)> {
+fn growth_of_reading() -> Vec<(String, Vec<(usize, f64)>)> {
     let sizes = [1 << 20, 4 << 20, MAX_SOURCE];
     let names = HOSTILE.iter().copied().chain(["open-comments"]);
     let timed = names.map(|name| {
@@ -144,6 +146,26 @@ fn growth() -> Vec<(String, Vec<(usize, f64)>)> {
             (src.len(), reading(src.as_bytes()))
         });
         (name.to_string(), times.collect())
+    });
+    timed.collect()
+}
+
+/// The library's writing of the tree of each hostile file that has tokens, and of one number, by the size of the text.
+fn growth_of_writing() -> Vec<(String, Vec<Written>)> {
+    let names = HOSTILE.iter().copied().chain(["one-number"]);
+    let timed = names.filter_map(|name| {
+        let source = |size: usize| match name {
+            "one-number" => format!("F {{ {} = ; }}", "0".repeat(size - 16)),
+            _ => hostile(name, size),
+        };
+        // How much longer than its source the text is, from a small one.
+        let few = source(1 << 16);
+        let bytes = written(&few).bytes;
+        let times = (20..=24).map(|n| {
+            let size = (few.len() << n) / bytes;
+            written(&source((size - size / 256).min(MAX_SOURCE)))
+        });
+        (bytes >= table::FEW).then(|| (name.to_string(), times.collect()))
     });
     timed.collect()
 }

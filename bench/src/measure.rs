@@ -206,6 +206,43 @@ pub fn reading(src: &[u8]) -> f64 {
     median(times).unwrap_or_default()
 }
 
+/// A source's tree written by the library: the text's bytes, and seconds of writing it and of asking with nothing lent how
+/// long it is, the least of five each.
+#[derive(Debug, Clone, Copy)]
+pub struct Written {
+    pub bytes: usize,
+    pub write: f64,
+    pub ask: f64,
+}
+
+pub fn written(src: &str) -> Written {
+    let src = src.as_bytes();
+    let mut rows = vec![1u32; 6 * (src.len() + 1)];
+    let tokens = mark::read(src, &mut rows)[1] as usize;
+    rows.truncate(6 * tokens);
+    let mut tree = vec![1u32; 7 * mark::parse(&rows, &mut [])[6] as usize];
+    mark::parse(&rows, &mut tree);
+    drop(rows);
+    let mut text = vec![1; Library.write(&tree, src, &mut [])[6] as usize];
+    let mut write = Vec::new();
+    let mut ask = Vec::new();
+    for _ in 0..5 {
+        let (seconds, answer) = time(|| Library.write(black_box(&tree), src, &mut text));
+        assert_eq!(answer[0], 0, "a text of {} bytes is written", text.len());
+        write.push(seconds);
+        ask.push(time(|| Library.write(black_box(&tree), src, &mut [])).0);
+    }
+    Written {
+        bytes: text.len(),
+        write: least(&write),
+        ask: least(&ask),
+    }
+}
+
+fn least(times: &[f64]) -> f64 {
+    times.iter().copied().fold(f64::INFINITY, f64::min)
+}
+
 /// None where the text would be too long.
 fn writing(src: &str, tree: &[u32], effort: Effort) -> Option<Writing> {
     let answer = Library.write(tree, src.as_bytes(), &mut []);

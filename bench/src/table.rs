@@ -1,6 +1,6 @@
 //! The measurements as tables in Markdown.
 
-use crate::measure::{Measured, Times, Whole};
+use crate::measure::{Measured, Times, Whole, Written};
 
 /// An input of fewer tokens says nothing on the time of one.
 pub const FEW: usize = 1000;
@@ -121,8 +121,8 @@ pub fn whole(rows: &[(&Measured, Whole)]) -> String {
     text
 }
 
-/// Nanoseconds a byte at each size: about the same where the time is linear.
-pub fn growth(rows: &[(String, Vec<(usize, f64)>)]) -> String {
+/// Nanoseconds a byte at each size: about the same where the time is linear. The bytes are the source's.
+pub fn growth_of_reading(rows: &[(String, Vec<(usize, f64)>)]) -> String {
     let mut text = String::from(
         "## Growth of reading\n\n\
          | input | 1 MiB, ns a byte | 4 MiB, ns a byte | 16 MiB, ns a byte |\n\
@@ -131,11 +131,33 @@ pub fn growth(rows: &[(String, Vec<(usize, f64)>)]) -> String {
     for (name, times) in rows {
         let cells: Vec<String> = times
             .iter()
-            .map(|(bytes, time)| format!("{:.2}", time / *bytes as f64 * 1e9))
+            .map(|&(bytes, time)| a_byte(bytes, time))
             .collect();
         text.push_str(&format!("| {name} | {} |\n", cells.join(" | ")));
     }
+    text.push('\n');
     text
+}
+
+/// The same of writing. The bytes are the text's.
+pub fn growth_of_writing(rows: &[(String, Vec<Written>)]) -> String {
+    let mut text = String::from(
+        "## Growth of writing\n\n\
+         | input | text of 1 MiB, ns a byte | 2 MiB | 4 MiB | 8 MiB | 16 MiB \
+         | 16 MiB, nothing lent |\n\
+         |---|---|---|---|---|---|---|\n",
+    );
+    for (name, times) in rows {
+        let written = times.iter().map(|w| a_byte(w.bytes, w.write));
+        let asked = times.last().map(|w| a_byte(w.bytes, w.ask));
+        let cells: Vec<String> = written.chain(asked).collect();
+        text.push_str(&format!("| {name} | {} |\n", cells.join(" | ")));
+    }
+    text
+}
+
+fn a_byte(bytes: usize, time: f64) -> String {
+    format!("{:.2}", time / bytes as f64 * 1e9)
 }
 
 /// Peak memory: what the original holds, and the rows lent to the library.
