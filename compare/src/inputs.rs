@@ -2,16 +2,19 @@
 
 use oracle::cases::Case;
 use oracle::generate::{Rng, files, sources, tokens, trees};
+use oracle::lists::reals;
+use oracle::reference::real::form;
 use oracle::reference::{parse, read, write};
 use oracle::terms::NODE_WIDTH;
 
-/// A random call of any of the seven functions, lent about as much as it needs.
+/// A random call of any of the functions, lent about as much as it needs.
 pub fn any(rng: &mut Rng) -> Case {
-    match rng.below(14) {
+    match rng.below(15) {
         0 => name(rng),
         1..=5 => reading(rng),
         6..=8 => parsing(rng),
         9..=11 => writing(rng),
+        12 => real(rng),
         _ => linking(rng),
     }
 }
@@ -62,6 +65,18 @@ fn name(rng: &mut Rng) -> Case {
             Case::Equal { a: name, b }
         }
     }
+}
+
+/// A real, or almost one; or two of almost the same value.
+pub fn real(rng: &mut Rng) -> Case {
+    let text = reals::text(rng);
+    if rng.once_in(3) {
+        let b = reals::respelled(rng, &text);
+        return Case::Reals { a: text, b };
+    }
+    let exact = form(&text).map_or_else(|_| rng.below(9), |form| form.digits.len());
+    let lent = lent(rng, exact, 4);
+    Case::Real { text, lent }
 }
 
 pub fn reading(rng: &mut Rng) -> Case {

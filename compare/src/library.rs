@@ -18,6 +18,7 @@ pub fn has(case: &Case) -> bool {
             Case::Parse { .. } => cfg!(feature = "parse"),
             Case::Write { .. } => cfg!(feature = "write"),
             Case::Link { .. } => cfg!(feature = "link"),
+            Case::Real { .. } | Case::Reals { .. } => cfg!(feature = "real"),
         }
 }
 
@@ -71,6 +72,15 @@ mod c {
             m2: usize,
             work: *mut u32,
             w: usize,
+            answer: *mut u64,
+        );
+        #[cfg(feature = "real")]
+        pub fn refal5_real(
+            text: *const u8,
+            n: usize,
+            digits: *mut u8,
+            m: usize,
+            form: *mut u64,
             answer: *mut u64,
         );
     }
@@ -206,6 +216,24 @@ impl Functions for Library {
     #[cfg(not(feature = "link"))]
     fn link(&self, one: File<'_>, two: File<'_>, work: &mut [u32]) -> Answer {
         oracle::reference::link(one, two, work)
+    }
+
+    #[cfg(feature = "real")]
+    fn real(&self, text: &[u8], digits: &mut [u8], form: &mut [u64; 3]) -> Answer {
+        let mut answer = UNSET;
+        // Sound: each pointer comes from a slice with the length beside it, or from an array of
+        // the length that the function takes.
+        unsafe {
+            c::refal5_real(
+                text.as_ptr(),
+                text.len(),
+                digits.as_mut_ptr(),
+                digits.len(),
+                form.as_mut_ptr(),
+                answer.as_mut_ptr(),
+            );
+        }
+        answer
     }
 }
 

@@ -51,12 +51,12 @@ fn edits(case: &Case) -> Vec<Edit> {
             cuts(name.len(), 1, Edit::Cut, &mut edits);
             lent = *l;
         }
-        Case::Equal { a, b } => {
+        Case::Equal { a, b } | Case::Reals { a, b } => {
             cuts(a.len(), 1, Edit::Cut, &mut edits);
             cuts(b.len(), 1, Edit::CutSecond, &mut edits);
             edits.extend((0..a.len().min(b.len())).map(Edit::CutBoth));
         }
-        Case::Read { src, lent: l } => {
+        Case::Read { src, lent: l } | Case::Real { text: src, lent: l } => {
             cuts(src.len(), 1, Edit::Cut, &mut edits);
             lent = *l;
         }
@@ -126,12 +126,13 @@ fn apply(case: &Case, edit: Edit) -> Case {
     match &mut case {
         Case::Name { name: input, lent }
         | Case::Index { name: input, lent }
-        | Case::Read { src: input, lent } => match edit {
+        | Case::Read { src: input, lent }
+        | Case::Real { text: input, lent } => match edit {
             Edit::Cut(start, end) => drop(input.drain(start..end)),
             Edit::Lend(less) => *lent = less,
             _ => (),
         },
-        Case::Equal { a, b } => match edit {
+        Case::Equal { a, b } | Case::Reals { a, b } => match edit {
             Edit::Cut(start, end) => drop(a.drain(start..end)),
             Edit::CutSecond(start, end) => drop(b.drain(start..end)),
             Edit::CutBoth(at) => {

@@ -7,6 +7,7 @@ use crate::terms::Answer;
 /// What lent output holds before a call, so that what must stay can be told.
 pub const FILL: u8 = 0xa5;
 pub const FILL_WORD: u32 = 0xa5a5_a5a5;
+const FILL_FORM: [u64; 3] = [0xa5a5_a5a5_a5a5_a5a5; 3];
 /// Words and bytes on both sides of lent output that no call may touch.
 const GUARD: usize = 8;
 
@@ -45,6 +46,15 @@ pub enum Case {
         src2: Vec<u8>,
         lent: usize,
     },
+    Real {
+        text: Vec<u8>,
+        lent: usize,
+    },
+    /// Two reals: whether their normal forms are equal.
+    Reals {
+        a: Vec<u8>,
+        b: Vec<u8>,
+    },
 }
 
 /// The answer and the whole of the lent output after the call.
@@ -52,6 +62,7 @@ pub enum Case {
 pub enum Outcome {
     Bytes(Answer, Vec<u8>),
     Words(Answer, Vec<u32>),
+    Form(Answer, [u64; 3], Vec<u8>),
     Truth(bool),
 }
 
@@ -59,13 +70,13 @@ impl Outcome {
     /// The refusal's number, or 0.
     pub fn number(&self) -> u64 {
         match self {
-            Self::Bytes(answer, _) | Self::Words(answer, _) => answer[0],
+            Self::Bytes(answer, _) | Self::Words(answer, _) | Self::Form(answer, _, _) => answer[0],
             Self::Truth(_) => 0,
         }
     }
 }
 
-/// The seven functions, in the shape of the exported C functions.
+/// The functions, in the shape of the exported C functions.
 pub trait Functions {
     fn canonical_name(&self, name: &[u8], out: &mut [u8]) -> Answer;
     fn canonical_index(&self, name: &[u8], out: &mut [u8]) -> Answer;
@@ -74,6 +85,20 @@ pub trait Functions {
     fn parse(&self, tokens: &[u32], rows: &mut [u32]) -> Answer;
     fn write(&self, tree: &[u32], src: &[u8], out: &mut [u8]) -> Answer;
     fn link(&self, one: File<'_>, two: File<'_>, work: &mut [u32]) -> Answer;
+    fn real(&self, text: &[u8], digits: &mut [u8], form: &mut [u64; 3]) -> Answer {
+        reference::real(text, digits, form)
+    }
+    /// Whether two reals have one normal form.
+    fn same_reals(&self, a: &[u8], b: &[u8]) -> bool {
+        let form = |text: &[u8]| {
+            let mut digits = vec![0; text.len()];
+            let mut form = [0; 3];
+            let answer = self.real(text, &mut digits, &mut form);
+            digits.truncate(answer[1] as usize);
+            (answer[0] == 0).then_some((form, digits))
+        };
+        form(a).is_some_and(|a| form(b) == Some(a))
+    }
 }
 
 /// The plain reference.
@@ -100,6 +125,10 @@ impl Functions for Reference {
     }
     fn link(&self, one: File<'_>, two: File<'_>, work: &mut [u32]) -> Answer {
         reference::link(one, two, work)
+    }
+    /// By their values, not by their forms.
+    fn same_reals(&self, a: &[u8], b: &[u8]) -> bool {
+        reference::real::same_value(a, b)
     }
 }
 
@@ -131,6 +160,12 @@ pub fn run(case: &Case, functions: &impl Functions) -> Outcome {
             };
             words(*lent, |work| functions.link(one, two, work))
         }
+        Case::Real { text, lent } => {
+            let mut form = FILL_FORM;
+            let (answer, out) = guarded(FILL, *lent, |out| functions.real(text, out, &mut form));
+            Outcome::Form(answer, form, out)
+        }
+        Case::Reals { a, b } => Outcome::Truth(functions.same_reals(a, b)),
     };
     assert!(before == *case, "what was lent for reading changed");
     outcome
@@ -202,7 +237,7 @@ pub fn original_agrees(case: &Case, outcome: &Outcome) -> bool {
                 .collect();
             original::parse(&rows).map(|tree| words(*lent, |out| put_rows(tree, 38, out)))
         }
-        Case::Write { .. } | Case::Link { .. } => None,
+        Case::Write { .. } | Case::Link { .. } | Case::Real { .. } | Case::Reals { .. } => None,
     };
     theirs.is_none_or(|theirs| theirs == *outcome)
 }

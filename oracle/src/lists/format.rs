@@ -31,6 +31,8 @@ pub fn line(case: &Case, outcome: &Outcome) -> String {
             words(tree2),
             bytes(src2)
         ),
+        Case::Real { text, lent } => format!("real {} {lent:x}", bytes(text)),
+        Case::Reals { a, b } => format!("reals {} {}", bytes(a), bytes(b)),
     };
     let output = match outcome {
         Outcome::Truth(truth) => u8::from(*truth).to_string(),
@@ -41,6 +43,10 @@ pub fn line(case: &Case, outcome: &Outcome) -> String {
         Outcome::Words(answer, _) if matches!(case, Case::Link { .. }) => words(answer),
         Outcome::Words(answer, out) => {
             format!("{} {}", words(answer), words(&out[..put(case, answer)]))
+        }
+        Outcome::Form(answer, form, out) => {
+            let digits = bytes(&out[..put(case, answer)]);
+            format!("{} {} {digits}", words(answer), words(form))
         }
     };
     format!("{input} {output}")
@@ -88,6 +94,22 @@ fn case_of(line: &str) -> Option<(Case, Outcome)> {
                 b: bytes_of(b)?,
             };
             (case, Outcome::Truth(truth == "1"))
+        }
+        ["reals", a, b, truth] => {
+            let case = Case::Reals {
+                a: bytes_of(a)?,
+                b: bytes_of(b)?,
+            };
+            (case, Outcome::Truth(truth == "1"))
+        }
+        ["real", text, lent, answer, form, out] => {
+            let text = bytes_of(text)?;
+            let lent = number_of(lent)?;
+            let Outcome::Bytes(answer, out) = bytes_outcome(answer, out, lent)? else {
+                return None;
+            };
+            let form = long_words_of(form)?.try_into().ok()?;
+            (Case::Real { text, lent }, Outcome::Form(answer, form, out))
         }
         ["name", name, lent, answer, out] => {
             let name = bytes_of(name)?;
@@ -162,12 +184,14 @@ fn words_of(text: &str) -> Option<Vec<u32>> {
         .collect()
 }
 
-fn answer_of(text: &str) -> Option<Answer> {
-    let words: Option<Vec<u64>> = text
-        .split(',')
+fn long_words_of(text: &str) -> Option<Vec<u64>> {
+    text.split(',')
         .map(|word| u64::from_str_radix(word, 16).ok())
-        .collect();
-    words?.try_into().ok()
+        .collect()
+}
+
+fn answer_of(text: &str) -> Option<Answer> {
+    long_words_of(text)?.try_into().ok()
 }
 
 fn bytes_outcome(answer: &str, out: &str, lent: usize) -> Option<Outcome> {

@@ -5,6 +5,7 @@ pub mod linking;
 pub mod names;
 pub mod parsing;
 pub mod reading;
+pub mod reals;
 pub mod sample;
 pub mod writing;
 
@@ -20,7 +21,7 @@ pub struct List {
     pub cases: fn() -> Vec<Case>,
 }
 
-pub const LISTS: [List; 5] = [
+pub const LISTS: [List; 6] = [
     List {
         file: "names.txt",
         title: "canonical names, canonical indices, equality of names",
@@ -45,6 +46,11 @@ pub const LISTS: [List; 5] = [
         file: "link.txt",
         title: "linking: two files' node rows and sources to a number of calls",
         cases: linking::cases,
+    },
+    List {
+        file: "real.txt",
+        title: "reals: texts to normal forms, and pairs of texts of one value",
+        cases: reals::cases,
     },
 ];
 

@@ -69,10 +69,7 @@ fn left_off() -> Vec<Case> {
 
 /// The number of the case's refusal; 0 for none.
 fn refused(case: &Case) -> u64 {
-    match run(case, &Reference) {
-        Outcome::Bytes(answer, _) | Outcome::Words(answer, _) => answer[0],
-        Outcome::Truth(_) => 0,
-    }
+    run(case, &Reference).number()
 }
 
 /// A tree's words as they stand behind its record, if it is small enough.
@@ -132,6 +129,7 @@ fn record(case: &Case) -> Option<Vec<u8>> {
         Case::Equal { a, b } => line(b'e', &[&a[..], b].concat(), a.len()),
         Case::Read { src, lent } => line(b'r', src, *lent),
         Case::Parse { .. } | Case::Write { .. } | Case::Link { .. } => None,
+        Case::Real { .. } | Case::Reals { .. } => None,
     }
 }
 
@@ -163,5 +161,10 @@ fn expected(case: &Case) -> String {
             &answer,
             out.iter().map(|word| format!("{word:x} ")).collect(),
         ),
+        Outcome::Form(answer, form, out) => {
+            let form: String = form.iter().map(|word| format!("{word} ")).collect();
+            let digits: String = out.iter().map(|byte| format!("{byte:02x}")).collect();
+            text(&answer, form + &digits)
+        }
     }
 }

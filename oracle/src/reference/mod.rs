@@ -4,10 +4,12 @@
 //! Simple and slow on purpose. Each function has the exported C function's shape: what is lent for
 //! reading, what is lent for output, and the seven words of the answer.
 
+pub mod big;
 pub mod link;
 pub mod names;
 pub mod parse;
 pub mod read;
+pub mod real;
 pub mod spelling;
 pub mod utf8;
 pub mod write;
@@ -16,4 +18,5 @@ pub use link::link;
 pub use names::{canonical_index, canonical_name, names_equal};
 pub use parse::parse;
 pub use read::read;
+pub use real::real;
 pub use write::write;
