@@ -1,6 +1,8 @@
-// The exported library: what a Rust or C program links. Each function lends its slices to a proved one and puts the answer
-// into seven words: 0 refusal number (0: done), 1 count of rows or bytes put down, or of calls (0 on refusal), 2 expected, 3 found, 4 span
+// What refal5_c exports to Rust and C programs. Each function lends its slices to a proved one and puts the answer into seven
+// words: 0 refusal number (0: done), 1 count of rows or bytes put down, or of calls (0 on refusal), 2 expected, 3 found, 4 span
 // start, 5 span end, 6 need.
+#![tactic(auto)]
+
 ghost use Rattle.std.specs.Prelude.{◌≡◌, length};
 ghost use Rattle.refal_ast.specs.Names.{canonical_name, canonical_index, names_equal, form_answer, form_bytes};
 ghost use Rattle.refal_lexer.specs.Read.{read_answer, read_rows};
@@ -31,8 +33,7 @@ fn words(a: Answer) -> [u64; 7]
 }
 
 // The canonical form of a name.
-#[unsafe(no_mangle)]
-pub extern "C" fn refal5_canonical_name(name: &[u8], out: &mut [u8], answer: &mut [u64; 7])
+pub fn refal5_canonical_name(name: &[u8], out: &mut [u8], answer: &mut [u64; 7])
     ensures told { answer.new ≡ answer_words (form_answer (canonical_name name.now) out.old) }
     ensures left { out.new ≡ form_bytes (canonical_name name.now) out.old }
 {
@@ -40,8 +41,7 @@ pub extern "C" fn refal5_canonical_name(name: &[u8], out: &mut [u8], answer: &mu
 }
 
 // The canonical form of a variable's index.
-#[unsafe(no_mangle)]
-pub extern "C" fn refal5_canonical_index(name: &[u8], out: &mut [u8], answer: &mut [u64; 7])
+pub fn refal5_canonical_index(name: &[u8], out: &mut [u8], answer: &mut [u64; 7])
     ensures told { answer.new ≡ answer_words (form_answer (canonical_index name.now) out.old) }
     ensures left { out.new ≡ form_bytes (canonical_index name.now) out.old }
 {
@@ -49,16 +49,14 @@ pub extern "C" fn refal5_canonical_index(name: &[u8], out: &mut [u8], answer: &m
 }
 
 // Whether two names are equal.
-#[unsafe(no_mangle)]
-pub extern "C" fn refal5_names_equal(a: &[u8], b: &[u8]) -> bool
+pub fn refal5_names_equal(a: &[u8], b: &[u8]) -> bool
     ensures { result ≡ names_equal a.now b.now }
 {
     refal_ast::names::identifiers_equal(a, b)
 }
 
 // Reading: the rows of the source's tokens.
-#[unsafe(no_mangle)]
-pub extern "C" fn refal5_read(src: &[u8], rows: &mut [u32], answer: &mut [u64; 7])
+pub fn refal5_read(src: &[u8], rows: &mut [u32], answer: &mut [u64; 7])
     ensures told { answer.new ≡ answer_words (read_answer src.now (length rows.old)) }
     ensures left { rows.new ≡ read_rows src.now rows.old }
 {
@@ -66,8 +64,7 @@ pub extern "C" fn refal5_read(src: &[u8], rows: &mut [u32], answer: &mut [u64; 7
 }
 
 // Parsing: the rows of the tokens' tree.
-#[unsafe(no_mangle)]
-pub extern "C" fn refal5_parse(tokens: &[u32], rows: &mut [u32], answer: &mut [u64; 7])
+pub fn refal5_parse(tokens: &[u32], rows: &mut [u32], answer: &mut [u64; 7])
     ensures told { answer.new ≡ answer_words (parse_answer tokens.now rows.old) }
     ensures left { rows.new ≡ parse_rows tokens.now rows.old }
 {
@@ -75,8 +72,7 @@ pub extern "C" fn refal5_parse(tokens: &[u32], rows: &mut [u32], answer: &mut [u
 }
 
 // Writing: the text of the tree's tokens, each as spelled in its source, then one space.
-#[unsafe(no_mangle)]
-pub extern "C" fn refal5_write(tree: &[u32], src: &[u8], out: &mut [u8], answer: &mut [u64; 7])
+pub fn refal5_write(tree: &[u32], src: &[u8], out: &mut [u8], answer: &mut [u64; 7])
     ensures told { answer.new ≡ answer_words (write_answer tree.now src.now out.old) }
     ensures left { out.new ≡ write_bytes tree.now src.now out.old }
 {
@@ -84,8 +80,7 @@ pub extern "C" fn refal5_write(tree: &[u32], src: &[u8], out: &mut [u8], answer:
 }
 
 // Linking: how many calls the two files have, each of which names a function or a declared name of either.
-#[unsafe(no_mangle)]
-pub extern "C" fn refal5_link<'a>(
+pub fn refal5_link<'a>(
     tree1: &[u32],
     src1: &'a [u8],
     tree2: &[u32],
@@ -101,13 +96,7 @@ pub extern "C" fn refal5_link<'a>(
 
 // The normal form of a real's text: its digits, and in `form` its sign (0 plus, 1 minus), its power's sign (0 for zero or plus, 1
 // minus) and magnitude.
-#[unsafe(no_mangle)]
-pub extern "C" fn refal5_real(
-    text: &[u8],
-    digits: &mut [u8],
-    form: &mut [u64; 3],
-    answer: &mut [u64; 7],
-)
+pub fn refal5_real(text: &[u8], digits: &mut [u8], form: &mut [u64; 3], answer: &mut [u64; 7])
     ensures told { answer.new ≡ answer_words (real_answer text.now (length digits.old)) }
     ensures left { digits.new ≡ real_digits text.now digits.old }
     ensures formed { form.new ≡ real_form text.now (length digits.old) }

@@ -1,1 +1,2 @@
 // No code: theorems about what the other crates' functions answer and leave.
+#![tactic(auto)]

@@ -1,4 +1,6 @@
 // Two trees with their sources, whose rows are numbered through: file one's rows, then file two's.
+#![tactic(auto)]
+
 ghost use Rattle.std.specs.Prelude.{◌≡◌, List, ℕ, ◌<◌};
 ghost use Rattle.refal_files.specs.Files.{text_of};
 ghost use Rattle.refal_files.specs.FileLaws.{row_count, both_count, row_at};

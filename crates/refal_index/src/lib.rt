@@ -1,5 +1,7 @@
 // An index of the rows of two trees that bear names, Functions and declared Names, by a hash of the canonical name, in lent words: a link for each row,
 // then the heads of buckets. Without words, a search that answers the same.
+#![tactic(auto)]
+
 ghost use Rattle.std.specs.Prelude.{◌≡◌, true, false, ℕ, ◌+◌, ◌≤◌, ◌<◌, length};
 ghost use Rattle.refal_files.specs.FileLaws.{both_count, row_at};
 ghost use Rattle.refal_index.specs.Hash.{hash_of, bucket_of};

@@ -10,21 +10,21 @@ ghost use Rattle.refal_lexer.specs.SpaceLaws.{begins_blank, space_len, line_behi
 use crate::class;
 
 // A place of the source, and whether a star would start a comment there.
-#[derive(Drop)]
+#[derive(Clone, Copy)]
 pub struct Place {
     pub at: usize,
     pub line: bool,
 }
 
 // What comment stands there: one of so many bytes; or none, or one that is open, without an end.
-#[derive(Drop)]
+#[derive(Clone, Copy)]
 pub enum Comment {
     Long(usize),
     Bare(bool),
 }
 
 // What stands before a token: its place, or a block comment without an end.
-#[derive(Drop)]
+#[derive(Clone, Copy)]
 pub enum Blank {
     Past { at: usize, line: bool },
     Open { start: usize, end: usize },

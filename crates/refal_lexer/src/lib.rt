@@ -1,4 +1,6 @@
 // The lexer: from the bytes of a source to the rows of its tokens.
+#![tactic(auto)]
+
 ghost use Rattle.std.specs.Prelude.{◌≡◌, true, false, ◌+◌, ◌≤◌, ◌<◌, length};
 ghost use Rattle.refal_lexer.specs.ClassLaws.{Table};
 ghost use Rattle.refal_lexer.specs.Lex.{stop_answer};
@@ -26,7 +28,7 @@ use refal_ast::kinds::token as kind;
 use refal_ast::{Answer, Refusal};
 
 // A token or a numbered refusal, with its span. A token's text starts at `text` and has `len` bytes.
-#[derive(Drop)]
+#[derive(Clone, Copy)]
 pub enum Scan {
     Token {
         kind: u32,
@@ -44,7 +46,7 @@ pub enum Scan {
 }
 
 // Where reading stands: the offset, the next row, and whether a star would start a comment there.
-#[derive(Drop)]
+#[derive(Clone, Copy)]
 pub struct Cursor {
     pub at: usize,
     pub row: usize,
@@ -52,7 +54,7 @@ pub struct Cursor {
 }
 
 // What putting a token's rows gives: where reading goes on, or the refusal.
-#[derive(Drop)]
+#[derive(Clone, Copy)]
 pub enum Step {
     On(Cursor),
     Stop {

@@ -9,14 +9,14 @@ use crate::Scan;
 use refal_ast::kinds::token as kind;
 
 // Where a run of digits ends, and what it is worth, or some number above 4294967295 where it is worth more.
-#[derive(Drop)]
+#[derive(Clone, Copy)]
 pub struct Whole {
     pub end: usize,
     pub worth: u64,
 }
 
 // Where a part ends, and whether no digit stands in it.
-#[derive(Drop)]
+#[derive(Clone, Copy)]
 pub struct Part {
     pub end: usize,
     pub bare: bool,

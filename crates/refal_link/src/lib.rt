@@ -1,5 +1,7 @@
 // Linking: two files, each a tree with its source. No two functions of both may have equal names, and every call must name a function or a declared name
 // of either.
+#![tactic(auto)]
+
 ghost use Rattle.std.specs.Prelude.{◌≡◌, true, false, List, [], ℕ, ◌≤◌, ◌<◌, eqb};
 ghost use Rattle.refal_text.specs.Pick.{pick};
 ghost use Rattle.refal_ast.specs.Kinds.{node_call};

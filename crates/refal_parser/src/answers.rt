@@ -7,7 +7,7 @@ use crate::tokens::{kind, span_from, span_to};
 use refal_ast::kinds::token;
 
 // Where the part ends, at the word of the next token, and the next row; or a refusal: number, expected, found, span.
-#[derive(Drop)]
+#[derive(Clone, Copy)]
 pub enum Got {
     At(usize, usize),
     No(u32, u32, u32, u32, u32),

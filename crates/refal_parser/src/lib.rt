@@ -1,4 +1,6 @@
 // The parser: token rows to node rows.
+#![tactic(auto)]
+
 ghost use Rattle.std.specs.Prelude.{◌≡◌};
 ghost use Rattle.refal_ast.specs.Answers.{refusal};
 ghost use Rattle.refal_ast.specs.declared.Answer.TheVariants.{Refused};

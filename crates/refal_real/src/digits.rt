@@ -6,7 +6,7 @@ ghost use Rattle.refal_real.specs.Form.{less, trim};
 ghost use Rattle.refal_real.specs.Kept.{Within, digits_at, Kept};
 
 // Those of the text from `first` up to `last`, and then those from `next` up to `end`.
-#[derive(Drop)]
+#[derive(Clone, Copy)]
 pub struct Digits {
     pub first: usize,
     pub last: usize,

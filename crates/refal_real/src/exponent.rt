@@ -11,7 +11,7 @@ use crate::digits::zeros_end;
 use crate::places::past_sign;
 
 // Whether a power of ten goes down, and by how much it goes; or that the digits, leading zeros aside, are more than 9.
-#[derive(Drop)]
+#[derive(Clone, Copy)]
 pub enum Scale {
     By(bool, usize),
     Over,

@@ -1,4 +1,6 @@
 // Reals as exact decimals: the normal form of a real's text, and whether two texts have one.
+#![tactic(auto)]
+
 mod digits;
 mod exponent;
 mod places;
@@ -16,7 +18,7 @@ use refal_ast::{Answer, Refusal};
 use refal_rows::least;
 
 // A form's signs and power.
-#[derive(Drop)]
+#[derive(Clone, Copy)]
 struct Power {
     minus: bool,
     down: bool,
@@ -24,7 +26,7 @@ struct Power {
 }
 
 // A form: its signs and power, and where its digits stand in the text.
-#[derive(Drop)]
+#[derive(Clone, Copy)]
 struct Form {
     minus: bool,
     down: bool,
@@ -32,7 +34,7 @@ struct Form {
     digits: Digits,
 }
 
-#[derive(Drop)]
+#[derive(Clone, Copy)]
 enum Parsed {
     Refused(u32),
     Real(Form),

@@ -7,14 +7,14 @@ use refal_ast::limits;
 use refal_lexer::{class, number};
 
 // Its whole digits from `from` up to `whole`, its fraction's, behind the point, up to `to`, and its exponent up to its end.
-#[derive(Drop)]
+#[derive(Clone, Copy)]
 pub struct Places {
     pub from: usize,
     pub whole: usize,
     pub to: usize,
 }
 
-#[derive(Drop)]
+#[derive(Clone, Copy)]
 pub enum Spelled {
     Real(Places),
     Other,

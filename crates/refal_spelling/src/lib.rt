@@ -1,5 +1,7 @@
 // How tokens are spelled in a written text, and the test for refusal 41: every text of a row stands in the source and is a
 // spelling that reading gives for the row's kind; a Char is no newline, and a scalar value.
+#![tactic(auto)]
+
 mod words;
 
 ghost use Rattle.std.specs.Prelude.{◌≡◌, ◌≤◌, length};

@@ -1,4 +1,6 @@
 // Characters in UTF-8, and white space.
+#![tactic(auto)]
+
 ghost use Rattle.std.specs.Prelude.{◌≡◌, ◌&&◌, ◌+◌, ◌-◌, ◌≤◌, ◌<◌, leb, length, drop, get_or};
 ghost use Rattle.refal_text.specs.Utf8.{leads, second, well2, well3, well4, two, three, four, decode, well_to, ascii};
 ghost use Rattle.refal_text.specs.White.{white_space};
@@ -6,7 +8,7 @@ ghost use Rattle.refal_text.specs.Span.{span};
 ghost use Rattle.refal_text.specs.AsciiLaws.{eight, block};
 
 // A character and how many bytes it has; 0 where the bytes are no character.
-#[derive(Drop)]
+#[derive(Clone, Copy)]
 pub struct Char {
     pub code: u32,
     pub len: usize,

@@ -1,4 +1,6 @@
 // Trees of rows: whether words are the rows of a lawful tree.
+#![tactic(auto)]
+
 mod fields;
 pub mod states;
 

@@ -1,4 +1,6 @@
 // Writing: from the rows of a tree and its source to a text that reads back the same.
+#![tactic(auto)]
+
 mod bytes;
 mod opening;
 mod token;

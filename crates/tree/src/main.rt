@@ -1,91 +1,112 @@
 // Reads a Refal-5 source from standard input, at most 2,048 bytes, and writes the rows of its syntax tree, a line each: row, kind,
 // detail, span start, span end, next. A refusal is written as `refused`, its number and its span.
+#![tactic(auto)]
+
+ghost use Rattle.std.specs.Prelude.{◌≤◌, length, IfOk};
 ghost use Rattle.refal_ast.specs.Nodes.{HasRow};
 
-use libc::STDOUT_FILENO;
 use refal_ast::{Answer, Refusal, nodes};
+use std::io;
+use std::io::Read;
 
 fn wide(x: u32) -> u64 {
     x as u64
 }
 
 // A number and the byte after it.
-fn put(n: u64, after: u8) {
-    io::print_decimal(STDOUT_FILENO, n);
-    io::write_all(STDOUT_FILENO, &[after]);
+fn put(rt: &impl Print, n: u64, after: char) -> io::Result<()> {
+    print!(rt; "{n}{after}")
 }
 
-fn put_refusal(refusal: Refusal) {
-    io::write_all(STDOUT_FILENO, b"refused ");
-    put(wide(refusal.number), b' ');
-    put(refusal.start as u64, b' ');
-    put(refusal.end as u64, b'\n');
+fn put_refusal(rt: &impl Print, refusal: Refusal) -> io::Result<()> {
+    print!(rt; "refused ")?;
+    put(rt, wide(refusal.number), ' ')?;
+    put(rt, refusal.start as u64, ' ')?;
+    put(rt, refusal.end as u64, '\n')
 }
 
 // Row i: row, kind, detail, span start, span end, next.
-fn put_row(rows: &[u32], i: usize)
+fn put_row(rt: &impl Print, rows: &[u32], i: usize) -> io::Result<()>
     requires { HasRow rows.now i }
 {
-    put(i as u64, b' ');
-    put(wide(nodes::kind(rows, i)), b' ');
-    put(wide(nodes::detail(rows, i)), b' ');
-    put(wide(nodes::span_from(rows, i)), b' ');
-    put(wide(nodes::span_to(rows, i)), b' ');
-    put(nodes::next(rows, i) as u64, b'\n');
+    put(rt, i as u64, ' ')?;
+    put(rt, wide(nodes::kind(rows, i)), ' ')?;
+    put(rt, wide(nodes::detail(rows, i)), ' ')?;
+    put(rt, wide(nodes::span_from(rows, i)), ' ')?;
+    put(rt, wide(nodes::span_to(rows, i)), ' ')?;
+    put(rt, nodes::next(rows, i) as u64, '\n')
 }
 
-fn put_rows(rows: &[u32]) {
+fn put_rows(rt: &impl Print, rows: &[u32]) -> io::Result<()> {
     let n = rows.len() / nodes::WIDTH;
     let mut i = 0;
     while i < n {
-        put_row(rows, i);
+        put_row(rt, rows, i)?;
         i += 1;
     }
+    Ok(())
 }
 
-fn put_tree(tokens: &[u32]) {
+fn put_tree(rt: &impl Print, tokens: &[u32]) -> io::Result<()> {
     let mut rows = [0u32; 14336];
     match refal_parser::parse(tokens, &mut rows) {
-        Answer::Refused(refusal) => {
-            put_refusal(refusal);
-        }
+        Answer::Refused(refusal) => put_refusal(rt, refusal),
         Answer::Done(n) => {
             if n <= 2048 {
                 let end = nodes::WIDTH * n;
-                put_rows(&rows[..end]);
+                put_rows(rt, &rows[..end])
+            } else {
+                Ok(())
             }
         }
     }
 }
 
-fn put_source(source: &[u8]) {
+fn put_source(rt: &impl Print, source: &[u8]) -> io::Result<()> {
     let mut tokens = [0u32; 12294];
     match refal_lexer::read(source, &mut tokens) {
-        Answer::Refused(refusal) => {
-            put_refusal(refusal);
-        }
+        Answer::Refused(refusal) => put_refusal(rt, refusal),
         Answer::Done(n) => {
             if n <= 2049 {
                 let end = 6 * n;
-                put_tree(&tokens[..end]);
+                put_tree(rt, &tokens[..end])
+            } else {
+                Ok(())
             }
         }
     }
 }
 
-fn main() {
-    let mut source = [0u8; 2049];
-    let n = io::read_full(0, &mut source);
-    if n > 2048 {
-        put_refusal(Refusal {
-            number: 1,
-            expected: 0,
-            found: 0,
-            start: 0,
-            end: 0,
-            need: 0,
-        });
-        return;
+// The bytes that there are, as many as fit, and how many they are.
+fn read_full(reader: &mut impl Read, buf: &mut [u8]) -> io::Result<usize>
+    ensures { IfOk result (λ n. n ≤ length buf.old) }
+{
+    let mut n = 0;
+    while n < buf.len() {
+        let more = reader.read(&mut buf[n..])?;
+        if more == 0 {
+            return Ok(n);
+        }
+        n += more;
     }
-    put_source(&source[..n]);
+    Ok(n)
+}
+
+fn main(rt: HostRuntime) -> io::Result<()> {
+    let mut source = [0u8; 2049];
+    let n = read_full(&mut rt.reader(), &mut source)?;
+    if n > 2048 {
+        return put_refusal(
+            &rt,
+            Refusal {
+                number: 1,
+                expected: 0,
+                found: 0,
+                start: 0,
+                end: 0,
+                need: 0,
+            },
+        );
+    }
+    put_source(&rt, &source[..n])
 }

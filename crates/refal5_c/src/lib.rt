@@ -1,0 +1,96 @@
+// The static library that a C or Rust program links, librefal5.a: each function of refal5 under its own name.
+#![tactic(auto)]
+
+ghost use Rattle.std.specs.Prelude.{◌≡◌, length};
+ghost use Rattle.refal_ast.specs.Names.{canonical_name, canonical_index, names_equal, form_answer, form_bytes};
+ghost use Rattle.refal_lexer.specs.Read.{read_answer, read_rows};
+ghost use Rattle.refal_parser.specs.Parse.{parse_answer, parse_rows};
+ghost use Rattle.refal_writer.specs.Write.{write_answer, write_bytes};
+ghost use Rattle.refal_link.specs.Link.{link_answer, link_words};
+ghost use Rattle.refal_real.specs.Real.{real_answer, real_digits, real_form};
+ghost use Rattle.refal5.specs.Words.{answer_words};
+
+// The canonical form of a name.
+#[unsafe(no_mangle)]
+pub extern "C" fn refal5_canonical_name(name: &[u8], out: &mut [u8], answer: &mut [u64; 7])
+    ensures told { answer.new ≡ answer_words (form_answer (canonical_name name.now) out.old) }
+    ensures left { out.new ≡ form_bytes (canonical_name name.now) out.old }
+{
+    refal5::refal5_canonical_name(name, out, answer);
+}
+
+// The canonical form of a variable's index.
+#[unsafe(no_mangle)]
+pub extern "C" fn refal5_canonical_index(name: &[u8], out: &mut [u8], answer: &mut [u64; 7])
+    ensures told { answer.new ≡ answer_words (form_answer (canonical_index name.now) out.old) }
+    ensures left { out.new ≡ form_bytes (canonical_index name.now) out.old }
+{
+    refal5::refal5_canonical_index(name, out, answer);
+}
+
+// Whether two names are equal.
+#[unsafe(no_mangle)]
+pub extern "C" fn refal5_names_equal(a: &[u8], b: &[u8]) -> bool
+    ensures { result ≡ names_equal a.now b.now }
+{
+    refal5::refal5_names_equal(a, b)
+}
+
+// Reading: the rows of the source's tokens.
+#[unsafe(no_mangle)]
+pub extern "C" fn refal5_read(src: &[u8], rows: &mut [u32], answer: &mut [u64; 7])
+    ensures told { answer.new ≡ answer_words (read_answer src.now (length rows.old)) }
+    ensures left { rows.new ≡ read_rows src.now rows.old }
+{
+    refal5::refal5_read(src, rows, answer);
+}
+
+// Parsing: the rows of the tokens' tree.
+#[unsafe(no_mangle)]
+pub extern "C" fn refal5_parse(tokens: &[u32], rows: &mut [u32], answer: &mut [u64; 7])
+    ensures told { answer.new ≡ answer_words (parse_answer tokens.now rows.old) }
+    ensures left { rows.new ≡ parse_rows tokens.now rows.old }
+{
+    refal5::refal5_parse(tokens, rows, answer);
+}
+
+// Writing: the text of the tree's tokens, each as spelled in its source, then one space.
+#[unsafe(no_mangle)]
+pub extern "C" fn refal5_write(tree: &[u32], src: &[u8], out: &mut [u8], answer: &mut [u64; 7])
+    ensures told { answer.new ≡ answer_words (write_answer tree.now src.now out.old) }
+    ensures left { out.new ≡ write_bytes tree.now src.now out.old }
+{
+    refal5::refal5_write(tree, src, out, answer);
+}
+
+// Linking: how many calls the two files have, each of which names a function or a declared name of either.
+#[unsafe(no_mangle)]
+pub extern "C" fn refal5_link<'a>(
+    tree1: &[u32],
+    src1: &'a [u8],
+    tree2: &[u32],
+    src2: &'a [u8],
+    work: &mut [u32],
+    answer: &mut [u64; 7],
+)
+    ensures told { answer.new ≡ answer_words (link_answer tree1.now src1.now tree2.now src2.now) }
+    ensures left { work.new ≡ link_words work.old }
+{
+    refal5::refal5_link(tree1, src1, tree2, src2, work, answer);
+}
+
+// The normal form of a real's text: its digits, and in `form` its sign (0 plus, 1 minus), its power's sign (0 for zero or plus, 1
+// minus) and magnitude.
+#[unsafe(no_mangle)]
+pub extern "C" fn refal5_real(
+    text: &[u8],
+    digits: &mut [u8],
+    form: &mut [u64; 3],
+    answer: &mut [u64; 7],
+)
+    ensures told { answer.new ≡ answer_words (real_answer text.now (length digits.old)) }
+    ensures left { digits.new ≡ real_digits text.now digits.old }
+    ensures formed { form.new ≡ real_form text.now (length digits.old) }
+{
+    refal5::refal5_real(text, digits, form, answer);
+}
