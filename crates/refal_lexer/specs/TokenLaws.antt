@@ -64,6 +64,7 @@ ok_tokens_lem l (ok_eof at) = refl
 ok_tokens_lem l (ok_more kind detail start len from to {ts} r h) = go ts h (row_good kind detail start len from to r) (ok_tokens_lem ts h)
   where
     go : (us : List Tok) → OkTokens us → good_token (token kind detail start len from to) ≡ true → ok_tokens us ≡ true → ok_tokens (token kind detail start len from to ∷ us) ≡ true
+    go [] h g e = elim h [ ]
     go (u ∷ us) h g e = rw (g, e)
 
 -- ---- a literal's characters are scalar values

@@ -51,8 +51,8 @@ module _ {w : List ℕ} {at : ℕ} (R : Ready w at) (comma : get_or w at 0 ≡ t
   after_comma = ready_next w at R (other _ _ _ comma refl)
 
   -- ---- a condition: no argument
-  pub argument_no : {left a b c d e : ℕ} → ArgumentNo w (at + 6) left a b c d e → CondNo w at left a b c d e
-  argument_no {left} h b r p =
+  pub argument_no : (left : ℕ) {a b c d e : ℕ} → ArgumentNo w (at + 6) left a b c d e → CondNo w at left a b c d e
+  argument_no left h b r p =
       cond_start w at R left b r after_comma comma p
       ∙ h (argument b r (get_or w (at + 6 + 4) 0)) (λ (g : Argument). matched left b r (get_or w (at + 6 + 4) 0) g) (λ h t y z. refl) p
 
@@ -117,8 +117,8 @@ module _ {w : List ℕ} {at : ℕ} (R : Ready w at) (comma : get_or w at 0 ≡ t
       }
 
   -- ---- an ending block: no argument
-  pub end_argument_no : {left a b c d e : ℕ} → ArgumentNo w (at + 6) left a b c d e → EndingNo w at left a b c d e
-  end_argument_no {left} h b r p = end_start w at R left b r (end_before w at) comma p ∙ h (ending b r) (λ (g : Argument). blocked left b r g) (λ h t y z. refl) p
+  pub end_argument_no : (left : ℕ) {a b c d e : ℕ} → ArgumentNo w (at + 6) left a b c d e → EndingNo w at left a b c d e
+  end_argument_no left h b r p = end_start w at R left b r (end_before w at) comma p ∙ h (ending b r) (λ (g : Argument). blocked left b r g) (λ h t y z. refl) p
 
   -- ---- an argument
   module _ (n : ℕ) {B B₁ : List ℕ} {left j m : ℕ} (K : ArgumentAt w B B₁ (at + 6) (n + 1) left j m) where

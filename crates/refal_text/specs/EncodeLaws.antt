@@ -6,7 +6,7 @@ use Rattle.std.proofs.lemmas.Bool.{lt-leb}
 use Rattle.refal_rows.specs.Tests.{and_left, and_right, range_lo, range_hi}
 use Rattle.refal_text.specs.Pick.{split}
 use Rattle.refal_text.specs.Encode.{enc2, enc3, enc4, encode, Scalar}
-use Rattle.refal_text.specs.Utf8.{char, ill, cont, leads, second, code2, code3, code4, three, four, char_of, decode}
+use Rattle.refal_text.specs.Utf8.{char, ill, cont, leads, second, code2, code3, code4, char_of, decode}
 use Rattle.refal_text.specs.Utf8Laws.{decode_ascii, Second, second_is}
 use Rattle.refal_text.specs.declared.Char.{Char}
 
