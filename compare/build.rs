@@ -20,6 +20,6 @@ fn main() {
         println!("cargo::rustc-link-search=native={}", folder.display());
         println!("cargo::rustc-link-lib=static=refal5");
     } else {
-        println!("cargo::warning=librefal5.a is absent: run `rt staticlib refal5` first");
+        println!("cargo::warning=librefal5.a is absent: run `tools/staticlib` first");
     }
 }

@@ -1,4 +1,4 @@
-/* refal5: a proved front end for Refal-5. Link target/staticlib/librefal5.a, which `rt staticlib refal5` makes.
+/* refal5: a proved front end for Refal-5. Link target/staticlib/librefal5.a, which `tools/staticlib` makes.
  *
  * Every function takes every input. A slice is a pointer and a count of elements; what is lent for reading is not changed.
  * answer[0] is 0 where the call is done, else the refusal's number, and then every element lent for output is 0.

@@ -11,7 +11,7 @@ use std::path::Path;
 fn the_library_is_linked() {
     assert!(
         compare::is_linked(),
-        "librefal5.a is absent: run `rt staticlib refal5` first"
+        "librefal5.a is absent: run `tools/staticlib` first"
     );
 }
 

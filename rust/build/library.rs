@@ -16,7 +16,7 @@ const RECORD: &str = "librefal5.sources";
 /// build script writes is newer than its run, and would have it run again.
 pub fn current(repository: &Path) -> PathBuf {
     let folder = repository.join("target/staticlib");
-    let crates = sources::crates(repository, "refal5");
+    let crates = sources::crates(repository, "refal5_c");
     let folders = sources::folders(repository, &crates);
     println!(
         "cargo::rerun-if-changed={}",
@@ -37,17 +37,16 @@ pub fn current(repository: &Path) -> PathBuf {
     folder
 }
 
-/// Runs `rt staticlib refal5`, and says on the terminal how far it is.
+/// Runs `tools/staticlib`, and says on the terminal how far it is.
 fn make(repository: &Path, crates: &[String]) {
-    let started = Command::new("rt")
-        .args(["staticlib", "refal5"])
+    let started = Command::new(repository.join("tools/staticlib"))
         .current_dir(repository)
         .stderr(Stdio::piped())
         .spawn();
     let mut child = match started {
         Ok(child) => child,
         Err(error) => panic!(
-            "{ARCHIVE} is not of these sources, and `rt staticlib refal5` could not be run ({error}): run it, or set \
+            "{ARCHIVE} is not of these sources, and `tools/staticlib` could not be run ({error}): run it, or set \
              REFAL5_STATICLIB to a folder that holds the archive"
         ),
     };
@@ -60,5 +59,5 @@ fn make(repository: &Path, crates: &[String]) {
     }
     let status = child.wait().expect("the child is waited for once");
     proving.end(status.success());
-    assert!(status.success(), "`rt staticlib refal5` failed: {status}");
+    assert!(status.success(), "`tools/staticlib` failed: {status}");
 }

@@ -1,5 +1,5 @@
 //! Links librefal5.a: the one in the folder that REFAL5_STATICLIB names, and otherwise target/staticlib/librefal5.a of the
-//! repository, which `rt staticlib refal5` makes anew where it was not made from the sources as they are now.
+//! repository, which `tools/staticlib` makes anew where it was not made from the sources as they are now.
 
 mod library;
 mod sources;

@@ -18,7 +18,7 @@ fn add(list: &str, name: &str, found: &mut Vec<String>) {
     let line = list
         .lines()
         .filter_map(|line| line.split('#').next()?.split_once(':'))
-        .find(|(crate_name, _)| crate_name.trim() == name);
+        .find(|(crate_name, _)| crate_name.split_whitespace().next() == Some(name));
     // Libraries of the kit are not listed.
     let Some((_, needs)) = line else { return };
     for need in needs.split_whitespace() {
