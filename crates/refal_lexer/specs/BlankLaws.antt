@@ -5,7 +5,7 @@ use Rattle.refal_rows.specs.Tests.{and_right}
 use Rattle.std.proofs.Math.Decide.{dec_le}
 use Rattle.std.proofs.Math.Numerals.{add-one}
 use mathlib.Core.List.{List, [], ◌∷◌}
-use Rattle.std.specs.Prelude.{Bool, true, not, ◌&&◌, ◌≡◌, refl, eqb, length, take}
+use Rattle.std.specs.Prelude.{Bool, true, ◌&&◌, ◌≡◌, refl, eqb, length, take}
 use Rattle.std.proofs.Math.Bool.{false}
 use Rattle.std.proofs.Math.ListN.{drop, get_or, get_or-eq_default}
 use Rattle.refal_text.specs.Pick.{pick, split}

@@ -1,13 +1,12 @@
 -- Laws of classes: what a class says of its byte, and the tests that the table answers.
-use Rattle.std.specs.Prelude.{ℕ, zero, suc, ◌<◌, ◌≤◌, ◌+◌, ◌-◌, ◌*◌, ◌%◌, List, ◌∷◌, ◌++◌, Bool, true, false, not, ◌&&◌, ◌||◌, ◌≡◌, refl, length, get_or, T, leb, ltb, eqb}
+use Rattle.std.specs.Prelude.{ℕ, zero, suc, ◌<◌, ◌≤◌, List, Bool, true, false, not, ◌&&◌, ◌||◌, ◌≡◌, refl, length, get_or, T, leb, ltb, eqb}
 use Rattle.std.proofs.Common.{le-leb, ne_eqb, eqb-true, arith, true≢false, ◌∙◌, sym, subst}
 use Rattle.std.proofs.lemmas.Bool.{lt-leb}
 use Rattle.std.proofs.Math.Decide.{dec_le}
-use Rattle.refal_rows.specs.Tests.{each_below, below, range_lo}
+use Rattle.refal_rows.specs.Tests.{each_below}
 use Rattle.refal_text.specs.Pick.{split}
 use Rattle.refal_text.specs.White.{white_space}
-use Rattle.refal_lexer.specs.Classes.{upper, digit, letter, name_byte, blank, variable, single_kind, class_of, c_none, c_quote}
-use Rattle.refal_lexer.specs.Tokens.{one}
+use Rattle.refal_lexer.specs.Classes.{upper, digit, letter, name_byte, blank, variable, single_kind, class_of, c_quote}
 
 -- ---- what a class says of the byte
 pub data ClassIs (b : ℕ) : ℕ → Type 0 where

@@ -1,5 +1,5 @@
 -- Every scan that starts on a boundary of well-formed bytes ends on one, and its token's text starts and ends on one.
-use Prim.Native.Nat.{ℕ, zero, suc, ◌+◌, ◌-◌, ◌<◌, ◌≤◌}
+use Prim.Native.Nat.{ℕ, zero, suc, ◌+◌, ◌<◌, ◌≤◌}
 use Rattle.std.proofs.Common.{add-zero, true≢false, ap, sym, ◌∙◌, length-drop, get_or-drop, drop-drop}
 use native.Mathlib.Omega.{arith}
 use Rattle.std.proofs.Math.Decide.{dec_le}

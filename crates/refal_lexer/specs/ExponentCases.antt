@@ -4,7 +4,7 @@ use Rattle.refal_text.specs.Utf8.{decode}
 use Rattle.refal_ast.specs.Kinds.{tok_number}
 use Rattle.refal_ast.specs.Tokens.{Token, token}
 use Rattle.refal_lexer.specs.Blanks.{close_to}
-use Rattle.refal_lexer.specs.Lex.{Out, bad, more, stop_bad, eof_at}
+use Rattle.refal_lexer.specs.Lex.{Out, more, stop_bad, eof_at}
 use Rattle.refal_lexer.specs.Stars.{only_white}
 use Rattle.refal_lexer.specs.Source.{lex01, source}
 

@@ -1,5 +1,5 @@
 -- Laws of a loop that puts rows: what a turn does, and what is left at its end.
-use Rattle.std.specs.Prelude.{ℕ, ◌+◌, ◌-◌, ◌<◌, ◌≤◌, List, ◌∷◌, ◌≡◌, refl, length}
+use Rattle.std.specs.Prelude.{ℕ, ◌+◌, List, ◌≡◌, refl, length}
 use Rattle.std.proofs.Common.{zero-add, add-one, arith, ap, ◌∙◌, sym, subst, length-append}
 use Rattle.refal_ast.specs.Answers.{refusal}
 use Rattle.refal_ast.specs.Tokens.{Token, token, words}
@@ -8,7 +8,6 @@ use Rattle.refal_ast.specs.declared.Answer.TheVariants.{Done, Refused}
 use Rattle.refal_rows.specs.Rows.{put_row}
 use Rattle.refal_lexer.specs.Puts.{put_tokens, put_append}
 use Rattle.refal_lexer.specs.Lex.{Stop, Out, more, more_all, stop_bad, eof_at, stopped, stop_answer}
-use Rattle.refal_lexer.specs.declared.Scan.TheVariants as S
 
 -- ---- a loop that puts rows: what is still to come from here, o, with n rows put and the words m, leads to what came of all, o₀ and m₀
 pub record Leads (o o₀ : Out) (m m₀ : List ℕ) (n : ℕ) : Type 0 where

@@ -1,5 +1,5 @@
 -- Laws of literals: the ways out of their loops.
-use Rattle.std.specs.Prelude.{ℕ, zero, suc, ◌+◌, ◌-◌, ◌<◌, ◌≤◌, List, [], ◌∷◌, Bool, true, false, ◌&&◌, ◌≡◌, refl, ltb, eqb, length, drop, get_or}
+use Rattle.std.specs.Prelude.{ℕ, zero, suc, ◌+◌, ◌<◌, ◌≤◌, List, [], ◌∷◌, Bool, true, false, ◌≡◌, refl, ltb, eqb, length, drop, get_or}
 use Rattle.std.proofs.Common.{eq-eqb, ne_eqb, lt-ltb, eqb-true, add-one, arith, ap, ◌∙◌, subst, drop_of_length-le, length-drop, drop-cons, drop-drop}
 use Rattle.std.proofs.lemmas.Bool.{eqb-false}
 use Rattle.std.proofs.Math.Nat.{add-zero}

@@ -1,8 +1,7 @@
 -- The tokens of a source stand in order, within it.
-use Rattle.std.specs.Prelude.{ℕ, zero, suc, ◌+◌, ◌-◌, ◌<◌, ◌≤◌, List, [], ◌∷◌, ◌++◌, Bool, true, false, ◌&&◌, ◌||◌, ◌≡◌, refl, ltb, eqb, length}
+use Rattle.std.specs.Prelude.{ℕ, zero, suc, ◌+◌, ◌-◌, ◌≤◌, List, [], ◌∷◌, ◌++◌, Bool, true, false, ◌≡◌, refl, ltb, eqb, length}
 use Rattle.std.proofs.Common.{zero-add, arith, subst, sym}
 use Rattle.refal_text.specs.Pick.{split}
-use Rattle.refal_text.specs.Span.{span}
 use Rattle.refal_lexer.specs.Classes.{class_of, c_quote}
 use Rattle.refal_lexer.specs.declared.Scan.{Scan}
 use Rattle.refal_lexer.specs.declared.Scan.TheVariants.{Token, Bad}

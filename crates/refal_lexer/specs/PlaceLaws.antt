@@ -1,5 +1,5 @@
 -- Where tokens stand: every scan starts at its offset, ends past it and within the bytes, and a token's text lies within its span.
-use Rattle.std.specs.Prelude.{ℕ, zero, suc, ◌+◌, ◌-◌, ◌<◌, ◌≤◌, List, [], ◌∷◌, ◌++◌, Bool, true, false, ◌&&◌, ◌||◌, ◌≡◌, refl, leb, ltb, eqb, length, drop, get_or}
+use Rattle.std.specs.Prelude.{ℕ, zero, suc, ◌+◌, ◌<◌, ◌≤◌, List, [], ◌∷◌, Bool, true, false, ◌||◌, ◌≡◌, refl, leb, ltb, eqb, length, drop, get_or}
 use Rattle.std.proofs.Common.{arith, true≢false, subst, ap, sym, ◌∙◌, length-drop}
 use Rattle.refal_text.specs.Pick.{split}
 use Rattle.refal_text.specs.Span.{span}
@@ -9,7 +9,6 @@ use Rattle.refal_text.specs.Utf8Laws.{decode_in}
 use Rattle.refal_lexer.specs.Classes.{upper, digit, letter, name_byte, class_of, c_minus, c_quote}
 use Rattle.refal_lexer.specs.declared.Scan.{Scan}
 use Rattle.refal_lexer.specs.declared.Scan.TheVariants.{Token, Bad}
-use Rattle.refal_ast.specs.Tokens.{token}
 use Rattle.refal_lexer.specs.Tokens.{wide_scan, sign_scan, class_scan, Found, found, refused, one, literal_of, token_at}
 use Rattle.refal_lexer.specs.Words.{name_of, other_scan, index_of, variable_scan, entry_word, extern_word, directive_of}
 use Rattle.refal_lexer.specs.Numbers.{value, sign_bytes, part, number_of, number_scan, point_at, exponent_at, digits_end}

@@ -1,5 +1,5 @@
 -- Laws of tokens by class: the ways out of their scans.
-use Rattle.std.specs.Prelude.{ℕ, ◌+◌, ◌-◌, ◌<◌, ◌≤◌, List, ◌∷◌, true, false, ◌&&◌, ◌||◌, ◌≡◌, refl, leb, get_or}
+use Rattle.std.specs.Prelude.{ℕ, ◌+◌, List, true, false, ◌≡◌, refl, get_or}
 use Rattle.std.proofs.Common.{eq-eqb, ne_eqb, ap, ◌∙◌, sym}
 use Rattle.refal_lexer.specs.Classes.{digit, single_kind}
 use Rattle.refal_lexer.specs.Words.{other_scan}

@@ -1,6 +1,5 @@
 -- A scan's token has a lawful row.
-use Rattle.std.specs.Prelude.{ℕ, ◌+◌, ◌<◌, ◌-◌, ◌*◌, ◌%◌, ◌≤◌, List, ◌∷◌, ◌++◌, true, ◌&&◌, ◌||◌, ◌≡◌, leb, ltb, eqb, length, drop, get_or}
-use Rattle.std.proofs.Common.{◌∙◌}
+use Rattle.std.specs.Prelude.{ℕ, ◌+◌, List, ◌∷◌, true, ◌&&◌, ◌||◌, ◌≡◌, leb, ltb, eqb, drop, get_or}
 use Rattle.refal_text.specs.Pick.{split}
 use Rattle.refal_text.specs.Span.{span}
 use Rattle.refal_text.specs.Utf8.{decode}
@@ -13,7 +12,6 @@ use Rattle.refal_lexer.specs.Tokens.{wide_scan, sign_scan, class_scan}
 use Rattle.refal_lexer.specs.Words.{name_of, index_of, variable_scan, entry_word, extern_word, directive_of}
 use Rattle.refal_lexer.specs.Numbers.{value, number_of, number_scan, point_at, exponent_at, digits_end}
 use Rattle.refal_lexer.specs.ClassLaws.{ClassIs, is_wide, is_white, is_quote, is_star, is_slash, is_dollar, is_plus, is_minus, is_upper, is_digit, is_variable, is_other, is_single, single_range, is_none}
-use Rattle.refal_ast.specs.Tokens.{token}
 use Rattle.refal_lexer.specs.declared.number.Part.{Part}
 
 -- a token row's kind, detail, text start and text length: the unused are 0, a Variable's detail is its letter, a Char's a scalar value

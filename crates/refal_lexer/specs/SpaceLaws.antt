@@ -7,11 +7,10 @@ use Rattle.std.proofs.Math.Bool.{and-true}
 use Rattle.refal_rows.specs.Tests.{each_below, and_left, and_right}
 use Rattle.refal_text.specs.Pick.{pick}
 use Rattle.refal_lexer.specs.Classes.{blank, class_of, c_white, c_star, c_slash, c_wide}
-use Rattle.refal_lexer.specs.Blanks.{white_len, on_white, comment_at}
-use Rattle.refal_lexer.specs.Carried.{line_after, stop_at, go_on, blanks_from}
+use Rattle.refal_lexer.specs.Blanks.{white_len}
+use Rattle.refal_lexer.specs.Carried.{line_after, blanks_from}
 use Rattle.refal_lexer.specs.BlankLaws.{ascii_white, ascii_none}
-use Rattle.refal_lexer.specs.declared.blank.Blank.{Blank}
-use Rattle.refal_lexer.specs.declared.blank.Blank.TheVariants.{Past, Open}
+use Rattle.refal_lexer.specs.declared.blank.Blank.TheVariants.{Past}
 
 -- whether white space or a comment can begin with a byte of class k
 abbrev pub begins_blank : ℕ → Bool

@@ -1,5 +1,5 @@
 -- At every place that reading reaches, the flag that it carries is 01's condition on the bytes before; so both readings give the same, of any bytes.
-use Prim.Native.Nat.{ℕ, zero, suc, ◌+◌, ◌-◌, ◌<◌, ◌≤◌}
+use Prim.Native.Nat.{ℕ, zero, suc, ◌+◌, ◌-◌, ◌≤◌}
 use Rattle.std.proofs.Common.{add-zero, eqb-true, ne_eqb, lt-ltb, le-leb, ltb-true, true≢false, sym, subst, ◌∙◌, length-drop, drop-drop, take-add, length-take-le}
 use native.Mathlib.Omega.{arith}
 use Rattle.std.proofs.Math.Decide.{dec_le}
@@ -9,7 +9,7 @@ use Rattle.std.proofs.Math.Bool.{Bool, false}
 use Rattle.std.specs.Prelude.{true, not, ◌&&◌, ◌||◌, ◌≡◌, T, leb, ltb, length, take, drop, get_or}
 use Rattle.std.proofs.Math.Path.{refl, ap}
 use Rattle.std.proofs.Math.Dec.{eqb}
-use Rattle.refal_rows.specs.Tests.{below, each_below, range_lo, and_left, and_right}
+use Rattle.refal_rows.specs.Tests.{below, each_below, and_left, and_right}
 use Rattle.refal_text.specs.Pick.{pick, split}
 use Rattle.refal_text.specs.Span.{span}
 use Rattle.refal_text.specs.SpanLaws.{span_le}

@@ -1,6 +1,6 @@
 -- What the tokens of a source are: all pass check 30, Eof stands once and last, and there are at most as many as bytes and one.
-use Rattle.std.specs.Prelude.{ℕ, zero, suc, ◌+◌, ◌-◌, ◌*◌, ◌≤◌, ◌%◌, ◌<◌, List, [], ◌∷◌, ◌++◌, Bool, true, false, ◌||◌, ◌&&◌, ◌≡◌, refl, ltb, eqb, length, get_or}
-use Rattle.std.proofs.Common.{le-leb, eq-eqb, ne_eqb, eqb-true, arith, true≢false, sym, ◌∙◌, length-append}
+use Rattle.std.specs.Prelude.{ℕ, zero, suc, ◌+◌, ◌-◌, ◌*◌, ◌≤◌, ◌%◌, List, [], ◌∷◌, ◌++◌, Bool, true, false, ◌||◌, ◌≡◌, refl, ltb, eqb, length, get_or}
+use Rattle.std.proofs.Common.{le-leb, eq-eqb, ne_eqb, eqb-true, arith, true≢false, sym, length-append}
 use Rattle.std.proofs.lemmas.Bool.{lt-leb}
 use Rattle.refal_rows.specs.Tests.{range_lo, range_hi}
 use Rattle.refal_text.specs.Pick.{split}
@@ -22,7 +22,6 @@ use Rattle.refal_lexer.specs.declared.Scan.TheVariants.{Token, Bad}
 use Rattle.refal_lexer.specs.Source.{on_found}
 use Rattle.refal_lexer.specs.PlaceLaws.{FoundIn, found_in}
 use Rattle.refal_lexer.specs.TurnCases.{turn_cases}
-use Rattle.refal_lexer.specs.declared.Scan.TheVariants as S
 
 -- ---- a lawful row passes check 30
 scalar_test : (x : ℕ) → Scalar x → scalar x ≡ true
@@ -64,8 +63,8 @@ ok_tokens_lem l (ok_eof at) = refl
 ok_tokens_lem l (ok_more kind detail start len from to {ts} r h) = go ts h (row_good kind detail start len from to r) (ok_tokens_lem ts h)
   where
     go : (us : List Tok) → OkTokens us → good_token (token kind detail start len from to) ≡ true → ok_tokens us ≡ true → ok_tokens (token kind detail start len from to ∷ us) ≡ true
-    go [] h g e = elim h [ ]
     go (u ∷ us) h g e = rw (g, e)
+    go [] h g e = elim h [ ]
 
 -- ---- a literal's characters are scalar values
 quote_scalar : (q : ℕ) → eqb q 39 || eqb q 34 ≡ true → Scalar q

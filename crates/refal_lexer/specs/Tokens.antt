@@ -1,5 +1,5 @@
 -- What stands at offset `at`, at the front of s, where no white space and no comment does: the class of the first byte decides.
-use Rattle.std.specs.Prelude.{ℕ, ◌+◌, ◌&&◌, List, [], ◌∷◌, leb, ltb, eqb, drop, get_or}
+use Rattle.std.specs.Prelude.{ℕ, ◌+◌, List, [], ◌∷◌, ltb, eqb, drop, get_or}
 use Rattle.refal_text.specs.Pick.{pick}
 use Rattle.refal_text.specs.Utf8.{decode}
 use Rattle.refal_text.specs.declared.Char.{Char}

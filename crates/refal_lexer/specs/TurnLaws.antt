@@ -1,5 +1,5 @@
 -- Laws of the loop: blanks lead to tokens, a refusal or the end.
-use Rattle.std.specs.Prelude.{ℕ, zero, suc, ◌+◌, ◌-◌, ◌<◌, ◌≤◌, Bool, true, false, ◌&&◌, List, [], ◌∷◌, ◌≡◌, refl, length, take, drop, get_or}
+use Rattle.std.specs.Prelude.{ℕ, zero, suc, ◌+◌, ◌-◌, ◌<◌, ◌≤◌, Bool, true, false, List, [], ◌∷◌, ◌≡◌, refl, length, take, drop, get_or}
 use Rattle.std.proofs.Common.{add-zero, arith, eq-eqb, ne_eqb, ap, ap₂, sym, subst, ◌∙◌, length-drop, drop_of_length-le, drop-cons, drop-drop}
 use Rattle.refal_rows.specs.Rows.{put_row}
 use Rattle.refal_ast.specs.Tokens.{token, words}

@@ -1,5 +1,5 @@
 -- Laws of names, variables and directives: the ways out of their scans.
-use Rattle.std.specs.Prelude.{ℕ, ◌+◌, ◌-◌, ◌<◌, ◌≤◌, List, ◌∷◌, Bool, true, false, ◌&&◌, ◌||◌, ◌≡◌, refl, eqb, length, drop, get_or}
+use Rattle.std.specs.Prelude.{ℕ, ◌+◌, ◌-◌, ◌<◌, ◌≤◌, List, Bool, true, false, ◌||◌, ◌≡◌, refl, eqb, length, drop, get_or}
 use Rattle.std.proofs.Common.{le-leb, eq-eqb, ne_eqb, add-one, arith, ap, ◌∙◌, sym, drop_of_length-le, drop-cons}
 use Rattle.std.proofs.lemmas.Bool.{lt-leb}
 use Rattle.refal_text.specs.Span.{span}
