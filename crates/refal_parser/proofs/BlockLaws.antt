@@ -9,7 +9,7 @@ use lib.ListN.{length, get_or}
 use borrow.Author.Tests.{eqb-true, eqb-false}
 use Rattle.refal_ast.specs.Kinds.{tok_l_brace, tok_r_brace, tok_comma, tok_equals, tok_semicolon, tok_eof, node_condition, node_condition_block, node_ending_block}
 use Rattle.refal_ast.specs.Tree.{Terms, t0, c0, c_more, e_terms, Sentences, sentence, Body, b_all, b_off, Program, size_s, size_b}
-use Rattle.refal_parser.specs.Machine.{Begun, Argument, Block, Place, pattern, argument, matching, result, ending, in_condition, in_ending, State, within, between, matched, conditioned, equated, blocked, ended}
+use Rattle.refal_parser.specs.Machine.{Begun, Argument, Block, pattern, argument, matching, result, ending, in_condition, in_ending, within, between, matched, conditioned, equated, blocked, ended}
 use Rattle.refal_parser.specs.Machine.{Step, refuse, go, expected, among, either, begun, with_condition, to_terms, to_block, end_block, finished, left_off, leave, last_end}
 use Rattle.refal_parser.specs.Ready.{tok, end_before, Few, Ready}
 use Rattle.refal_parser.specs.Writers.{put_node, span_row, sentence_row, w_s, w_b}

@@ -1,11 +1,11 @@
 -- What the trees' writers leave: the rows of the tree's encoding. And one part more: a condition, a sentence, an item.
-use mathlib.Core.Path.{◌≡◌, refl, sym, ap, ◌∙◌}
+use mathlib.Core.Path.{◌≡◌, refl}
 use Prim.Native.Nat.{ℕ, ◌+◌}
 use mathlib.Core.Bool.{Bool, true, false}
 use mathlib.Core.List.{List}
 use native.Mathlib.Omega.{arith}
 use Rattle.refal_rows.specs.Writes.{Writes, none, sized, placed, then, row}
-use Rattle.refal_ast.specs.Kinds.{node_declaration, node_function, node_condition, node_terms, node_ending_block, node_condition_block, node_bracket, node_call}
+use Rattle.refal_ast.specs.Kinds.{node_declaration, node_function, node_condition, node_ending_block, node_condition_block, node_bracket, node_call}
 use Rattle.refal_ast.specs.Tree.{Leaf, symbol, variable, Term, leaf, bracket, call, Terms, t0, t_more, Right, r_terms, r_block, Condition, condition, Conditions, c0, c_more}
 use Rattle.refal_ast.specs.Tree.{End, e_terms, e_block, Sentence, sentence, Sentences, s0, s_more, Body, b_all, b_off, Names, n_one, n_more, Item, declaration, function, Program, p0, p_more}
 use Rattle.refal_ast.specs.Tree.{size_term, size_t, size_right, size_condition, size_c, size_end, size_sentence, size_s, size_b, size_n, size_item, size_p}

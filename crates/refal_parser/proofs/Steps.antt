@@ -17,7 +17,7 @@ use Rattle.refal_ast.specs.Limits.{most_levels}
 use Rattle.refal_parser.specs.Machine.{term_of, variable_of, Heading, Begun, Argument, Block, body, in_condition, in_ending, Place, pattern, argument, matching, result, ending, in_bracket, in_call}
 use Rattle.refal_parser.specs.Machine.{State, outside, wants_name, wants_more, named, entered, headed, between, within, calling, matched, conditioned, equated, blocked, ended}
 use Rattle.refal_parser.specs.Machine.{tree, refuse, Step, go, opens, expected, wants, among, closing, either, in_terms, at_terms, finished, left_off, leave, step, run}
-use Rattle.refal_parser.specs.Ready.{rest, tok, term_at, after_from, after_to, Ready}
+use Rattle.refal_parser.specs.Ready.{tok, term_at, after_from, after_to, Ready}
 use Rattle.refal_parser.specs.Post.{Cases, runs, Same, Refuses, leads, after, Joint}
 use Rattle.refal_parser.specs.PostTerms.{Closing}
 use Rattle.refal_parser.specs.PostBlock.{Opens}

@@ -2,7 +2,7 @@
 use mathlib.Core.Path.{◌≡◌, refl, sym, ap, ◌∙◌}
 use Prim.Native.Nat.{ℕ, suc, ◌+◌, ◌-◌, ◌≤◌, ◌<◌}
 use mathlib.Core.List.{List, [], ◌∷◌}
-use mathlib.Core.Bool.{true, false, ◌&&◌, true≢false}
+use mathlib.Core.Bool.{true, ◌&&◌, true≢false}
 use native.Mathlib.Omega.{arith}
 use lib.ListN.{length, get_or, drop, length-drop}
 use lib.Seq.{drop-cons}
@@ -10,7 +10,7 @@ use lib.Dec.{leb}
 use borrow.Author.Tests.{leb-true, eqb-true}
 use Rattle.refal_rows.specs.Tests.{and_left, and_right}
 use Rattle.refal_ast.specs.Kinds.{tok_eof}
-use Rattle.refal_ast.specs.Tokens.{Token, token, tokens_of}
+use Rattle.refal_ast.specs.Tokens.{Token, tokens_of}
 use Rattle.refal_ast.specs.Check.{good_token, ok_tokens}
 use Rattle.refal_parser.specs.Machine.{next_from, next_to}
 use Rattle.refal_parser.specs.Ready.{rest, tok, after_from, after_to, end_before, Ready}
