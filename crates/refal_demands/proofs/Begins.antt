@@ -5,7 +5,7 @@ use mathlib.Core.List.{List, ◌∷◌}
 use borrow.Author.Tests.{ne_eqb}
 use Rattle.refal_ast.specs.Kinds.{tok_identifier, tok_variable, tok_number, tok_char, tok_l_brace, tok_r_brace, tok_l_paren, tok_r_paren}
 use Rattle.refal_ast.specs.Kinds.{tok_l_angle, tok_r_angle, tok_comma, tok_colon, tok_eof}
-use Rattle.refal_ast.specs.Tokens.{Token, token}
+use Rattle.refal_ast.specs.Tokens.{Token}
 use Rattle.refal_ast.specs.Tree.{Leaf, symbol, variable, Term, leaf, bracket, call, Terms, t0, t_more, condition, Conditions, c0, c_more, Sentences, Program}
 use Rattle.refal_ast.specs.Flatten.{Flat, mark, name_of, flats_of, flat_leaf}
 use Rattle.refal_ast.specs.declared.tree.Symbol.TheVariants.{Char, Identifier, Number}

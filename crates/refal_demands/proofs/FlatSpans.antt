@@ -3,7 +3,7 @@ use mathlib.Core.Path.{◌≡◌, refl, sym, ap, ◌∙◌}
 use Prim.Native.Nat.{ℕ}
 use mathlib.Core.Bool.{Bool, true, false}
 use Rattle.refal_ast.specs.Tree.{Term, leaf, bracket, call, Terms, t0, t_more, Right, r_terms, r_block, Condition, condition, Conditions, c0, c_more}
-use Rattle.refal_ast.specs.Tree.{End, e_terms, e_block, Sentence, sentence, Sentences, s0, s_more, Body, b_all, b_off, Names, n_one, n_more, Item, declaration, function, Program, p0, p_more}
+use Rattle.refal_ast.specs.Tree.{End, e_terms, e_block, Sentence, sentence, Sentences, s0, s_more, Body, b_all, b_off, Item, declaration, function, Program, p0, p_more}
 use Rattle.refal_ast.specs.Flatten.{flatten_term, flatten_t, flatten_right, flatten_condition, flatten_c, flatten_end, flatten_sentence, flatten_s, flatten_b, flatten_item, flatten_p}
 use Rattle.refal_ast.specs.Flatten.{Loose, loose_none, loose_item}
 use Rattle.refal_demands.proofs.Respan.{respan_term, respan_t, respan_right, respan_condition, respan_c, respan_end, respan_sentence, respan_s, respan_b, respan_item, respan_p, erase_p}

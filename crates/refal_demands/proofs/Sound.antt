@@ -9,7 +9,7 @@ use borrow.Author.Tests.{eqb-true, eqb-false}
 use Rattle.refal_ast.specs.Kinds.{tok_entry, tok_extern, tok_identifier, tok_variable, tok_number, tok_char, tok_l_brace, tok_r_brace, tok_l_paren, tok_r_paren}
 use Rattle.refal_ast.specs.Kinds.{tok_l_angle, tok_r_angle, tok_comma, tok_colon, tok_equals, tok_semicolon, tok_eof}
 use Rattle.refal_ast.specs.Tokens.{Token}
-use Rattle.refal_ast.specs.Tree.{Leaf, variable, leaf, Terms, t0, t_more, Conditions, c0, End, e_terms, Sentences, s0, Body, b_all, Item, declaration, Program, p_more}
+use Rattle.refal_ast.specs.Tree.{Leaf, variable, leaf, Terms, t0, t_more, c0, End, e_terms, s0, Body, b_all, Item, declaration, Program, p_more}
 use Rattle.refal_ast.specs.Tree.{depth_t, depth_c, depth_end, depth_s, depth_b, depth_item, depth_p}
 use Rattle.refal_ast.specs.Flatten.{Flat, flat_token, mark, name_of, flat_of, flats_of, flat_leaf, flat_entry, flatten_item}
 use Rattle.refal_ast.specs.Flatten.{Loose, loose_semicolon, loose_item}
@@ -22,7 +22,7 @@ use Rattle.refal_parser.specs.Machine.{tree, refuse, Step, go, made, over, stop,
 use Rattle.refal_parser.specs.Machine.{after_pattern, after_end, end_of, in_terms, at_terms, leave, step, follow, run}
 use Rattle.refal_demands.proofs.Flats.{flat_t, flat_c, flat_end, flat_s, flat_b, flat_n, flat_b_is, flat_n_is}
 use Rattle.refal_demands.proofs.Fields.{Fields, plain, texted, detailed, Ends}
-use Rattle.refal_demands.proofs.Read.{read_s, read_b, read_x, read, Deep, OkB, OkX, Any, any, Ok}
+use Rattle.refal_demands.proofs.Read.{read_s, read_b, read_x, read, Deep, OkB, OkX, any, Ok}
 
 -- the state st, which stands after items that flatten to l₀, accepts the tokens that flatten to ks with the tree r
 pub record Sound (L : ℕ) (l₀ : List Flat) (st : State) (ks : List Flat) (r : Program) : Type 0 where

@@ -6,7 +6,7 @@ use mathlib.Core.Bool.{Bool, true, false, ◌&&◌}
 use mathlib.Core.List.{List, [], ◌∷◌, ◌++◌, append-nil, append_assoc}
 use native.Mathlib.Omega.{arith}
 use borrow.Author.Tests.{le-leb, ne_eqb}
-use Rattle.refal_ast.specs.Kinds.{tok_extern, tok_identifier, tok_char, tok_l_brace, tok_r_brace, tok_l_paren, tok_r_paren, tok_l_angle, tok_r_angle}
+use Rattle.refal_ast.specs.Kinds.{tok_identifier, tok_char, tok_l_brace, tok_r_brace, tok_r_paren, tok_r_angle}
 use Rattle.refal_ast.specs.Kinds.{tok_comma, tok_colon, tok_equals, tok_semicolon}
 use Rattle.refal_ast.specs.Kinds.{node_declaration, node_name, node_function, node_sentence, node_condition, node_terms, node_ending_block, node_condition_block}
 use Rattle.refal_ast.specs.Kinds.{node_identifier, node_number, node_char, node_variable, node_bracket, node_call}

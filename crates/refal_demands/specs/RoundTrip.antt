@@ -1,5 +1,5 @@
 -- The terms of demand 3's round trip: what reading and then parsing accept, and flattenings as spelled.
-use Rattle.std.specs.Prelude.{◌≡◌, ℕ, ◌*◌, ◌≤◌, true, List, length, take}
+use Rattle.std.specs.Prelude.{◌≡◌, ℕ, ◌*◌, ◌≤◌, List, length, take}
 use Rattle.refal_ast.specs.Nodes.{node_width}
 use Rattle.refal_ast.specs.Flatten.{flatten_p}
 use Rattle.refal_ast.specs.declared.Answer.TheVariants.{Done}

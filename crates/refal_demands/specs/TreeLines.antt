@@ -1,6 +1,6 @@
 -- What the program `tree` prints on a source, as document 01's worked table says it: a line for each row, with row, kind, detail, span start, span
 -- end and next; or `refused`, number, span start, span end. Numbers are in decimal, parted by spaces.
-use Rattle.std.specs.Prelude.{ℕ, suc, zero, ◌+◌, ◌*◌, ◌/◌, ◌%◌, Bool, true, false, List, [], ◌∷◌, ◌++◌, leb, length, take, replicate}
+use Rattle.std.specs.Prelude.{ℕ, suc, zero, ◌+◌, ◌*◌, ◌/◌, ◌%◌, List, [], ◌∷◌, ◌++◌, leb, length, take, replicate}
 use Rattle.refal_rows.specs.Rows.{pick_list}
 use Rattle.refal_ast.specs.Answers.{refusal}
 use Rattle.refal_ast.specs.Nodes.{node_width}

@@ -1,6 +1,6 @@
 -- Chains of rows in lent words: n links (row g's at g), then b heads of buckets; 0 ends a chain, g + 1 goes on at row g. What the words hold is a list of
 -- rows, newest first, and a row is put in above all that are in.
-use Rattle.std.specs.Prelude.{ℕ, zero, suc, ◌+◌, ◌≤◌, ◌<◌, Bool, ◌||◌, ◌≡◌, eqb, length, get_or, set}
+use Rattle.std.specs.Prelude.{ℕ, ◌+◌, ◌≤◌, ◌<◌, Bool, ◌||◌, ◌≡◌, eqb, length, get_or, set}
 use Rattle.std.proofs.Math.Bool.{true, false}
 use mathlib.Core.List.{List, [], ◌∷◌}
 use Rattle.std.proofs.Math.Path.{refl, sym}

@@ -1,6 +1,6 @@
 -- A name's bucket: of names with equal canonical forms it is one and the same. Nothing else is promised of it.
 use Rattle.std.specs.Prelude.{ℕ, ◌+◌, ◌*◌, ◌%◌, ◌/◌, ◌≤◌, ◌<◌, true, List, [], ◌∷◌, ◌≡◌, refl, length, drop, get_or}
-use Rattle.std.proofs.Common.{ap, sym, arith, mul-lt-mul_of_pos_right, mul-le-mul_right, mul_comm, div-lt_iff_lt-mul, mod-lt, add-one, drop_of_length-le, drop-cons}
+use Rattle.std.proofs.Common.{ap, sym, arith, mul-lt-mul_of_pos_right, mul-le-mul_right, div-lt_iff_lt-mul, mod-lt, add-one, drop_of_length-le, drop-cons}
 use Rattle.refal_ast.specs.Names.{canonical_name, names_equal, names_equal_lem}
 use Rattle.refal_ast.specs.NamesCode.{form_byte}
 

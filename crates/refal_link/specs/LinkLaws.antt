@@ -2,7 +2,7 @@
 use Prim.Native.Nat.{ℕ, zero, suc, ◌+◌, ◌-◌, ◌*◌, ◌/◌, ◌≤◌, ◌<◌, min}
 use Rattle.std.proofs.Math.Bool.{Bool, true, false, not}
 use Rattle.std.specs.Prelude.{◌&&◌, ◌||◌, ◌≡◌, leb, drop}
-use Rattle.std.proofs.Common.{true≢false, ap₂, ◌∙◌, le_refl, add-one}
+use Rattle.std.proofs.Common.{◌∙◌, le_refl, add-one}
 use mathlib.Core.List.{List, [], ◌∷◌, ◌++◌}
 use Rattle.std.proofs.Math.Option.{Option, none, some}
 use Rattle.std.proofs.Math.Path.{refl, ap, sym}
@@ -23,7 +23,7 @@ use Rattle.refal_ast.specs.Limits.{most_levels}
 use Rattle.refal_spelling.specs.Spellings.{all_spelled}
 use Rattle.refal_files.specs.Files.{Placed, text_of, both_rows, of_kind}
 use Rattle.refal_files.specs.FileLaws.{both_count, row_at, rows_from, rows_end, kind_in, kind_out, kind_end}
-use Rattle.refal_index.specs.Named.{bears, answers_to, seen}
+use Rattle.refal_index.specs.Named.{answers_to, seen}
 use Rattle.refal_link.specs.Link.{functions, declared, calls, among, repeated, missing, shown, shown_at, resolved, linked, refuse, checked, link_answer}
 
 -- ---- lawful words are not too many

@@ -1,22 +1,22 @@
 -- The theorems of Accepts.antt.
-use Rattle.std.specs.Prelude.{ℕ, zero, suc, ◌+◌, ◌-◌, ◌≤◌, ◌<◌, Bool, true, false, not, ◌&&◌, ◌||◌, List, [], ◌∷◌, ◌++◌, map, ◌≡◌, refl, eqb, leb, length, drop}
-use Rattle.std.proofs.Common.{true≢false, ap, ap₂, sym, subst, ◌∙◌, arith, le_refl, add_comm, add-one, length-append, le-leb, eqb-true, eq-eqb, ne_eqb}
+use Rattle.std.specs.Prelude.{ℕ, zero, suc, ◌+◌, ◌-◌, ◌≤◌, ◌<◌, Bool, true, false, not, ◌||◌, List, [], ◌∷◌, map, ◌≡◌, refl, eqb, length, drop}
+use Rattle.std.proofs.Common.{true≢false, ap, ap₂, sym, subst, ◌∙◌, arith, le_refl, add_comm, add-one, length-append, eqb-true, eq-eqb}
 use Rattle.std.proofs.Math.Option.{Option, none, some}
 use Rattle.std.proofs.Math.Decide.{dec_le}
-use Rattle.std.proofs.lemmas.Bool.{lt-leb, eqb-false, not-true, not-false}
+use Rattle.std.proofs.lemmas.Bool.{lt-leb, eqb-false, not-false}
 use Rattle.refal_text.specs.Pick.{pick}
 use Rattle.refal_rows.specs.Tests.{and_left, and_right}
 use Rattle.refal_ast.specs.Kinds.{node_name, node_function, node_call}
 use Rattle.refal_ast.specs.Names.{names_equal, same_sym, canonical_name}
 use Rattle.refal_ast.specs.Nodes.{Node, node_at, nodes_of}
 use Rattle.refal_ast.specs.declared.Answer.{Answer}
-use Rattle.refal_ast.specs.declared.Answer.TheVariants.{Done, Refused}
+use Rattle.refal_ast.specs.declared.Answer.TheVariants.{Done}
 use Rattle.refal_tree.specs.Lawful.{lawful}
 use Rattle.refal_spelling.specs.Spellings.{all_spelled}
-use Rattle.refal_files.specs.Files.{Placed, placed, node_text, text_of, file_rows, both_rows, of_kind}
+use Rattle.refal_files.specs.Files.{Placed, placed, text_of, file_rows, both_rows, of_kind}
 use Rattle.refal_files.specs.FileLaws.{row_count, both_count, row_at, row_one, row_two, kind_end, of_append}
 use Rattle.refal_index.specs.Named.{bears, answers_to, seen, seen_hit, seen_some, answers_is, answers_both}
-use Rattle.refal_link.specs.Link.{functions, declared, calls, repeated, missing, shown, shown_at, resolved, linked, refuse, checked, link_answer}
+use Rattle.refal_link.specs.Link.{functions, calls, repeated, shown, shown_at, resolved, linked, refuse, checked, link_answer}
 use Rattle.refal_link.specs.LinkLaws.{repeats, repeats_is, at_row, OpenAt, open_start, open_hit, open_next, open_end, Counting, calls_start, lost, lost_is, lost_not, calls_hit, calls_next, calls_end, linked_none, both_checked}
 use Rattle.refal_link.specs.Accepts.{Place, one, two, Stands, name_at, Met, by_function, by_declared, Links, calls_among, calls_in, AcceptsExactly, EitherWay}
 

@@ -13,7 +13,6 @@ use Rattle.refal_ast.specs.Kinds.{tok_number}
 use Rattle.refal_ast.specs.Limits.{most_bytes}
 use Rattle.refal_ast.specs.Names.{same_list, same_true, same_refl}
 use Rattle.refal_lexer.specs.Classes.{digit}
-use Rattle.refal_spelling.specs.Spell.{spelled}
 use Rattle.refal_spelling.specs.Spells.{spells}
 use Rattle.refal_spelling.specs.Good as G
 use Rattle.refal_spelling.specs.SpellsLaws.{number_spells}

@@ -1,5 +1,5 @@
 -- A Char alone in apostrophes, with a space behind it, is scanned as a literal of that one character.
-use Rattle.std.specs.Prelude.{ℕ, suc, ◌+◌, ◌≤◌, Bool, false, ◌≡◌, eqb}
+use Rattle.std.specs.Prelude.{ℕ, suc, ◌+◌, ◌≤◌, false, ◌≡◌, eqb}
 use Rattle.std.proofs.Common.{arith, eqb-true, ne_eqb, sym, subst, ◌∙◌, length-append}
 use Rattle.std.proofs.lemmas.Bool.{eqb-false}
 use mathlib.Core.List.{List, [], ◌∷◌, ◌++◌, append_assoc}
@@ -13,9 +13,9 @@ use Rattle.refal_text.specs.Utf8.{decode, char}
 use Rattle.refal_text.specs.declared.Char.{Char}
 use Rattle.refal_ast.specs.Kinds.{tok_char}
 use Rattle.refal_ast.specs.Tokens.{Token, token}
-use Rattle.refal_lexer.specs.Literals.{lit_char, Lit, closed, lit_step, lit_from, char_step, char_tokens}
+use Rattle.refal_lexer.specs.Literals.{lit_char, closed, lit_step, lit_from, char_step, char_tokens}
 use Rattle.refal_lexer.specs.LiteralLaws.{lit_skip, chars_skip}
-use Rattle.refal_lexer.specs.Tokens.{Found, found, literal_of, token_at}
+use Rattle.refal_lexer.specs.Tokens.{found, literal_of, token_at}
 use Rattle.refal_spelling.specs.Spell.{body}
 
 -- b ∷ bs is how the character x is written within apostrophes: whatever follows the closing one, it is read as x

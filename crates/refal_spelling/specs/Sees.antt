@@ -1,5 +1,5 @@
 -- What a scan finds, case by case: a refusal, or a token that is spelled well.
-use Rattle.std.specs.Prelude.{ℕ, suc, ◌+◌, ◌≤◌, Bool, true, false, ◌&&◌, ◌||◌, List, [], ◌∷◌, ◌++◌, ◌≡◌, refl, leb, ltb, eqb, length, take, drop, get_or}
+use Rattle.std.specs.Prelude.{ℕ, ◌+◌, ◌≤◌, Bool, true, false, ◌&&◌, ◌||◌, List, [], ◌∷◌, ◌++◌, ◌≡◌, refl, leb, eqb, length, take, drop}
 use Rattle.std.proofs.Common.{arith, add-zero, leb-true, eqb-true, true≢false, ap, sym, subst, take-append-drop}
 use Rattle.std.proofs.lemmas.Bool.{eqb-false}
 use Rattle.refal_rows.specs.Tests.{range_lo, range_hi}
@@ -12,7 +12,6 @@ use Rattle.refal_lexer.specs.Classes.{upper, digit, letter, name_byte, variable,
 use Rattle.refal_lexer.specs.ClassLaws.{ClassIs, is_wide, is_white, is_quote, is_star, is_slash, is_dollar, is_plus, is_minus, is_upper, is_digit}
 use Rattle.refal_lexer.specs.ClassLaws.{is_variable, is_other, is_single, single_range, is_none, class_view}
 use Rattle.refal_lexer.specs.Words.{entry_word, extern_word, directive_scan, name_scan, index_of, variable_scan}
-use Rattle.refal_lexer.specs.Numbers.{number_scan}
 use Rattle.refal_lexer.specs.Tokens.{sign_scan, class_scan, token_scan}
 use Rattle.refal_lexer.specs.declared.Scan.{Scan}
 use Rattle.refal_lexer.specs.declared.Scan.TheVariants.{Token, Bad}

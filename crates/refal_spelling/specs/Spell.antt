@@ -1,5 +1,5 @@
 -- How tokens are spelled in a written text: each flattened token, then one space (document 01 "Writing").
-use Rattle.std.specs.Prelude.{ℕ, ◌+◌, List, [], ◌∷◌, ◌++◌, eqb, take, drop}
+use Rattle.std.specs.Prelude.{ℕ, List, [], ◌∷◌, ◌++◌, eqb, take, drop}
 use Rattle.refal_text.specs.Pick.{pick}
 use Rattle.refal_text.specs.Encode.{encode}
 use Rattle.refal_ast.specs.Kinds.{tok_entry, tok_extern, tok_identifier, tok_variable, tok_number, tok_char, tok_l_brace, tok_r_brace}

@@ -1,5 +1,5 @@
 -- The test that a word is a spelling that reading gives for its kind (document 01, refusal 41), by the lexer's own definition.
-use Rattle.std.specs.Prelude.{ℕ, Bool, true, false, ◌&&◌, List, ◌∷◌, leb, eqb, length}
+use Rattle.std.specs.Prelude.{ℕ, Bool, false, ◌&&◌, List, ◌∷◌, leb, eqb, length}
 use Rattle.refal_text.specs.Span.{span}
 use Rattle.refal_ast.specs.Kinds.{tok_variable}
 use Rattle.refal_lexer.specs.Classes.{name_byte}

@@ -1,6 +1,6 @@
 -- Good tokens, each spelled with a space behind it, are read as those tokens at their places, and then the rest is read.
 use Rattle.std.specs.Prelude.{ℕ, suc, ◌+◌, ◌-◌, ◌<◌, ◌≤◌, Bool, true, false, ◌||◌, ◌&&◌, List, [], ◌∷◌, ◌++◌, ◌≡◌, refl, T, ltb, eqb, length}
-use Rattle.std.proofs.Common.{arith, add-zero, add-one, ltb-true, eqb-true, ne_eqb, append_assoc, ap, ap₂, sym, subst, ◌∙◌, eqb→eq, length-append}
+use Rattle.std.proofs.Common.{arith, add-zero, add-one, ltb-true, eqb-true, ne_eqb, append_assoc, ap, ap₂, sym, subst, ◌∙◌, length-append}
 use Rattle.std.proofs.Math.Seq.{drop-append_seam}
 use Rattle.refal_rows.specs.Tests.{each_below}
 use Rattle.refal_ast.specs.Kinds.{tok_entry, tok_extern, tok_identifier, tok_variable, tok_number, tok_char}

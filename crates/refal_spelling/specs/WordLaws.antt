@@ -1,5 +1,5 @@
 -- Laws of words: the tests of the code hold exactly of the words that reading gives.
-use Rattle.std.specs.Prelude.{ℕ, zero, suc, ◌+◌, ◌-◌, ◌<◌, ◌≤◌, Bool, true, false, ◌&&◌, ◌||◌, List, [], ◌∷◌, ◌++◌, ◌≡◌, refl, leb, eqb, length, take, drop, get_or}
+use Rattle.std.specs.Prelude.{ℕ, zero, suc, ◌+◌, ◌<◌, ◌≤◌, Bool, true, false, ◌&&◌, ◌||◌, List, [], ◌∷◌, ◌++◌, ◌≡◌, refl, leb, eqb, length, take, drop, get_or}
 use Rattle.std.proofs.Common.{arith, zero-add, lt-ltb, ne_eqb, eqb-true, true≢false, append-nil, ap, sym, subst, ◌∙◌, eqb→eq, take_all}
 use Rattle.std.proofs.lemmas.Bool.{eqb-false}
 use Rattle.std.proofs.Math.Bool.{and-false}
@@ -11,7 +11,6 @@ use Rattle.refal_lexer.specs.Classes.{name_byte, digit, upper, class_of}
 use Rattle.refal_lexer.specs.BlankLaws.{nonzero_in}
 use Rattle.refal_lexer.specs.Numbers.{whole_scan, number_scan}
 use Rattle.refal_lexer.specs.Tokens.{token_scan}
-use Rattle.refal_lexer.specs.declared.Scan.{Scan}
 use Rattle.refal_lexer.specs.declared.Scan.TheVariants.{Token}
 use Rattle.refal_spelling.specs.Spell.{spelled}
 use Rattle.refal_spelling.specs.Spells.{token_to, spells, spells_index}

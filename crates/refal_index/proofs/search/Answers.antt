@@ -1,5 +1,5 @@
 -- `refal_index::search` meets its contract.
-use Rattle.std.proofs.Common.{arith, false, ◌≡◌, sym, ap, ◌∙◌}
+use Rattle.std.proofs.Common.{arith, ◌≡◌, sym, ap, ◌∙◌}
 use Rattle.refal_index.specs.Named.{seen, seen_none, seen_more, seen_hit}
 use Rattle.refal_index.proofs.search.Goals as goal
 

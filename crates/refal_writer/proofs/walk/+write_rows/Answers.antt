@@ -1,5 +1,5 @@
 -- `refal_writer::walk::write_rows` meets its contract.
-use Rattle.std.proofs.Common.{ℕ, ◌+◌, ◌-◌, ◌≤◌, ◌<◌, List, ◌≡◌, refl, subst, ◌∙◌, arith, rules}
+use Rattle.std.proofs.Common.{ℕ, ◌+◌, ◌-◌, ◌≤◌, ◌<◌, List, ◌≡◌, refl, subst, arith, rules}
 use Rattle.refal_tree.specs.Walk.{flat_at}
 use Rattle.refal_writer.specs.Puts.{Pours, pours_start, pours_on, pours_end}
 use Rattle.refal_writer.specs.Token.{text_of}
