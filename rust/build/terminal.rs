@@ -32,15 +32,14 @@ impl Proving {
         }
     }
 
-    /// Takes a line that `rt` prints.
+    /// Takes a line that `rt` prints: once a crate was gone through, `crate NAME: ..`.
     pub fn line(&self, line: &str) {
-        let words: Vec<&str> = line.split_whitespace().collect();
-        for pair in words.windows(2) {
-            if pair[1].starts_with("proved") && self.crates.iter().any(|name| name == pair[0]) {
-                // The thread ends only after all senders have.
-                let _ = self.news.send(pair[0].into());
-                return;
-            }
+        let name = line.strip_prefix("crate ").and_then(|rest| rest.split_once(':'));
+        if let Some((name, _)) = name
+            && self.crates.iter().any(|known| known == name)
+        {
+            // The thread ends only after all senders have.
+            let _ = self.news.send(name.into());
         }
     }
 
