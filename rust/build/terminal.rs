@@ -34,7 +34,9 @@ impl Proving {
 
     /// Takes a line that `rt` prints: once a crate was gone through, `crate NAME: ..`.
     pub fn line(&self, line: &str) {
-        let name = line.strip_prefix("crate ").and_then(|rest| rest.split_once(':'));
+        let name = line
+            .strip_prefix("crate ")
+            .and_then(|rest| rest.split_once(':'));
         if let Some((name, _)) = name
             && self.crates.iter().any(|known| known == name)
         {
