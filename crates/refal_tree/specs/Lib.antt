@@ -1,10 +1,11 @@
--- Definitions: Forest (rows with their children), States (which rows may stand where), Rules (what lawful rows keep), Typed (trees as
+-- Definitions: Forest (rows with their children), States (which rows may stand where), StateCodes (the code's states), Rules (what lawful rows keep), Typed (trees as
 -- forests), Lawful (the tree that words are; the test for refusal 40), FlattenRows (flattening row by row), Ranges (rows i to j).
 -- Laws: ForestLaws (words and forests), TypedWords, TypedRules, Views and Sound (trees and forests), Walk (a walk of lawful rows),
 -- Whole (the test as a check of all rows), Levels.
 pub mod Forest
 pub mod ForestLaws
 pub mod States
+pub mod StateCodes
 pub mod Rules
 pub mod Typed
 pub mod TypedWords

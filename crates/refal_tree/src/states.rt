@@ -2,8 +2,121 @@
 ghost use Rattle.std.specs.Prelude.{◌≡◌};
 ghost use Rattle.refal_tree.specs.States.{on_state, lower as one_less, term_kind, at_items, at_conditions, at_colon, at_terms, state_after as after_child, leaves_off, state_next as next_state, state_inside as first_state, may_end as may_end};
 ghost use Rattle.refal_tree.specs.States.{may_stand as may_stand, counts as is_level, opens as lowers, room as has_room, below as levels_inside};
+ghost use Rattle.refal_ast.specs.KindCodes.{node_code};
+ghost use Rattle.refal_tree.specs.StateCodes.{state_code, Follows};
 
-use refal_ast::kinds::node;
+use crate::kinds::{counts as counts_for_depth, is_term as is_term_kind};
+use refal_ast::kinds::{NodeKind, node};
+
+// What a node's children, from here on, may be.
+#[derive(Clone, Copy, Debug, PartialEq, Eq)]
+pub enum State {
+    // At the top: declarations and functions.
+    Items,
+    // In a declaration, before its first name, and after a name.
+    Name,
+    Names,
+    // In a function or a condition's block: sentences.
+    Sentences,
+    // In a sentence, before its pattern, and after it: conditions, then terms or an ending block.
+    Pattern,
+    Conditions,
+    // In a condition, before its first terms, and after them: terms or a block.
+    Condition,
+    Colon,
+    // In terms, a bracket or a call: terms.
+    Terms,
+    // In an ending block, before its argument, and after it: sentences.
+    Argument,
+    Ending,
+    // No more rows.
+    Closed,
+}
+
+impl State {
+    // The state before the first child of a node of the kind.
+    pub fn inside(kind: NodeKind) -> State
+        ensures { state_code result ≡ first_state (node_code kind) }
+    {
+        match kind {
+            NodeKind::Declaration => State::Name,
+            NodeKind::Function | NodeKind::ConditionBlock => State::Sentences,
+            NodeKind::Sentence => State::Pattern,
+            NodeKind::Condition => State::Condition,
+            NodeKind::Terms | NodeKind::Bracket | NodeKind::Call => State::Terms,
+            NodeKind::EndingBlock => State::Argument,
+            _ => State::Closed,
+        }
+    }
+
+    // The state after a row of the kind and the detail, None where no such row may stand. A sentence whose `;` is left off
+    // is the last of its function or block.
+    pub fn after(self, kind: NodeKind, detail: u32) -> Option<State>
+        ensures { Follows (state_code self) (node_code kind) detail result }
+    {
+        match (self, kind) {
+            (State::Items, NodeKind::Declaration | NodeKind::Function) => Some(State::Items),
+            (State::Name | State::Names, NodeKind::Name) => Some(State::Names),
+            (State::Sentences | State::Ending, NodeKind::Sentence) if detail == 1 => Some(
+                State::Closed,
+            ),
+            (State::Sentences | State::Ending, NodeKind::Sentence) => Some(self),
+            (State::Pattern, NodeKind::Terms) => Some(State::Conditions),
+            (State::Conditions, NodeKind::Condition) => Some(State::Conditions),
+            (State::Conditions, NodeKind::Terms | NodeKind::EndingBlock) => Some(State::Closed),
+            (State::Condition, NodeKind::Terms) => Some(State::Colon),
+            (State::Colon, NodeKind::Terms | NodeKind::ConditionBlock) => Some(State::Closed),
+            (State::Terms, _) if is_term_kind(kind) => Some(State::Terms),
+            (State::Argument, NodeKind::Terms) => Some(State::Ending),
+            _ => None,
+        }
+    }
+
+    // Whether a node's children may end here.
+    pub fn ends(self) -> bool
+        ensures { result ≡ may_end (state_code self) }
+    {
+        matches!(
+            self,
+            State::Items
+                | State::Names
+                | State::Sentences
+                | State::Terms
+                | State::Ending
+                | State::Closed
+        )
+    }
+
+    // Whether the levels fall by one below a row of the kind. Those of an ending block fall at its sentences, since its
+    // argument stands outside it.
+    fn opens(self, kind: NodeKind) -> bool
+        ensures { result ≡ lowers (state_code self) (node_code kind) }
+    {
+        self == State::Ending
+            || matches!(
+                kind,
+                NodeKind::ConditionBlock | NodeKind::Bracket | NodeKind::Call
+            )
+    }
+
+    // The levels left below a row of the kind.
+    pub fn below(self, kind: NodeKind, left: usize) -> usize
+        ensures { result ≡ levels_inside (state_code self) (node_code kind) left }
+    {
+        if self.opens(kind) {
+            left.saturating_sub(1)
+        } else {
+            left
+        }
+    }
+}
+
+// Whether a row of the kind may stand where so many levels are left.
+pub fn has_room(kind: NodeKind, left: usize) -> bool
+    ensures { result ≡ has_room (node_code kind) left }
+{
+    !counts_for_depth(kind) || 1 <= left
+}
 
 // No tree has come this far.
 pub const WRONG: u32 = 0;
