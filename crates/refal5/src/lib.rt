@@ -10,9 +10,11 @@ ghost use Rattle.refal_parser.specs.Parse.{parse_answer, parse_rows};
 ghost use Rattle.refal_writer.specs.Write.{write_answer, write_bytes};
 ghost use Rattle.refal_link.specs.Link.{link_answer, link_words};
 ghost use Rattle.refal_real.specs.Real.{real_answer, real_digits, real_form};
+ghost use Rattle.refal_ast.specs.Told.{told};
 ghost use Rattle.refal5.specs.Words.{answer_words};
 
 use refal_ast::Answer;
+use refal_ast::answers::Refusal;
 
 // An answer's seven words.
 fn words(a: Answer) -> [u64; 7]
@@ -28,6 +30,24 @@ fn words(a: Answer) -> [u64; 7]
             r.start as u64,
             r.end as u64,
             r.need as u64,
+        ],
+    }
+}
+
+// The seven words of a count or a refusal.
+fn words_of(answer: Result<usize, Refusal>) -> [u64; 7]
+    ensures { result ≡ answer_words (told answer) }
+{
+    match answer {
+        Ok(n) => [0, n as u64, 0, 0, 0, 0, 0],
+        Err(refusal) => [
+            u64::from(u32::from(refusal.reason)),
+            0,
+            u64::from(refusal.expected_code()),
+            u64::from(refusal.found_code()),
+            refusal.span.start as u64,
+            refusal.span.end as u64,
+            refusal.need as u64,
         ],
     }
 }
