@@ -1,5 +1,5 @@
 -- Definitions: Classes, Stars, Blanks, Words, Numbers, Literals, Tokens, Lex, Source, Read.
--- The form that the code follows, with a flag carried along, and what its functions answer: Carried, Steps, Puts.
+-- The form that the code follows, with a flag carried along, and what its functions answer: Carried, Steps, Puts, Told.
 -- Laws of each scan: ClassLaws, BlankLaws, SpaceLaws, WordLaws, NumberLaws, LiteralLaws, ScanLaws, PlaceLaws. Laws of reading: TurnCases, LexLaws, TurnLaws, ReadLaws.
 -- That the flag is 01's rule for stars: LineLaws, StarLaws. Telling cases of that rule: StarCases.
 -- Telling cases of the sign after a number's `E`: ExponentCases.
@@ -17,6 +17,7 @@ pub mod Read
 pub mod Carried
 pub mod Steps
 pub mod Puts
+pub mod Told
 pub mod ClassLaws
 pub mod BlankLaws
 pub mod SpaceLaws

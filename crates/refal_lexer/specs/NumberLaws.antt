@@ -1,5 +1,5 @@
 -- Laws of numbers.
-use Rattle.std.specs.Prelude.{ℕ, zero, suc, ◌+◌, ◌-◌, ◌<◌, ◌≤◌, ◌*◌, List, [], ◌∷◌, Bool, true, false, ◌&&◌, ◌≡◌, refl, leb, ltb, eqb, length, drop, get_or}
+use Rattle.std.specs.Prelude.{ℕ, zero, suc, ◌+◌, ◌-◌, ◌<◌, ◌≤◌, ◌*◌, List, [], ◌∷◌, Bool, true, false, ◌&&◌, ◌≡◌, refl, leb, ltb, eqb, length, drop, get_or, Option, Some, None, option_and_then}
 use Rattle.std.proofs.Common.{le-leb, eq-eqb, ne_eqb, add-zero, le_refl, add-one, arith, true≢false, ap, ap₂, ◌∙◌, sym, drop_of_length-le, drop-cons, drop-drop}
 use Rattle.std.proofs.lemmas.Bool.{lt-leb}
 use Rattle.std.proofs.Math.Decide.{dec_le}
@@ -7,7 +7,7 @@ use Rattle.refal_rows.specs.Tests.{and_right}
 use Rattle.refal_text.specs.Pick.{pick, split}
 use Rattle.refal_text.specs.Span.{span}
 use Rattle.refal_lexer.specs.Classes.{digit, sign}
-use Rattle.refal_lexer.specs.Numbers.{value, ends, digits_at, sign_bytes, part, point_at, exponent_at, whole_scan, number_of, digits_end, number_scan}
+use Rattle.refal_lexer.specs.Numbers.{value, macrodigit, ends, digits_at, sign_bytes, part, point_at, exponent_at, whole_scan, number_of, digits_end, number_scan}
 use Rattle.refal_lexer.specs.BlankLaws.{nonzero_in}
 use Rattle.refal_lexer.specs.declared.number.Part.{Part}
 use Rattle.refal_lexer.specs.declared.Scan.{Scan}
@@ -60,6 +60,49 @@ worth_stop v s i h e = rw (drop-cons s i 0, e)
 
 pub worth_step : (v : ℕ) (s : List ℕ) (i : ℕ) → i < length s → digit (get_or s i 0) ≡ true → worth (digit_step v (get_or s i 0)) (drop (i + 1) s) ≡ worth v (drop i s)
 worth_step v s i h e = rw (drop-cons s i 0 h, e, add-one i)
+
+-- a number, where it is 4294967295 at most
+abbrev pub fit : ℕ → Option ℕ
+fit v = pick (leb v 4294967295) (Some v) None
+
+-- what the code counts: none from where it passes 4294967295 on
+abbrev pub digit_next : Option ℕ → ℕ → Option ℕ
+digit_next v b = option_and_then (λ (x : ℕ). fit (x * 10 + (b - 48))) v
+
+abbrev pub counted : Option ℕ → List ℕ → Option ℕ
+counted v [] = v
+counted v (b ∷ s) = pick (digit b) (counted (digit_next v b) s) v
+
+next_fit : (v b : ℕ) → digit_next (fit v) b ≡ fit (v * 10 + (b - 48))
+next_fit v b = go (dec_le v 4294967295)
+  where
+    go : Dec (v ≤ 4294967295) → digit_next (fit v) b ≡ fit (v * 10 + (b - 48))
+    go (yes l) = rw (le-leb _ _ l) refl
+    go (no l) =
+        let h : 4294967295 < v = omega arith in
+        let k : 4294967295 < v * 10 + (b - 48) = omega arith in
+        rw (lt-leb _ _ h, lt-leb _ _ k) refl
+
+counted_fit : (v : ℕ) (s : List ℕ) → counted (fit v) s ≡ fit (value v s)
+counted_fit v [] = refl
+counted_fit v (b ∷ s) = go (digit b) (ap (λ (x : Option ℕ). counted x s) (next_fit v b) ∙ counted_fit (v * 10 + (b - 48)) s)
+  where
+    go : (t : Bool) → counted (digit_next (fit v) b) s ≡ fit (value (v * 10 + (b - 48)) s) → pick t (counted (digit_next (fit v) b) s) (fit v) ≡ fit (pick t (value (v * 10 + (b - 48)) s) v)
+    go true h = h
+    go false h = refl
+
+-- the code's count is what the digits are worth
+pub counted_is : (s : List ℕ) → counted (Some 0) s ≡ macrodigit s
+counted_is s = counted_fit 0 s
+
+pub counted_end : (v : Option ℕ) (s : List ℕ) (i : ℕ) → length s ≤ i → counted v (drop i s) ≡ v
+counted_end v s i h = rw (drop_of_length-le s h)
+
+pub counted_stop : (v : Option ℕ) (s : List ℕ) (i : ℕ) → i < length s → digit (get_or s i 0) ≡ false → counted v (drop i s) ≡ v
+counted_stop v s i h e = rw (drop-cons s i 0, e)
+
+pub counted_step : (v : Option ℕ) (s : List ℕ) (i : ℕ) → i < length s → digit (get_or s i 0) ≡ true → counted (digit_next v (get_or s i 0)) (drop (i + 1) s) ≡ counted v (drop i s)
+counted_step v s i h e = rw (drop-cons s i 0 h, e, add-one i)
 
 -- ---- the part at i that a mark begins
 eqb_sum : (a n : ℕ) → eqb (a + n) a ≡ eqb n 0

@@ -1,6 +1,6 @@
 -- Numbers: digits, then `.` with digits, then `E` with digits, before which one sign may stand, both optional. s stands at offset `at`; its digits start
 -- at `from`, which is 1 behind a sign and else 0.
-use Rattle.std.specs.Prelude.{ℕ, ◌+◌, ◌-◌, ◌*◌, List, [], ◌∷◌, leb, ltb, eqb, drop, Bool, true, false, ◌&&◌}
+use Rattle.std.specs.Prelude.{ℕ, ◌+◌, ◌-◌, ◌*◌, List, [], ◌∷◌, leb, ltb, eqb, drop, Bool, true, false, ◌&&◌, Option, Some, None}
 use Rattle.refal_text.specs.Pick.{pick}
 use Rattle.refal_text.specs.Span.{span}
 use Rattle.refal_ast.specs.Kinds.{tok_number}
@@ -13,6 +13,10 @@ use Rattle.refal_lexer.specs.declared.number.Part.{Part}
 abbrev pub value : ℕ → List ℕ → ℕ
 value v [] = v
 value v (b ∷ s) = pick (digit b) (value (v * 10 + (b - 48)) s) v
+
+-- what the digits at the front of s are worth, where that is 4294967295 at most
+abbrev pub macrodigit : List ℕ → Option ℕ
+macrodigit s = pick (leb (value 0 s) 4294967295) (Some (value 0 s)) None
 
 -- where a part ends, and whether no digit stands in it
 abbrev pub ends : ℕ → Bool → Part

@@ -1,16 +1,30 @@
 // Numbers, at the front of src, whose offset is `at`.
-ghost use Rattle.std.specs.Prelude.{◌≡◌, true, ◌+◌, ◌≤◌, ◌<◌, length, drop, get_or};
+ghost use Rattle.std.specs.Prelude.{◌≡◌, true, ◌+◌, ◌-◌, ◌*◌, ◌≤◌, ◌<◌, length, drop, get_or};
 ghost use Rattle.refal_text.specs.Span.{span};
 ghost use Rattle.refal_lexer.specs.Classes.{digit};
-ghost use Rattle.refal_lexer.specs.NumberLaws.{worth, digit_step};
-ghost use Rattle.refal_lexer.specs.Numbers.{part as part_of, sign_bytes, point_at, exponent_at, whole_scan, number_scan};
+ghost use Rattle.refal_lexer.specs.NumberLaws.{worth, digit_step, fit};
+ghost use Rattle.refal_lexer.specs.Told.{part_told};
+ghost use Rattle.refal_lexer.specs.Numbers.{macrodigit, part, sign_bytes, point_at, exponent_at, whole_scan, number_scan};
 
 use crate::Scan;
 use refal_ast::kinds::token as kind;
 
+// Where a run of digits ends, and what it is worth: none where that is more than 4294967295.
+#[derive(Clone, Copy, Debug, PartialEq, Eq)]
+pub struct Whole {
+    pub end: usize,
+    pub worth: Option<u32>,
+}
+
+// No digit stands in the part that ends here.
+#[derive(Clone, Copy, Debug, PartialEq, Eq)]
+pub struct Bare {
+    pub end: usize,
+}
+
 // Where a run of digits ends, and what it is worth, or some number above 4294967295 where it is worth more.
 #[derive(Clone, Copy)]
-pub struct Whole {
+pub struct Count {
     pub end: usize,
     pub worth: u64,
 }
@@ -39,7 +53,7 @@ fn add_digit(v: u64, b: u8) -> u64
     }
 }
 
-pub fn whole_end(src: &[u8], at: usize) -> Whole
+pub fn whole_end(src: &[u8], at: usize) -> Count
     requires { at ≤ length src.now }
     ensures { (result.end ≡ at + span digit (drop at src.now)) × (result.end ≤ length src.now) × (result.worth ≡ worth 0 (drop at src.now)) }
 {
@@ -48,12 +62,37 @@ pub fn whole_end(src: &[u8], at: usize) -> Whole
     while i < src.len() {
         let b = src[i];
         if !crate::class::is_digit(b) {
-            return Whole { end: i, worth: v };
+            return Count { end: i, worth: v };
         }
         v = add_digit(v, b);
         i += 1;
     }
-    Whole { end: i, worth: v }
+    Count { end: i, worth: v }
+}
+
+// What digits that are worth v are worth with the digit b behind.
+fn with_digit(v: u32, b: u8) -> Option<u32>
+    requires { digit b ≡ true }
+    ensures { result ≡ fit (v * 10 + (b - 48)) }
+{
+    v.checked_mul(10)?.checked_add(u32::from(b - b'0'))
+}
+
+// The digits at `at`.
+pub fn digits(src: &[u8], at: usize) -> Whole
+    requires { at ≤ length src.now }
+    ensures end { result.end ≡ at + span digit (drop at src.now) }
+    ensures within { result.end ≤ length src.now }
+    ensures worth { result.worth ≡ macrodigit (drop at src.now) }
+{
+    let mut end = at;
+    let mut worth = Some(0u32);
+    while end < src.len() && src[end].is_ascii_digit() {
+        let b = src[end];
+        worth = worth.and_then(|v| with_digit(v, b));
+        end += 1;
+    }
+    Whole { end, worth }
 }
 
 // Where the digits of a part start: at `at`, or behind a sign there, if the part is signed.
@@ -68,22 +107,52 @@ fn past_sign(src: &[u8], at: usize, signed: bool) -> usize
     at
 }
 
-// The part at `at` that `mark` begins. If it is signed, one sign may stand before its digits.
-fn marked(src: &[u8], at: usize, mark: u8, signed: bool) -> Part
-    requires { (at ≤ length src.now) × (0 < mark) }
-    ensures { (result ≡ part_of mark signed at (drop at src.now)) × (at ≤ result.end) × (result.end ≤ length src.now) }
+// The end of the part at `at` that `mark` begins; no part ends where it would start. If it is signed, one sign may stand before its digits.
+fn marked(src: &[u8], at: usize, mark: u8, signed: bool) -> Result<usize, Bare>
+    requires inside { at ≤ length src.now }
+    requires some { 0 < mark }
+    ensures part { part_told result ≡ part mark signed at (drop at src.now) }
+    ensures from { at ≤ (part_told result).end }
+    ensures to { (part_told result).end ≤ length src.now }
 {
-    let b = refal_text::byte(src, at);
-    if b == mark {
-        let next = at + 1;
-        let first = past_sign(src, next, signed);
-        let end = crate::runs::digits_end(src, first);
-        let bare = end == first;
-        return Part { end, bare };
+    if refal_text::byte(src, at) != mark {
+        return Ok(at);
     }
-    Part {
-        end: at,
-        bare: false,
+    let first = past_sign(src, at + 1, signed);
+    let end = crate::runs::digits_end(src, first);
+    if end == first {
+        Err(Bare { end })
+    } else {
+        Ok(end)
+    }
+}
+
+// The end of a point and digits.
+pub fn fraction(src: &[u8], at: usize) -> Result<usize, Bare>
+    requires { at ≤ length src.now }
+    ensures part { part_told result ≡ point_at at src.now }
+    ensures from { at ≤ (part_told result).end }
+    ensures to { (part_told result).end ≤ length src.now }
+{
+    marked(src, at, b'.', false)
+}
+
+// The end of an E, a sign or none, and digits.
+pub fn power(src: &[u8], at: usize) -> Result<usize, Bare>
+    requires { at ≤ length src.now }
+    ensures part { part_told result ≡ exponent_at at src.now }
+    ensures from { at ≤ (part_told result).end }
+    ensures to { (part_told result).end ≤ length src.now }
+{
+    marked(src, at, b'E', true)
+}
+
+fn as_part(found: Result<usize, Bare>) -> Part
+    ensures { result ≡ part_told found }
+{
+    match found {
+        Ok(end) => Part { end, bare: false },
+        Err(Bare { end }) => Part { end, bare: true },
     }
 }
 
@@ -91,14 +160,14 @@ pub fn point(src: &[u8], at: usize) -> Part
     requires { at ≤ length src.now }
     ensures { (result ≡ point_at at src.now) × (at ≤ result.end) × (result.end ≤ length src.now) }
 {
-    marked(src, at, b'.', false)
+    as_part(fraction(src, at))
 }
 
 pub fn exponent(src: &[u8], at: usize) -> Part
     requires { at ≤ length src.now }
     ensures { (result ≡ exponent_at at src.now) × (at ≤ result.end) × (result.end ≤ length src.now) }
 {
-    marked(src, at, b'E', true)
+    as_part(power(src, at))
 }
 
 // A number with neither point nor E, of n bytes, whose digits start at `from`.
