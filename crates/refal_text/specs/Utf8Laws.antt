@@ -170,7 +170,7 @@ decode_in s at h = rw (decode_at s at h) (
 
 -- ---- the ways out of `char_in`
 module _ (s : List ℕ) (at n : ℕ) (h : at < length s) (e : n ≡ leads (get_or s at 0)) where
-  lead_by : decode (drop at s) ≡ by_lead n (get_or s at 0) (get_or s (at + 1) 0) (get_or s (at + 2) 0) (get_or s (at + 3) 0)
+  pub lead_by : decode (drop at s) ≡ by_lead n (get_or s at 0) (get_or s (at + 1) 0) (get_or s (at + 2) 0) (get_or s (at + 3) 0)
   lead_by = decode_at s at h ∙ ap (λ (k : ℕ). by_lead k (get_or s at 0) (get_or s (at + 1) 0) (get_or s (at + 2) 0) (get_or s (at + 3) 0)) (sym e)
 
   pub char_one : (w : ℕ) → n ≡ 0 → w ≡ get_or s at 0 → char w 1 ≡ decode (drop at s)

@@ -1,14 +1,15 @@
 // Characters in UTF-8, and white space.
 #![tactic(auto)]
 
-ghost use Rattle.std.specs.Prelude.{◌≡◌, ◌&&◌, ◌+◌, ◌-◌, ◌≤◌, ◌<◌, leb, length, drop, get_or};
-ghost use Rattle.refal_text.specs.Utf8.{leads, second, well2, well3, well4, two, three, four, decode, well_to, ascii};
+ghost use Rattle.std.specs.Prelude.{◌≡◌, ◌&&◌, ◌+◌, ◌-◌, ◌≤◌, ◌<◌, IfSome, leb, length, drop, get_or};
+ghost use Rattle.refal_text.specs.Utf8.{leads, second, cont, two, three, four, decode, well_to, ascii};
+ghost use Rattle.refal_text.specs.Told.{char_told, place_told};
 ghost use Rattle.refal_text.specs.White.{white_space};
 ghost use Rattle.refal_text.specs.Span.{span};
 ghost use Rattle.refal_text.specs.AsciiLaws.{eight, block};
 
-// A character and how many bytes it has; 0 where the bytes are no character.
-#[derive(Clone, Copy)]
+// A character and how many bytes it has.
+#[derive(Clone, Copy, Debug, PartialEq, Eq)]
 pub struct Char {
     pub code: u32,
     pub len: usize,
@@ -18,13 +19,13 @@ pub struct Char {
 pub fn byte(src: &[u8], i: usize) -> u8
     ensures { result ≡ get_or src.now i 0 }
 {
-    if i < src.len() { src[i] } else { 0 }
+    src.get(i).copied().unwrap_or(0)
 }
 
 pub fn wide(b: u8) -> u32
     ensures { result ≡ b }
 {
-    b as u32
+    u32::from(b)
 }
 
 // How many one bits a lead byte begins with.
@@ -34,124 +35,88 @@ pub fn lead(a: u8) -> u32
     u8::leading_zeros(!a)
 }
 
+// Whether b continues a character.
+fn is_continuation(b: u8) -> bool
+    ensures { result ≡ cont b }
+{
+    matches!(b, 0x80..=0xBF)
+}
+
 // Whether table 3-7 has b as the second byte after the lead byte a.
 fn is_second(a: u8, b: u8) -> bool
     ensures { result ≡ second a b }
 {
-    if a == 224 {
-        return (160 <= b) & (b <= 191);
+    match a {
+        0xE0 => matches!(b, 0xA0..=0xBF),
+        0xED => matches!(b, 0x80..=0x9F),
+        0xF0 => matches!(b, 0x90..=0xBF),
+        0xF4 => matches!(b, 0x80..=0x8F),
+        _ => is_continuation(b),
     }
-    if a == 237 {
-        return (128 <= b) & (b <= 159);
-    }
-    if a == 240 {
-        return (144 <= b) & (b <= 191);
-    }
-    if a == 244 {
-        return (128 <= b) & (b <= 143);
-    }
-    (128 <= b) & (b <= 191)
-}
-
-// Whether a and b are a sequence of two bytes.
-pub fn is_two(a: u8, b: u8) -> bool
-    ensures { result ≡ well2 a b }
-{
-    (194 <= a) & ((128 <= b) & (b <= 191))
-}
-
-// Whether a, b and c are a sequence of three bytes, where a leads one.
-pub fn is_three(a: u8, b: u8, c: u8) -> bool
-    ensures { result ≡ well3 a b c }
-{
-    let s = is_second(a, b);
-    s & ((128 <= c) & (c <= 191))
-}
-
-// Whether a, b, c and d are a sequence of four bytes, where a leads one or none.
-pub fn is_four(a: u8, b: u8, c: u8, d: u8) -> bool
-    ensures { result ≡ well4 a b c d }
-{
-    let s = is_second(a, b);
-    ((a <= 244) & s) & (((128 <= c) & (c <= 191)) & ((128 <= d) & (d <= 191)))
 }
 
 // The character of two bytes, a and b.
-pub fn two_at(a: u8, b: u8) -> Char
+pub fn two(a: u8, b: u8) -> Option<Char>
     requires { 192 ≤ a }
-    ensures { result ≡ two a b }
+    ensures told { char_told result ≡ two a b }
+    ensures some { IfSome result (λ c. 1 ≤ c.len) }
 {
-    let well = is_two(a, b);
-    if well {
-        let x = ((a as u32) - 192) * 64 + ((b as u32) - 128);
-        return Char { code: x, len: 2 };
+    if a < 0xC2 || !is_continuation(b) {
+        return None;
     }
-    Char { code: 0, len: 0 }
+    Some(Char {
+        code: (u32::from(a) - 0xC0) * 64 + (u32::from(b) - 0x80),
+        len: 2,
+    })
 }
 
-fn three_at(a: u8, b: u8, c: u8) -> Char
+fn three(a: u8, b: u8, c: u8) -> Option<Char>
     requires { 224 ≤ a }
-    ensures { result ≡ three a b c }
+    ensures told { char_told result ≡ three a b c }
+    ensures some { IfSome result (λ c. 1 ≤ c.len) }
 {
-    let well = is_three(a, b, c);
-    if well {
-        let x = ((a as u32) - 224) * 4096 + ((b as u32) - 128) * 64 + ((c as u32) - 128);
-        return Char { code: x, len: 3 };
+    if !is_second(a, b) || !is_continuation(c) {
+        return None;
     }
-    Char { code: 0, len: 0 }
+    Some(Char {
+        code: (u32::from(a) - 0xE0) * 4096 + (u32::from(b) - 0x80) * 64 + (u32::from(c) - 0x80),
+        len: 3,
+    })
 }
 
-fn four_at(a: u8, b: u8, c: u8, d: u8) -> Char
+fn four(a: u8, b: u8, c: u8, d: u8) -> Option<Char>
     requires { 240 ≤ a }
-    ensures { result ≡ four a b c d }
+    ensures told { char_told result ≡ four a b c d }
+    ensures some { IfSome result (λ c. 1 ≤ c.len) }
 {
-    let well = is_four(a, b, c, d);
-    if well {
-        let x = ((a as u32) - 240) * 262144
-            + ((b as u32) - 128) * 4096
-            + ((c as u32) - 128) * 64
-            + ((d as u32) - 128);
-        return Char { code: x, len: 4 };
+    if a > 0xF4 || !is_second(a, b) || !is_continuation(c) || !is_continuation(d) {
+        return None;
     }
-    Char { code: 0, len: 0 }
-}
-
-// The character at `at`, which is within.
-fn char_in(src: &[u8], at: usize) -> Char
-    requires { at < length src.now }
-    ensures { result ≡ decode (drop at src.now) }
-{
-    let a = src[at];
-    let n = lead(a);
-    if n == 0 {
-        return Char {
-            code: wide(a),
-            len: 1,
-        };
-    }
-    let b = byte(src, at + 1);
-    if n == 2 {
-        return two_at(a, b);
-    }
-    let c = byte(src, at + 2);
-    if n == 3 {
-        return three_at(a, b, c);
-    }
-    let d = byte(src, at + 3);
-    if n == 4 {
-        return four_at(a, b, c, d);
-    }
-    Char { code: 0, len: 0 }
+    Some(Char {
+        code: (u32::from(a) - 0xF0) * 262144
+            + (u32::from(b) - 0x80) * 4096
+            + (u32::from(c) - 0x80) * 64
+            + (u32::from(d) - 0x80),
+        len: 4,
+    })
 }
 
 // The character at `at`: none past the end.
-pub fn char_at(src: &[u8], at: usize) -> Char
-    ensures { result ≡ decode (drop at src.now) }
+pub fn decode(src: &[u8], at: usize) -> Option<Char>
+    ensures told { char_told result ≡ decode (drop at src.now) }
+    ensures within { IfSome result (λ c. (1 ≤ c.len) × (at + c.len ≤ length src.now)) }
 {
-    if at < src.len() {
-        return char_in(src, at);
+    let a = *src.get(at)?;
+    match lead(a) {
+        0 => Some(Char {
+            code: u32::from(a),
+            len: 1,
+        }),
+        2 => two(a, byte(src, at + 1)),
+        3 => three(a, byte(src, at + 1), byte(src, at + 2)),
+        4 => four(a, byte(src, at + 1), byte(src, at + 2), byte(src, at + 3)),
+        _ => None,
     }
-    Char { code: 0, len: 0 }
 }
 
 // Whether the eight bytes at i are below 128.
@@ -194,83 +159,52 @@ fn ascii_end(src: &[u8], at: usize) -> usize
     i
 }
 
-// Whether the bytes at `at` are a sequence of two, of three, of four.
-fn two_in(src: &[u8], at: usize) -> bool
-    requires { at < length src.now }
-    ensures { result ≡ well2 (get_or src.now at 0) (get_or src.now (at + 1) 0) }
-{
-    is_two(src[at], byte(src, at + 1))
-}
-
-fn three_in(src: &[u8], at: usize) -> bool
-    requires { at < length src.now }
-    ensures { result ≡ well3 (get_or src.now at 0) (get_or src.now (at + 1) 0) (get_or src.now (at + 2) 0) }
-{
-    is_three(src[at], byte(src, at + 1), byte(src, at + 2))
-}
-
-fn four_in(src: &[u8], at: usize) -> bool
-    requires { at < length src.now }
-    ensures { result ≡ well4 (get_or src.now at 0) (get_or src.now (at + 1) 0) (get_or src.now (at + 2) 0) (get_or src.now (at + 3) 0) }
-{
-    is_four(
-        src[at],
-        byte(src, at + 1),
-        byte(src, at + 2),
-        byte(src, at + 3),
-    )
-}
-
-// Where the first ill-formed sequence stands, or the end.
-pub fn first_ill(src: &[u8]) -> usize
-    ensures { (result ≡ well_to 0 src.now) × (result ≤ length src.now) }
+// Where the first ill-formed sequence stands, if there is one.
+pub fn ill_formed(src: &[u8]) -> Option<usize>
+    ensures told { place_told (length src.now) result ≡ well_to 0 src.now }
+    ensures within { IfSome result (λ at. at < length src.now) }
 {
     let mut at = 0;
     while at < src.len() {
-        let a = src[at];
-        if a < 128 {
+        if src[at] < 128 {
             at = ascii_end(src, at);
         } else {
-            let n = lead(a);
-            match n {
-                2 => {
-                    if !two_in(src, at) {
-                        return at;
-                    }
-                    at += 2;
-                }
-                3 => {
-                    if !three_in(src, at) {
-                        return at;
-                    }
-                    at += 3;
-                }
-                4 => {
-                    if !four_in(src, at) {
-                        return at;
-                    }
-                    at += 4;
-                }
-                _ => return at,
-            }
+            let Some(c) = decode(src, at) else {
+                return Some(at);
+            };
+            at += c.len;
         }
     }
-    at
+    None
+}
+
+const NONE: Char = Char { code: 0, len: 0 };
+
+pub fn char_at(src: &[u8], at: usize) -> Char
+    ensures { result ≡ decode (drop at src.now) }
+{
+    decode(src, at).unwrap_or(NONE)
+}
+
+pub fn two_at(a: u8, b: u8) -> Char
+    requires { 192 ≤ a }
+    ensures { result ≡ two a b }
+{
+    two(a, b).unwrap_or(NONE)
+}
+
+pub fn first_ill(src: &[u8]) -> usize
+    ensures { (result ≡ well_to 0 src.now) × (result ≤ length src.now) }
+{
+    ill_formed(src).unwrap_or(src.len())
 }
 
 // Whether a code point has the property White_Space.
 pub fn is_white(x: u32) -> bool
     ensures { result ≡ white_space x }
 {
-    ((9 <= x) & (x <= 13))
-        | (x == 32)
-        | (x == 133)
-        | (x == 160)
-        | (x == 5760)
-        | ((8192 <= x) & (x <= 8202))
-        | (x == 8232)
-        | (x == 8233)
-        | (x == 8239)
-        | (x == 8287)
-        | (x == 12288)
+    matches!(
+        x,
+        9..=13 | 32 | 133 | 160 | 5760 | 8192..=8202 | 8232 | 8233 | 8239 | 8287 | 12288
+    )
 }

@@ -1,7 +1,7 @@
--- `refal_text::first_ill` meets its contract: characters and runs of ASCII up to the first ill-formed sequence.
+-- `refal_text::ill_formed` meets its contract: characters and runs of ASCII up to the first ill-formed sequence.
 use Rattle.std.proofs.Common.{◌+◌, ◌-◌, ◌≤◌, ◌≡◌, length, drop}
 use Rattle.refal_text.specs.Utf8.{well_to}
-use Rattle.refal_text.proofs.first_ill.Given as goal
+use Rattle.refal_text.proofs.ill_formed.Given as goal
 
 abbrev pub invariant-loop-at : goal.invariant-loop-at
 invariant-loop-at l = (l.at ≤ length l.src) × (l.at + well_to 0 (drop l.at l.src) ≡ well_to 0 l.src)
