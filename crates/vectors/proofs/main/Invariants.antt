@@ -1,5 +1,6 @@
--- `vectors::main` ends: a record a turn, and only so many turns.
+-- `vectors::main` ends: each record is taken off the front of what is left.
+use Rattle.std.proofs.Common.{length}
 use Rattle.vectors.proofs.main.Given as goal
 
-abbrev pub decreases-loop-turns : goal.decreases-loop-turns
-decreases-loop-turns l = l.turns
+abbrev pub decreases-loop-record : goal.decreases-loop-record
+decreases-loop-record l = length l.rest
