@@ -5,6 +5,7 @@ use Rattle.std.proofs.Math.Bool.{and-false}
 use Rattle.std.proofs.Math.Option.{Option, none, some}
 use Rattle.std.proofs.Common.{sym, ap, subst, ◌∙◌, arith, add-one, length-append, take-append-drop, take-take, take_all, length-take-le, take_at, drop_at, eq-eqb}
 use Rattle.std.proofs.Math.Nat.{mul-mod_right}
+use Rattle.std.proofs.Math.Decide.{dec_le}
 use Rattle.std.proofs.Math.Seq.{slice, slice_empty, slice-cons, length-slice}
 use Rattle.std.proofs.lemmas.List.{drop-append-le}
 use Rattle.refal_ast.specs.Nodes.{Node, node_width, col_kind, col_detail, col_next, word_at, node_at, nodes_of}
@@ -199,33 +200,36 @@ ok_end w i j st left e = ap (ok_in st left) (forest_end w i j e)
 pub ok_bad : (w : List ℕ) (i j st left : ℕ) → node_width * j ≤ length w → i < j → (i < next_at w i → next_at w i ≤ j → ⊥) → ok_at w i j st left ≡ false
 ok_bad w i j st left l h bad = ap (ok_in st left) (forest_bad w i j l h bad)
 
--- a turn of the check at row i, of the kind k and the detail d, and with the next row x
-module _ (w : List ℕ) (i j st left k d x : ℕ) (kind : k ≡ kind_at w i) (detail : d ≡ detail_at w i) (next : x ≡ next_at w i) (long : node_width * j ≤ length w) (lo : i < x) (hi : x ≤ j) where
-  turn : ok_at w i j st left ≡ row_ok st left (row_at w i) && (ok_at w (i + 1) x (state_inside k) (below st k left) && ok_at w x j (state_next st k d) left)
+-- a turn of the check at row i, which is the node x
+module _ (w : List ℕ) (i j st left : ℕ) (x : Node) (is : x ≡ node_at w i) (long : node_width * j ≤ length w) where
+  abbrev kids : Bool
+  kids = ok_at w (i + 1) x.next (state_inside x.kind) (below st x.kind left)
+
+  abbrev rest : Bool
+  rest = ok_at w x.next j (state_next st x.kind x.detail) left
+
+  turn : i < x.next → x.next ≤ j → ok_at w i j st left ≡ row_ok st left (own x) && (kids && rest)
   turn =
-      let K : ℕ = kind_at w i in
-      let D : ℕ = detail_at w i in
-      ok_turn w i j st left long (subst (λ (y : ℕ). i < y) next lo) (subst (λ (y : ℕ). y ≤ j) next hi)
-      ∙ ap (λ (y : ℕ). row_ok st left (row_at w i) && (ok_at w (i + 1) y (state_inside K) (below st K left) && ok_at w y j (state_next st K D) left)) (sym next)
-      ∙ ap (λ (y : ℕ). row_ok st left (row_at w i) && (ok_at w (i + 1) x (state_inside y) (below st y left) && ok_at w x j (state_next st y D) left)) (sym kind)
-      ∙ ap (λ (y : ℕ). row_ok st left (row_at w i) && (ok_at w (i + 1) x (state_inside k) (below st k left) && ok_at w x j (state_next st k y) left)) (sym detail)
+      let P : Node → Type 0 = λ y. i < y.next → y.next ≤ j
+      → ok_at w i j st left ≡ row_ok st left (own y) && (ok_at w (i + 1) y.next (state_inside y.kind) (below st y.kind left) && ok_at w y.next j (state_next st y.kind y.detail) left) in
+      subst P (sym is) (ok_turn w i j st left long)
 
-  pub stop_row : row_ok st left (row_at w i) ≡ false → ok_at w i j st left ≡ false
-  stop_row h = turn ∙ ap (λ (b : Bool). b && (ok_at w (i + 1) x (state_inside k) (below st k left) && ok_at w x j (state_next st k d) left)) h
+  -- its next row is not behind it, or is past the end
+  pub stop_next : i < j → (i < x.next → x.next ≤ j → ⊥) → ok_at w i j st left ≡ false
+  stop_next h bad = let P : Node → Type 0 = λ y. i < y.next → y.next ≤ j → ⊥ in ok_bad w i j st left long h (subst P is bad)
 
-  pub stop_kids : ok_at w (i + 1) x (state_inside k) (below st k left) ≡ false → ok_at w i j st left ≡ false
-  stop_kids h =
-      turn
-      ∙ ap (λ (b : Bool). row_ok st left (row_at w i) && (b && ok_at w x j (state_next st k d) left)) h
-      ∙ and-false (row_ok st left (row_at w i))
+  -- it may not stand here
+  pub stop_row : i < j → row_ok st left (own x) ≡ false → ok_at w i j st left ≡ false
+  stop_row h r = go (dec_le (i + 1) x.next) (dec_le x.next j)
+    where
+      go : Dec (i + 1 ≤ x.next) → Dec (x.next ≤ j) → ok_at w i j st left ≡ false
+      go (no a) d = stop_next h (λ lo hi. a (omega arith))
+      go (yes a) (no b) = stop_next h (λ lo hi. b hi)
+      go (yes a) (yes b) = turn (omega arith) b ∙ ap (λ (t : Bool). t && (kids && rest)) r
 
-  pub go_on : row_ok st left (row_at w i) ≡ true → ok_at w (i + 1) x (state_inside k) (below st k left) ≡ true → ok_at w i j st left ≡ ok_at w x j (state_next st k d) left
-  go_on h h' =
-      turn
-      ∙ ap (λ (b : Bool). b && (ok_at w (i + 1) x (state_inside k) (below st k left) && ok_at w x j (state_next st k d) left)) h
-      ∙ ap (λ (b : Bool). b && ok_at w x j (state_next st k d) left) h'
+  pub stop_kids : i < x.next → x.next ≤ j → kids ≡ false → ok_at w i j st left ≡ false
+  stop_kids lo hi k =
+      turn lo hi ∙ ap (λ (t : Bool). row_ok st left (own x) && (t && rest)) k ∙ and-false (row_ok st left (own x))
 
--- what a check of the children found, from a state and levels that are those inside the row
-pub kids_are : (w : List ℕ) (i x st left k s l : ℕ) (b : Bool) → b ≡ ok_at w (i + 1) x s l → s ≡ state_inside k → l ≡ below st k left → ok_at w (i + 1) x (state_inside k) (below st k left) ≡ b
-kids_are w i x st left k s l b e es el =
-    sym (e ∙ ap (λ (y : ℕ). ok_at w (i + 1) x y l) es ∙ ap (λ (y : ℕ). ok_at w (i + 1) x (state_inside k) y) el)
+  pub go_on : i < x.next → x.next ≤ j → row_ok st left (own x) ≡ true → kids ≡ true → ok_at w i j st left ≡ rest
+  go_on lo hi r k = turn lo hi ∙ ap (λ (t : Bool). t && (kids && rest)) r ∙ ap (λ (t : Bool). t && rest) k

@@ -1,7 +1,7 @@
 // What the kinds of rows are: terms, and levels of the depth.
 ghost use Rattle.std.specs.Prelude.{◌≡◌};
 ghost use Rattle.refal_ast.specs.KindCodes.{node_code};
-ghost use Rattle.refal_tree.specs.States.{term_kind, counts as is_level};
+ghost use Rattle.refal_tree.specs.States.{term_kind, counts as is_level, room};
 
 use refal_ast::kinds::NodeKind;
 
@@ -21,11 +21,18 @@ pub fn is_term(kind: NodeKind) -> bool
 }
 
 // Whether rows of the kind count for the depth.
-pub fn counts(kind: NodeKind) -> bool
+fn counts(kind: NodeKind) -> bool
     ensures { result ≡ is_level (node_code kind) }
 {
     matches!(
         kind,
         NodeKind::EndingBlock | NodeKind::ConditionBlock | NodeKind::Bracket | NodeKind::Call
     )
+}
+
+// Whether a row of the kind may stand where so many levels are left.
+pub fn has_room(kind: NodeKind, left: usize) -> bool
+    ensures { result ≡ room (node_code kind) left }
+{
+    !counts(kind) || 1 <= left
 }

@@ -6,72 +6,66 @@ pub mod kinds;
 pub mod states;
 
 ghost use Rattle.std.specs.Prelude.{◌≡◌, ◌*◌, ◌≤◌, length};
-ghost use Rattle.refal_ast.specs.Nodes.{HasRow, node_width};
-ghost use Rattle.refal_tree.specs.Rules.{row_ok};
-ghost use Rattle.refal_tree.specs.Ranges.{row_at, ok_at};
+ghost use Rattle.refal_ast.specs.Nodes.{node_width};
+ghost use Rattle.refal_ast.specs.Rows.{node_told};
+ghost use Rattle.refal_tree.specs.Forest.{own};
+ghost use Rattle.refal_tree.specs.StateCodes.{state_code, Stands};
+ghost use Rattle.refal_tree.specs.Ranges.{ok_at};
 ghost use Rattle.refal_tree.specs.Lawful.{lawful as is_lawful};
 
+use crate::kinds::has_room;
+use crate::states::State;
+use refal_ast::nodes::Node;
 use refal_ast::{limits, nodes};
 
-// Whether row i may stand in the state st where so many levels are left.
-fn row_ok(tree: &[u32], i: usize, st: u32, left: usize) -> bool
-    requires { HasRow tree.now i }
-    ensures { result ≡ row_ok st left (row_at tree.now i) }
+// The state after a row that keeps the rules, None where it may not stand where so many levels are left.
+fn row_ok(node: Node, state: State, left: usize) -> Option<State>
+    ensures { Stands (state_code state) left (own (node_told node)) result }
 {
-    let k = nodes::kind(tree, i);
-    let place = states::stands(st, k) & states::room(k, left);
-    let detail = fields::detail_ok(k, nodes::detail(tree, i));
-    let text = fields::text_ok(k, nodes::text_start(tree, i), nodes::text_len(tree, i));
-    let span = fields::span_ok(k, nodes::span_from(tree, i), nodes::span_to(tree, i));
-    place & (detail & (text & span))
+    let fields = fields::detail_ok(node) && fields::text_ok(node) && fields::span_ok(node);
+    if fields && has_room(node.kind, left) {
+        state.after(node.kind, node.detail)
+    } else {
+        None
+    }
 }
 
 // Whether the rows from .. to are children that keep the rules, from the state `start` on: each row, and below it the
 // same check of its children.
-fn check(tree: &[u32], from: usize, to: usize, start: u32, left: usize) -> bool
+fn check(tree: &[u32], from: usize, to: usize, start: State, left: usize) -> bool
     requires { (from ≤ to) × (node_width * to ≤ length tree.now) }
-    ensures { result ≡ ok_at tree.now from to start left }
+    ensures { result ≡ ok_at tree.now from to (state_code start) left }
 {
     let mut i = from;
-    let mut st = start;
+    let mut state = start;
     while i < to {
-        let end = nodes::next(tree, i);
-        if end <= i {
+        let Ok(node) = Node::read(tree, i) else {
+            return false;
+        };
+        let Some(after) = row_ok(node, state, left) else {
+            return false;
+        };
+        let end = node.next as usize;
+        if end <= i || to < end {
             return false;
         }
-        if to < end {
+        let inside = State::inside(node.kind);
+        if !check(tree, i + 1, end, inside, state.below(node.kind, left)) {
             return false;
         }
-        if !row_ok(tree, i, st, left) {
-            return false;
-        }
-        let k = nodes::kind(tree, i);
-        let first = i + 1;
-        if !check(
-            tree,
-            first,
-            end,
-            states::inside(k),
-            states::below(st, k, left),
-        ) {
-            return false;
-        }
-        st = states::after_row(st, k, nodes::detail(tree, i));
+        state = after;
         i = end;
     }
-    states::ends(st)
+    state.ends()
 }
 
 // Whether the words are the rows of a lawful tree: whole rows, not too many, no deeper than 64 levels.
 pub fn lawful(tree: &[u32]) -> bool
     ensures { result ≡ is_lawful tree.now }
 {
-    if tree.len() % nodes::WIDTH != 0 {
-        return false;
-    }
     let rows = tree.len() / nodes::WIDTH;
-    if rows > limits::MOST_ROWS {
+    if tree.len() % nodes::WIDTH != 0 || rows > limits::MOST_ROWS {
         return false;
     }
-    check(tree, 0, rows, states::ITEMS, limits::MOST_LEVELS)
+    check(tree, 0, rows, State::Items, limits::MOST_LEVELS)
 }

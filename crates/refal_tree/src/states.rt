@@ -5,7 +5,7 @@ ghost use Rattle.refal_tree.specs.States.{may_stand as may_stand, counts as is_l
 ghost use Rattle.refal_ast.specs.KindCodes.{node_code};
 ghost use Rattle.refal_tree.specs.StateCodes.{state_code, Follows};
 
-use crate::kinds::{counts as counts_for_depth, is_term as is_term_kind};
+use crate::kinds::is_term as is_term_kind;
 use refal_ast::kinds::{NodeKind, node};
 
 // What a node's children, from here on, may be.
@@ -57,9 +57,9 @@ impl State {
         match (self, kind) {
             (State::Items, NodeKind::Declaration | NodeKind::Function) => Some(State::Items),
             (State::Name | State::Names, NodeKind::Name) => Some(State::Names),
-            (State::Sentences | State::Ending, NodeKind::Sentence) if detail == 1 => Some(
-                State::Closed,
-            ),
+            (State::Sentences | State::Ending, NodeKind::Sentence) if detail == 1 => {
+                Some(State::Closed)
+            }
             (State::Sentences | State::Ending, NodeKind::Sentence) => Some(self),
             (State::Pattern, NodeKind::Terms) => Some(State::Conditions),
             (State::Conditions, NodeKind::Condition) => Some(State::Conditions),
@@ -109,13 +109,6 @@ impl State {
             left
         }
     }
-}
-
-// Whether a row of the kind may stand where so many levels are left.
-pub fn has_room(kind: NodeKind, left: usize) -> bool
-    ensures { result ≡ has_room (node_code kind) left }
-{
-    !counts_for_depth(kind) || 1 <= left
 }
 
 // No tree has come this far.
