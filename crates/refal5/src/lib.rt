@@ -96,7 +96,7 @@ pub fn refal5_write(tree: &[u32], src: &[u8], out: &mut [u8], answer: &mut [u64;
     ensures told { answer.new ≡ answer_words (write_answer tree.now src.now out.old) }
     ensures left { out.new ≡ write_bytes tree.now src.now out.old }
 {
-    *answer = words(refal_writer::write(tree, src, out));
+    *answer = words_of(refal_writer::write(tree, src, out));
 }
 
 // Linking: how many calls the two files have, each of which names a function or a declared name of either.

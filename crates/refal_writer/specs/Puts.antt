@@ -1,9 +1,10 @@
 -- What writers of bytes leave in a slice: `poured`, a text put over the slice from its front on; and that a text put part by part, each part
 -- into the rest of the slice lent from its middle, is put whole.
-use Rattle.std.specs.Prelude.{ℕ, suc, ◌+◌, ◌-◌, ◌≤◌, min, List, [], ◌∷◌, ◌++◌, ◌≡◌, refl, length, take, drop, set}
-use Rattle.std.proofs.Common.{arith, le_of_eq, append-nil, append_assoc, ap, ◌∙◌, sym, subst, length-drop, length-append, drop_of_length-le, take_all}
+use Rattle.std.specs.Prelude.{ℕ, suc, ◌+◌, ◌-◌, ◌≤◌, min, List, [], ◌∷◌, ◌++◌, ◌≡◌, refl, length, take, drop}
+use Rattle.std.proofs.Common.{arith, rules, le_of_eq, append-nil, append_assoc, ap, ◌∙◌, sym, subst, length-drop, length-append, drop_of_length-le, take_all}
 use Rattle.std.proofs.Math.Nat.{zero-min, min-zero, suc-min-suc, min-eq_left}
 use Rattle.std.proofs.Math.Seq.{take-length}
+use Rattle.std.specs.Ordering.{ord_min, nat_cmp}
 use borrow.Rule.Slice.PartMut.{put_mid}
 
 -- ---- a text put over a slice: its bytes as far as the slice goes, and behind them what was there
@@ -20,23 +21,6 @@ pub record Puts (t : List ℕ) (r : ℕ) (o o' : List ℕ) : Type 0 where
 -- the same text, written otherwise
 pub puts_as : {r : ℕ} {o o' : List ℕ} (t u : List ℕ) → t ≡ u → Puts t r o o' → Puts u r o o'
 puts_as {r} {o} {o'} t u e p = subst (λ (l : List ℕ). Puts l r o o') e p
-
--- ---- one to four bytes
-pub one_set : (o : List ℕ) (a : ℕ) → set o 0 a ≡ poured (a ∷ []) o
-one_set [] a = refl
-one_set (x ∷ o) a = refl
-
-pub two_set : (o : List ℕ) (a b : ℕ) → set (set o 0 a) 1 b ≡ poured (a ∷ b ∷ []) o
-two_set [] a b = refl
-two_set (x ∷ o) a b = ap (λ (l : List ℕ). a ∷ l) (one_set o b)
-
-pub three_set : (o : List ℕ) (a b c : ℕ) → set (set (set o 0 a) 1 b) 2 c ≡ poured (a ∷ b ∷ c ∷ []) o
-three_set [] a b c = refl
-three_set (x ∷ o) a b c = ap (λ (l : List ℕ). a ∷ l) (two_set o b c)
-
-pub four_set : (o : List ℕ) (a b c d : ℕ) → set (set (set (set o 0 a) 1 b) 2 c) 3 d ≡ poured (a ∷ b ∷ c ∷ d ∷ []) o
-four_set [] a b c d = refl
-four_set (x ∷ o) a b c d = ap (λ (l : List ℕ). a ∷ l) (three_set o b c d)
 
 -- ---- how far a text goes
 length_poured : (t o : List ℕ) → length (poured t o) ≡ length o
@@ -65,6 +49,21 @@ poured_full [] u (x ∷ o) h = absurd (omega arith)
 poured_full (b ∷ t) u [] h = refl
 poured_full (b ∷ t) u (x ∷ o) h = ap (λ (l : List ℕ). b ∷ l) (poured_full t u o (omega arith))
 
+-- ---- a text that is copied over the front, as far as it fits
+pub front_put : (t o l : List ℕ) (n : ℕ) → n ≡ min (length t) (length o) → l ≡ take n t → Puts t (length t) o (l ++ drop n o)
+front_put t o l n e f = record { count = refl; bytes = rw (f, e) (poured_front t o) }
+
+pub all_put : (t o l : List ℕ) (n : ℕ) → length t ≡ n → n ≤ length o → l ≡ t → Puts t n o (l ++ drop n o)
+all_put t o l n long fits f = record { count = sym long; bytes = rw f (ap (λ (k : ℕ). t ++ drop k o) (sym long) ∙ sym (poured_fits t o (omega arith))) }
+
+pub cut_put : (t o l : List ℕ) (n : ℕ) → length t ≡ n → length o ≤ n → l ≡ take (length o) t → Puts t n o l
+cut_put t o l n long cut f =
+    let e : min (length t) (length o) ≡ length o = omega arith in
+    record {
+      count = sym long;
+      bytes = f ∙ sym (append-nil (take (length o) t)) ∙ ap (λ (r : List ℕ). take (length o) t ++ r) (sym (drop_of_length-le o (omega arith))) ∙ ap (λ (k : ℕ). take k t ++ drop k o) (sym e) ∙ poured_front t o;
+    }
+
 -- ---- one text and then another, into the rest of the slice
 poured_then : (t u o : List ℕ) → take (min (length t) (length o)) (poured t o) ++ poured u (drop (min (length t) (length o)) (poured t o)) ≡ poured (t ++ u) o
 poured_then [] u o = rw (zero-min (length o)) refl
@@ -89,6 +88,10 @@ puts_two t u o p q a from b x e y =
       count = omega (arith, x.count, y.count, length-append t u);
       bytes = back_rest p q from ∙ rw (r, x.bytes, f) (poured_then t u o);
     }
+
+-- `a.min(b)`, as the code has it
+pub least_is : (n a b : ℕ) → n ≡ ord_min nat_cmp a b → n ≡ min a b
+least_is n a b e = search rules
 
 -- ---- a text t that is put part by part: at bytes are done, `rest` is still to come
 pub record Pours (t rest : List ℕ) (at : ℕ) (o o₀ : List ℕ) : Type 0 where

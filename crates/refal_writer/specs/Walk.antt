@@ -1,13 +1,22 @@
 -- Writing by a walk over rows: what is known of the rows that it writes, and a turn of the walk at row i.
-use Rattle.std.specs.Prelude.{ℕ, ◌+◌, ◌*◌, ◌-◌, ◌≤◌, ◌<◌, Bool, true, false, ◌&&◌, ◌||◌, List, [], ◌++◌, ◌≡◌, refl, eqb, length}
-use Rattle.std.proofs.Common.{true≢false, sym, ap, ◌∙◌, arith, eqb-true}
+use Rattle.std.specs.Prelude.{Result, Ok, Err, Option, Some, None, ℕ, ◌+◌, ◌*◌, ◌-◌, ◌≤◌, ◌<◌, Bool, true, false, ◌&&◌, ◌||◌, List, [], ◌++◌, ◌≡◌, refl, eqb, length}
+use Rattle.std.proofs.Common.{true≢false, sym, ap, subst, ◌∙◌, arith, eqb-true}
+use Rattle.std.specs.Result.{IsOk}
+use Rattle.std.specs.Option.{IsSome}
+use borrow.Author.Tests.{ne_eqb}
 use Rattle.refal_rows.specs.Tests.{and_left, and_right}
-use Rattle.refal_ast.specs.Kinds.{node_variable}
+use Rattle.refal_ast.specs.Kinds.{node_declaration, node_name, node_function, node_sentence, node_condition, node_terms, node_ending_block, node_condition_block, node_identifier, node_number, node_char, node_variable, node_bracket, node_call}
+use Rattle.refal_ast.specs.KindCodes.{node_code}
+use Rattle.refal_ast.specs.Rows.{node_told, ReadsNode}
+use Rattle.refal_ast.specs.declared.nodes.Node.{Node as TheNode}
+use Rattle.refal_ast.specs.declared.kinds.UnknownKind.{UnknownKind}
 use Rattle.refal_ast.specs.Limits.{most_rows}
-use Rattle.refal_ast.specs.Nodes.{node_width}
+use Rattle.refal_ast.specs.Nodes.{Node, node_at, node_width}
 use Rattle.refal_ast.specs.Flatten.{Flat}
 use Rattle.refal_tree.specs.Forest.{Row}
-use Rattle.refal_tree.specs.States.{state_inside, state_next, below, may_stand, room}
+use Rattle.refal_tree.specs.States.{pick_state, state_inside, state_next, below, may_stand, room}
+use Rattle.refal_tree.specs.StateCodes.{state_code, Follows}
+use Rattle.refal_tree.specs.declared.states.State.{State}
 use Rattle.refal_tree.specs.Rules.{variable_letter, fields_ok, row_ok}
 use Rattle.refal_tree.specs.Ranges.{row_at, kind_at, detail_at, next_at, ok_at}
 use Rattle.refal_tree.specs.FlattenRows.{open_tokens, close_tokens}
@@ -31,6 +40,12 @@ letter_small d h = go (eqb d 115) (eqb d 116) (eqb d 101) refl refl refl h
     go false false true e f g h = let i = eqb-true d 101 g in omega arith
     go false false false e f g h = absurd (true≢false (sym h))
 
+stands : (st left : ℕ) (r : Row) → row_ok st left r ≡ true → may_stand st r.kind ≡ true
+stands st left r h =
+    let f : Bool = may_stand st r.kind && room r.kind left in
+    let g : Bool = fields_ok r.kind r.detail r.start r.len r.from r.to in
+    and_left (may_stand st r.kind) (room r.kind left) (and_left f g h)
+
 -- a variable's letter is a byte
 lettered : (st left : ℕ) (r : Row) → row_ok st left r ≡ true → r.kind ≡ node_variable → r.detail < 256
 lettered st left r h e =
@@ -38,11 +53,54 @@ lettered st left r h e =
     let g : Bool = fields_ok r.kind r.detail r.start r.len r.from r.to in
     letter_small r.detail (and_left _ true (ap (λ (k : ℕ). fields_ok k r.detail r.start r.len r.from r.to) (sym e) ∙ and_right f g h))
 
+-- ---- what the steps of the code answer at such a row
+pick_same : (b : Bool) (x : ℕ) → pick_state b x x ≡ x
+pick_same true x = refl
+pick_same false x = refl
+
+-- no row of an unknown kind may stand anywhere
+stands_not : (st k : ℕ) → (1 ≤ k → node_call < k) → may_stand st k ≡ false
+stands_not st k h = simp (
+  ne_eqb k node_declaration (λ e. omega arith),
+  ne_eqb k node_name (λ e. omega arith),
+  ne_eqb k node_function (λ e. omega arith),
+  ne_eqb k node_sentence (λ e. omega arith),
+  ne_eqb k node_condition (λ e. omega arith),
+  ne_eqb k node_terms (λ e. omega arith),
+  ne_eqb k node_ending_block (λ e. omega arith),
+  ne_eqb k node_condition_block (λ e. omega arith),
+  ne_eqb k node_identifier (λ e. omega arith),
+  ne_eqb k node_number (λ e. omega arith),
+  ne_eqb k node_char (λ e. omega arith),
+  ne_eqb k node_variable (λ e. omega arith),
+  ne_eqb k node_bracket (λ e. omega arith),
+  ne_eqb k node_call (λ e. omega arith),
+  pick_same,
+)
+
+reads : (w : List ℕ) (i st : ℕ) (r : Result TheNode UnknownKind) → may_stand st (kind_at w i) ≡ true → ReadsNode w i r → IsOk r
+reads w i st (Ok n) h e = refl
+reads w i st (Err u) h e = absurd (true≢false (sym h ∙ stands_not st (kind_at w i) e.1))
+
+goes_on : (st k d : ℕ) (r : Option State) → may_stand st k ≡ true → Follows st k d r → IsSome r
+goes_on st k d (Some s) h e = refl
+goes_on st k d None h e = absurd (true≢false (sym h ∙ e))
+
+pub read_told : (w : List ℕ) (i : ℕ) (r : Result TheNode UnknownKind) (n : TheNode) → ReadsNode w i r → r ≡ Ok n → node_told n ≡ node_at w i
+read_told w i r n h e = subst (λ (x : Result TheNode UnknownKind). ReadsNode w i x) e h
+
+pub next_state : (st k d : ℕ) (r : Option State) (s : State) → Follows st k d r → r ≡ Some s → state_code s ≡ state_next st k d
+next_state st k d r s h e = (subst (λ (x : Option State). Follows st k d x) e h).1
+
+pub row_read : (w : List ℕ) (i j st : ℕ) (r : Result TheNode UnknownKind) → node_width * j ≤ length w → i < j → Walks w i j st → ReadsNode w i r → IsOk r
+row_read w i j st r long more W e = let here = step w i j st W.left long more W.ok in reads w i st r (stands st W.left (row_at w i) here.here) e
+
 -- ---- a turn of the walk at row i, of the kind k and the detail d, and with the next row x, among the rows to j
 pub record Turn (w : List ℕ) (i j st k d x : ℕ) : Type 0 where
   pub low : i < x
   pub high : x ≤ j
-  pub letter : kind_at w i ≡ node_variable → detail_at w i < 256
+  pub letter : k ≡ node_variable → d < 256
+  pub goes : (r : Option State) → Follows st k d r → IsSome r
   -- s is the state of the children, and u the state of what follows
   pub kids : (s : ℕ) → s ≡ state_inside k → Walks w (i + 1) x s
   pub rest : (u : ℕ) → u ≡ state_next st k d → Walks w x j u
@@ -56,7 +114,8 @@ turn w i j st k d x kind detail next long more W =
     record {
       low = let l = here.lo in omega arith;
       high = let l = here.hi in omega arith;
-      letter = lettered st W.left (row_at w i) here.here;
+      letter = λ e. subst (λ (x : ℕ). x < 256) (sym detail) (lettered st W.left (row_at w i) here.here (sym kind ∙ e));
+      goes = λ r. goes_on st k d r (ap (may_stand st) kind ∙ stands st W.left (row_at w i) here.here);
       kids = λ s first. record { left = below st (kind_at w i) W.left; ok = rw (first, kind, next) here.kids };
       rest = λ u then. record { left = W.left; ok = rw (then, kind, detail, next) here.rest };
       parts = λ src s u first then.
@@ -72,6 +131,10 @@ turn w i j st k d x kind detail next long more W =
           ∙ ap (λ (l : List ℕ). text_of src A ++ (text_of src B ++ (l ++ text_of src D))) (sym (close_text src st K (detail_at w i)))
           ∙ sym (rw (first, then, kind, detail, next) refl);
     }
+
+pub node_turn : (w : List ℕ) (i j st : ℕ) (n : TheNode) → node_told n ≡ node_at w i → node_width * j ≤ length w → i < j → Walks w i j st
+    → Turn w i j st (node_code n.kind) n.detail n.next
+node_turn w i j st n e = turn w i j st (node_code n.kind) n.detail n.next (ap (λ (x : Node). x.kind) e) (ap (λ (x : Node). x.detail) e) (ap (λ (x : Node). x.next) e)
 
 -- the text of no rows
 pub end_text : (w src : List ℕ) (i j st : ℕ) → i ≡ j → text_of src (flat_at w i j st) ≡ []

@@ -49,6 +49,10 @@ rest_words st kind detail word =
     (on_s kind node_ending_block (mark_word tok_equals ∷ mark_word tok_comma ∷ [])
     (on_s kind node_condition_block (mark_word tok_l_brace ∷ []) []))))))
 
+-- before the children of a row
+abbrev pub open_words : ℕ → ℕ → ℕ → List ℕ → List Spelled
+open_words st kind detail word = pick (term_kind kind) (term_words kind detail word) (rest_words st kind detail word)
+
 -- after the children of a row of the kind and the detail
 abbrev pub close_words : ℕ → ℕ → ℕ → List Spelled
 close_words st kind detail =
@@ -90,6 +94,13 @@ module _ (src : List ℕ) (st : ℕ) (r : Row) (k d : ℕ) (w : List ℕ) (kind 
 
   pub rest_text : term_kind k ≡ false → text (rest_words st k d w) ≡ text (views src (open_tokens st r))
   rest_text t = rw (detail, word) (ap (λ (x : ℕ). text (rest_words st x r.detail (text_at src r.start r.len))) kind ∙ ap text (sym (rest_views (ap term_kind (sym kind) ∙ t))))
+
+  pub open_text : text (open_words st k d w) ≡ text (views src (open_tokens st r))
+  open_text = go (term_kind k) refl
+    where
+      go : (b : Bool) → term_kind k ≡ b → text (pick b (term_words k d w) (rest_words st k d w)) ≡ text (views src (open_tokens st r))
+      go true t = term_text t
+      go false t = rest_text t
 
 pub close_text : (src : List ℕ) (st kind detail : ℕ) → text (close_words st kind detail) ≡ text (views src (close_tokens st kind detail))
 close_text src st kind detail = ap text (sym (views_closing src st kind detail))

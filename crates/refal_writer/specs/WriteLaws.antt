@@ -1,5 +1,5 @@
 -- Laws of `write`: what it answers and leaves at each of its ways out, and that the walk writes the tree's text.
-use Rattle.std.specs.Prelude.{ℕ, ◌*◌, ◌/◌, ◌%◌, ◌≤◌, Bool, true, false, ◌&&◌, List, ◌++◌, ◌≡◌, refl, eqb, leb, replicate}
+use Rattle.std.specs.Prelude.{Result, Ok, Err, ℕ, ◌*◌, ◌/◌, ◌%◌, ◌≤◌, Bool, true, false, ◌&&◌, List, ◌++◌, ◌≡◌, refl, eqb, leb, replicate}
 use Rattle.std.proofs.Common.{arith, true≢false, ◌∙◌, eqb-true, leb-true}
 use Rattle.std.proofs.Math.Option.{Option, none, some}
 use Rattle.std.proofs.Math.Path.{ap, sym, subst}
@@ -7,6 +7,9 @@ use Rattle.std.proofs.Math.ListN.{length, drop}
 use Rattle.refal_rows.specs.Tests.{and_left, and_right}
 use Rattle.refal_ast.specs.Tree.{Program}
 use Rattle.refal_ast.specs.Nodes.{node_width}
+use Rattle.std.specs.Result.{is_err}
+use Rattle.refal_ast.specs.Told.{told}
+use Rattle.refal_ast.specs.declared.answers.Refusal.{Refusal as Told}
 use Rattle.refal_ast.specs.declared.Answer.{Answer}
 use Rattle.refal_ast.specs.declared.Answer.TheVariants.{Done}
 use Rattle.refal_tree.specs.States.{at_items}
@@ -72,6 +75,12 @@ module _ (w src old new : List ℕ) where
   pub misspelled : lawful w ≡ true → all_spelled src w ≡ false → new ≡ replicate (length old) 0 → Answers (refuse 41 0) w src old new
   unfolding write_answer
   misspelled h s f = decided (refuse 41 0) (rw (h, s) refl) f
+
+  -- zeros where it is refused
+  pub refused_bytes : (r : Result ℕ Told) → told r ≡ write_answer w src old → is_err r ≡ true → write_bytes w src old ≡ replicate (length old) 0
+  unfolding write_bytes
+  refused_bytes (Err r) e h = ap (λ (b : Answer). left b (written w src) old) (sym e)
+  refused_bytes (Ok n) e h = absurd (true≢false (sym h))
 
   module _ (n : ℕ) (h : lawful w ≡ true) (s : all_spelled src w ≡ true) (c : n ≡ length (written w src)) where
     pub too_long : leb n (length old) && leb n most_bytes ≡ false → new ≡ replicate (length old) 0 → Answers (refuse 42 n) w src old new

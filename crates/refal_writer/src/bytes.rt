@@ -1,67 +1,77 @@
-// Bytes put over a slice from its front on, as far as it goes; the answer is their count in any case.
-ghost use Rattle.std.specs.Prelude.{◌≡◌, [], ◌∷◌, ◌≤◌};
+// What can be put over a slice from its front on, as far as it goes. The answer is the count of all its bytes in any case.
+ghost use Rattle.std.specs.Prelude.{◌≡◌, ℕ, ◌+◌, ◌≤◌, List, [], ◌++◌, length};
 ghost use Rattle.refal_writer.specs.Puts.{Puts};
 
-use refal_rows::least;
+pub trait Put {
+    ghost bytes: { Self → List ℕ };
 
-// The bytes of a word.
-pub fn put_word(word: &[u8], out: &mut [u8]) -> usize
-    ensures { Puts word.now result out.old out.new }
-{
-    let n = least(word.len(), out.len());
-    let mut i = 0;
-    while i < n {
-        out[i] = word[i];
-        i += 1;
-    }
-    word.len()
+    // No value of the type has more bytes.
+    ghost most: { ℕ };
+
+    fn put(self, out: &mut [u8]) -> usize
+        requires { most ≤ 1152921504606846976 }
+        ensures { Puts (bytes self) result out.old out.new × (result ≤ most) };
 }
 
-// One to four bytes.
-pub fn put1(a: u8, out: &mut [u8]) -> usize
-    ensures { Puts (a ∷ []) result out.old out.new × (result ≤ 4) }
-{
-    if 1 <= out.len() {
-        out[0] = a;
-    }
-    1
+// A text of the source: a name, a number or an index.
+#[derive(Clone, Copy)]
+pub struct Word<'a> {
+    pub text: &'a [u8],
+    ghost short: { length text.now ≤ 4294967295 },
 }
 
-pub fn put2(a: u8, b: u8, out: &mut [u8]) -> usize
-    ensures { Puts (a ∷ b ∷ []) result out.old out.new × (result ≤ 4) }
-{
-    if 2 <= out.len() {
-        out[0] = a;
-        out[1] = b;
-    } else {
-        put1(a, out);
+impl<'a> Put for Word<'a> {
+    ghost bytes = { λ word. word.text.now };
+
+    ghost most = { 4294967295 };
+
+    fn put(self, out: &mut [u8]) -> usize {
+        let n = self.text.len().min(out.len());
+        out[..n].copy_from_slice(&self.text[..n]);
+        self.text.len()
     }
-    2
 }
 
-pub fn put3(a: u8, b: u8, c: u8, out: &mut [u8]) -> usize
-    ensures { Puts (a ∷ b ∷ c ∷ []) result out.old out.new × (result ≤ 4) }
-{
-    if 3 <= out.len() {
-        out[0] = a;
-        out[1] = b;
-        out[2] = c;
-    } else {
-        put2(a, b, out);
+impl<const N: usize> Put for [u8; N] {
+    ghost bytes = { λ b. b };
+
+    ghost most = { N };
+
+    fn put(self, out: &mut [u8]) -> usize {
+        // Where all fit, a copy of a known size is one store.
+        if N <= out.len() {
+            out[..N].copy_from_slice(&self);
+        } else {
+            let n = out.len();
+            out.copy_from_slice(&self[..n]);
+        }
+        N
     }
-    3
 }
 
-pub fn put4(a: u8, b: u8, c: u8, d: u8, out: &mut [u8]) -> usize
-    ensures { Puts (a ∷ b ∷ c ∷ d ∷ []) result out.old out.new × (result ≤ 4) }
-{
-    if 4 <= out.len() {
-        out[0] = a;
-        out[1] = b;
-        out[2] = c;
-        out[3] = d;
-    } else {
-        put3(a, b, c, out);
+// Nothing.
+impl Put for () {
+    ghost use Rattle.refal_spelling.specs.Spell.{text};
+
+    ghost bytes = { λ nothing. text [] };
+
+    ghost most = { 0 };
+
+    fn put(self, _: &mut [u8]) -> usize {
+        0
     }
-    4
+}
+
+// One thing and then another: the output from its middle is lent to the second.
+impl<A: Put, B: Put> Put for (A, B) {
+    ghost bytes = { λ p. A.bytes p.0 ++ B.bytes p.1 };
+
+    ghost most = { A.most + B.most };
+
+    fn put(self, out: &mut [u8]) -> usize {
+        let (first, second) = self;
+        let n = first.put(out);
+        let middle = n.min(out.len());
+        n + second.put(&mut out[middle..])
+    }
 }

@@ -6,47 +6,43 @@ mod opening;
 mod token;
 mod walk;
 
-ghost use Rattle.std.specs.Prelude.{◌≡◌};
-ghost use Rattle.refal_ast.specs.Answers.{refusal};
+ghost use Rattle.std.specs.Prelude.{◌≡◌, IfOk};
+ghost use Rattle.refal_ast.specs.Told.{told};
 ghost use Rattle.refal_writer.specs.Write.{write_answer, write_bytes};
 
-use refal_ast::{Answer, Refusal, limits, nodes};
-use refal_tree::states;
+use refal_ast::answers::{Reason, Refusal};
+use refal_ast::{limits, nodes};
+use refal_tree::states::State;
 
-fn refused(number: u32, need: usize) -> Answer
-    ensures { result ≡ Answer.Refused (refusal number 0 0 0 0 need) }
+// The text of the tree's tokens, or the first refusal, where `out` is left as it comes.
+fn put_text(tree: &[u32], src: &[u8], out: &mut [u8]) -> Result<usize, Refusal>
+    ensures value { told result ≡ write_answer tree.now src.now out.old }
+    ensures out_after { IfOk result (λ n. out.new ≡ write_bytes tree.now src.now out.old) }
 {
-    Answer::Refused(Refusal {
-        number,
-        expected: 0,
-        found: 0,
-        start: 0,
-        end: 0,
-        need,
-    })
+    if !refal_tree::lawful(tree) {
+        return Err(Refusal::from(Reason::NoTree));
+    }
+    if !refal_spelling::spellings(tree, src) {
+        return Err(Refusal::from(Reason::NotSpelled));
+    }
+    let room = out.len();
+    let rows = tree.len() / nodes::WIDTH;
+    let n = walk::write_rows(tree, src, 0, rows, State::Items, out);
+    if n > room || n > limits::MOST_BYTES {
+        return Err(Refusal::needing(Reason::TextTooLong, n));
+    }
+    Ok(n)
 }
 
 // The text of the tree's tokens, each as spelled in its source, with one space after it; or the first refusal, with every
 // byte of `out` zero.
-pub fn write(tree: &[u32], src: &[u8], out: &mut [u8]) -> Answer
-    ensures value { result ≡ write_answer tree.now src.now out.old }
+pub fn write(tree: &[u32], src: &[u8], out: &mut [u8]) -> Result<usize, Refusal>
+    ensures value { told result ≡ write_answer tree.now src.now out.old }
     ensures out_after { out.new ≡ write_bytes tree.now src.now out.old }
 {
-    if !refal_tree::lawful(tree) {
-        refal_rows::clear_bytes(out);
-        return refused(40, 0);
+    let answer = put_text(tree, src, out);
+    if answer.is_err() {
+        out.fill(0);
     }
-    if !refal_spelling::spellings(tree, src) {
-        refal_rows::clear_bytes(out);
-        return refused(41, 0);
-    }
-    let room = out.len();
-    let rows = tree.len() / nodes::WIDTH;
-    let n = walk::write_rows(tree, src, 0, rows, states::ITEMS, out);
-    let fits = (n <= room) & (n <= limits::MOST_BYTES);
-    if fits {
-        return Answer::Done(n);
-    }
-    refal_rows::clear_bytes(out);
-    refused(42, n)
+    answer
 }
