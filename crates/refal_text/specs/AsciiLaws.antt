@@ -1,64 +1,69 @@
--- Eight bytes below 128 at a time, and 32: the run of them goes on as many bytes further.
-use Rattle.std.specs.Prelude.{ℕ, ◌+◌, ◌-◌, ◌<◌, ◌≤◌, Bool, true, ◌&&◌, List, ◌≡◌, refl, leb, length, drop, get_or}
-use Rattle.std.proofs.Common.{arith, ap, sym, ◌∙◌, leb-true}
+-- The run of bytes below 128 at the front, counted in blocks and then one at a time.
+use Rattle.std.specs.Prelude.{ℕ, zero, suc, ◌+◌, ◌*◌, ◌<◌, ◌≤◌, Bool, true, false, cond, ◌&&◌, List, [], ◌∷◌, ◌≡◌, refl, length, take, drop, get_or}
+use Rattle.std.specs.Bool.{MatchBool}
+use Rattle.std.specs.List.{list_all, prefix_len}
+use Rattle.std.specs.Simd.{first_chunks}
+use Rattle.std.specs.Str.{IsAscii, IsNotAscii}
+use Rattle.std.proofs.Common.{arith, ap, sym, ◌∙◌, lt-ltb, le-ltb, drop-drop, length-drop, mul-zero, mul-suc, suc-mul}
 use Rattle.refal_rows.specs.Tests.{and_left, and_right}
+use Rattle.refal_text.specs.Pick.{pick}
 use Rattle.refal_text.specs.Span.{span}
-use Rattle.refal_text.specs.SpanLaws.{span_step}
 use Rattle.refal_text.specs.Utf8.{ascii}
 
-abbrev pub low : List ℕ → ℕ → Bool
-low s i = ascii (get_or s i 0)
+-- the machine's test of a block
+all_of : (s : List ℕ) → IsAscii s → true ≡ list_all ascii s
+all_of [] h = refl
+all_of (b ∷ s) h = rw (lt-ltb b 128 (h 0)) (all_of s (λ i. h (suc i)))
 
-abbrev pub quad : List ℕ → ℕ → ℕ → ℕ → ℕ → Bool
-quad s a b c d = (low s a && low s b) && (low s c && low s d)
+none_of : (s : List ℕ) (i : ℕ) → 128 ≤ get_or s i 0 → false ≡ list_all ascii s
+none_of [] i h = absurd (omega arith)
+none_of (b ∷ s) zero h = rw (le-ltb b 128 h) refl
+none_of (b ∷ s) (suc i) h = go (ascii b) (list_all ascii s) (none_of s i h)
+  where
+    go : (t u : Bool) → false ≡ u → false ≡ t && u
+    go true u e = e
+    go false u e = refl
 
-abbrev pub eight : List ℕ → ℕ → Bool
-eight s i = quad s i (i + 1) (i + 2) (i + 3) && quad s (i + 4) (i + 5) (i + 6) (i + 7)
+pub ascii_cases : (s : List ℕ) (t : Bool) → MatchBool t (IsAscii s) (IsNotAscii s) → t ≡ list_all ascii s
+ascii_cases s true h = all_of s h
+ascii_cases s false h = none_of s h.0 h.1
 
--- a run that starts at i goes on at j
-abbrev On : List ℕ → ℕ → ℕ → Type 0
-On s j i = j + span ascii (drop j s) ≡ i + span ascii (drop i s)
+-- one at a time
+pub span_bytes : (s : List ℕ) → prefix_len ascii s ≡ span ascii s
+span_bytes [] = refl
+span_bytes (b ∷ s) = go (ascii b) (span_bytes s)
+  where
+    go : (t : Bool) → prefix_len ascii s ≡ span ascii s → cond t (1 + prefix_len ascii s) 0 ≡ pick t (suc (span ascii s)) 0
+    go true e = omega arith
+    go false e = refl
 
-one_on : (s : List ℕ) (i j : ℕ) → i < length s → j ≡ i + 1 → low s i ≡ true → On s j i
-one_on s i j h e t = ap (λ (k : ℕ). k + span ascii (drop k s)) e ∙ span_step ascii s i h t
+-- m bytes below 128 at the front
+span_front : (m : ℕ) (s : List ℕ) → m ≤ length s → list_all ascii (take m s) ≡ true → m + span ascii (drop m s) ≡ span ascii s
+span_front zero s h e = omega arith
+span_front (suc m) [] h e = absurd (omega arith)
+span_front (suc m) (b ∷ s) h e =
+    let i = span_front m s (omega arith) (and_right (ascii b) (list_all ascii (take m s)) e) in
+    rw (and_left (ascii b) (list_all ascii (take m s)) e) (omega arith)
 
-four_on : (s : List ℕ) (a b c d e : ℕ) → d < length s → b ≡ a + 1 → c ≡ b + 1 → d ≡ c + 1 → e ≡ d + 1 → quad s a b c d ≡ true → On s e a
-four_on s a b c d e h eb ec ed ee t =
-    let l = and_left (low s a && low s b) (low s c && low s d) t in
-    let r = and_right (low s a && low s b) (low s c && low s d) t in
-    one_on s d e h ee (and_right (low s c) (low s d) r)
-    ∙ one_on s c d (omega arith) ed (and_left (low s c) (low s d) r)
-    ∙ one_on s b c (omega arith) ec (and_right (low s a) (low s b) l)
-    ∙ one_on s a b (omega arith) eb (and_left (low s a) (low s b) l)
+-- blocks of m bytes, and what is behind them
+abbrev blocks : ℕ → ℕ → List ℕ → ℕ
+blocks m n s = prefix_len (list_all ascii) (first_chunks m n s)
 
-pub eight_on : (s : List ℕ) (i : ℕ) → i + 8 ≤ length s → eight s i ≡ true → i + 8 + span ascii (drop (i + 8) s) ≡ i + span ascii (drop i s)
-eight_on s i h t =
-    four_on s (i + 4) (i + 5) (i + 6) (i + 7) (i + 8) (omega arith) (omega arith) (omega arith) (omega arith) (omega arith)
-    (and_right (quad s i (i + 1) (i + 2) (i + 3)) (quad s (i + 4) (i + 5) (i + 6) (i + 7)) t)
-    ∙ four_on s i (i + 1) (i + 2) (i + 3) (i + 4) (omega arith) refl (omega arith) (omega arith) (omega arith)
-    (and_left (quad s i (i + 1) (i + 2) (i + 3)) (quad s (i + 4) (i + 5) (i + 6) (i + 7)) t)
+pub span_blocks : (m n : ℕ) (s : List ℕ) → n * m ≤ length s → m * blocks m n s + span ascii (drop (m * blocks m n s) s) ≡ span ascii s
+span_blocks m zero s h = rw (mul-zero m) (omega arith)
+span_blocks m (suc n) s h = go (list_all ascii (take m s)) refl (span_blocks m n (drop m s) (rw length-drop (omega (arith, suc-mul n m))))
+  where
+    k : ℕ
+    k = blocks m n (drop m s)
 
--- 32 bytes, as four times eight
-abbrev pub block : List ℕ → ℕ → Bool
-block s i = (eight s i && eight s (i + 8)) && (eight s (i + 16) && eight s (i + 24))
+    front : m ≤ length s
+    front = omega (arith, suc-mul n m)
 
-eight_to : (s : List ℕ) (i j : ℕ) → j ≡ i + 8 → j ≤ length s → eight s i ≡ true → On s j i
-eight_to s i j e h t = ap (λ (k : ℕ). k + span ascii (drop k s)) e ∙ eight_on s i (omega arith) t
-
-pub block_on : (s : List ℕ) (i : ℕ) → i + 32 ≤ length s → block s i ≡ true → i + 32 + span ascii (drop (i + 32) s) ≡ i + span ascii (drop i s)
-block_on s i h t =
-    let l = and_left (eight s i && eight s (i + 8)) (eight s (i + 16) && eight s (i + 24)) t in
-    let r = and_right (eight s i && eight s (i + 8)) (eight s (i + 16) && eight s (i + 24)) t in
-    eight_to s (i + 24) (i + 32) (omega arith) h (and_right (eight s (i + 16)) (eight s (i + 24)) r)
-    ∙ eight_to s (i + 16) (i + 24) (omega arith) (omega arith) (and_left (eight s (i + 16)) (eight s (i + 24)) r)
-    ∙ eight_to s (i + 8) (i + 16) (omega arith) (omega arith) (and_right (eight s i) (eight s (i + 8)) l)
-    ∙ eight_to s i (i + 8) refl (omega arith) (and_left (eight s i) (eight s (i + 8)) l)
-
--- where the code's test says so
-pub block_past : (s : List ℕ) (i : ℕ) (t : Bool) → i ≤ length s → t ≡ leb 32 (length s - i) && block s i → t ≡ true
-    → (i + 32 ≤ length s) × (i + 32 + span ascii (drop (i + 32) s) ≡ i + span ascii (drop i s))
-block_past s i t h e f =
-    let g : leb 32 (length s - i) && block s i ≡ true = sym e ∙ f in
-    let l = leb-true 32 (length s - i) (and_left (leb 32 (length s - i)) (block s i) g) in
-    let k : i + 32 ≤ length s = omega arith in
-    (k, block_on s i k (and_right (leb 32 (length s - i)) (block s i) g))
+    go : (t : Bool) → list_all ascii (take m s) ≡ t → m * k + span ascii (drop (m * k) (drop m s)) ≡ span ascii (drop m s)
+        → m * cond t (1 + k) 0 + span ascii (drop (m * cond t (1 + k) 0) s) ≡ span ascii s
+    go true e i =
+        let f = span_front m s front e in
+        let o : 1 + k ≡ suc k = omega arith in
+        let j : m * (1 + k) ≡ m + m * k = rw (o, mul-suc) (omega arith) in
+        rw (j, ← drop-drop (m * k) m s) (omega arith)
+    go false e i = rw (mul-zero m) (omega arith)

@@ -1,12 +1,13 @@
 -- Laws of UTF-8: the count of leading ones, the ways out of `char_at` and `first_ill`, and that a character lies within its bytes.
-use Rattle.std.specs.Prelude.{ℕ, zero, suc, ◌+◌, ◌-◌, ◌<◌, ◌≤◌, Bool, true, false, ◌&&◌, List, [], ◌∷◌, ◌≡◌, refl, leb, ltb, eqb, length, drop, get_or}
-use Rattle.std.proofs.Common.{arith, zero-add, add-zero, suc-add, ltb-false, eqb-true, eq-eqb, ne_eqb, le-ltb, true≢false, ap, ap₂, sym, subst, ◌∙◌, eqb→eq, drop_of_length-le, length-drop, get_or-drop, drop-cons, drop-drop}
+use Rattle.std.specs.Prelude.{ℕ, zero, suc, ◌+◌, ◌-◌, ◌<◌, ◌≤◌, Bool, true, false, ◌&&◌, List, [], ◌∷◌, ◌≡◌, refl, leb, ltb, eqb, length, take, drop, get_or}
+use Rattle.std.proofs.Common.{arith, zero-add, add-zero, suc-add, ltb-false, eqb-true, eq-eqb, ne_eqb, le-ltb, true≢false, ap, ap₂, sym, subst, ◌∙◌, eqb→eq, drop_of_length-le, length-drop, get_or-drop, drop-cons, drop-drop, take_all}
 use Rattle.std.proofs.Math.Decide.{dec_le}
 use Rattle.std.specs.Int.Count.{count_leading_zeros}
 use Rattle.std.proofs.Math.ListN.{get_or-eq_default}
 use Rattle.refal_rows.specs.Tests.{each_below, and_right, range_lo, range_hi}
 use Rattle.refal_text.specs.Pick.{pick, split}
 use Rattle.refal_text.specs.Span.{span}
+use Rattle.refal_text.specs.SpanLaws.{span_some, span_le}
 use Rattle.refal_text.specs.Utf8.{char, ill, ascii, cont, leads, second, code2, code3, code4, well2, well3, well4, two, three, four, by_lead, char_of, decode, go_on, well_to}
 use Rattle.refal_text.specs.declared.Char.{Char}
 
@@ -79,6 +80,15 @@ well_run s i r e =
     let d : drop (span ascii (drop i s)) (drop i s) ≡ drop r s = drop-drop (span ascii (drop i s)) i s ∙ ap (λ (k : ℕ). drop k s) (sym e) in
     let v : well_to 0 (drop i s) ≡ span ascii (drop i s) + well_to 0 (drop r s) = w ∙ ap (λ (l : List ℕ). span ascii (drop i s) + well_to 0 l) d in
     omega arith
+
+-- such a run that begins at i is not empty, and is passed
+pub well_ascii_run : (s : List ℕ) (i r : ℕ) → i < length s → ascii (get_or s i 0) ≡ true → r ≡ span ascii (take (length s - i) (drop i s))
+    → (0 < r) × (i + r ≤ length s) × (i + r + well_to 0 (drop (i + r) s) ≡ i + well_to 0 (drop i s))
+well_ascii_run s i r h t e =
+    let f : r ≡ span ascii (drop i s) = e ∙ ap (λ (l : List ℕ). span ascii l) (take_all (length s - i) (drop i s) (omega (arith, length-drop i s))) in
+    let some = span_some ascii s i h t in
+    let most = span_le ascii (drop i s) in
+    (omega arith, omega (arith, length-drop i s), well_run s i (i + r) (ap (λ (k : ℕ). i + k) f))
 
 -- ---- what the count of ones says of the byte
 abbrev Lo : ℕ → ℕ → Type 0

@@ -1,12 +1,11 @@
 // Characters in UTF-8, and white space.
 #![tactic(auto)]
 
-ghost use Rattle.std.specs.Prelude.{◌≡◌, ◌&&◌, ◌+◌, ◌-◌, ◌≤◌, ◌<◌, IfSome, leb, length, drop, get_or};
+ghost use Rattle.std.specs.Prelude.{◌≡◌, ◌+◌, ◌≤◌, ◌<◌, IfSome, length, drop, get_or};
 ghost use Rattle.refal_text.specs.Utf8.{leads, second, cont, two, three, four, decode, well_to, ascii};
 ghost use Rattle.refal_text.specs.Told.{char_told, place_told};
 ghost use Rattle.refal_text.specs.White.{white_space};
 ghost use Rattle.refal_text.specs.Span.{span};
-ghost use Rattle.refal_text.specs.AsciiLaws.{eight, block};
 
 // A character and how many bytes it has.
 #[derive(Clone, Copy, Debug, PartialEq, Eq)]
@@ -46,13 +45,14 @@ fn is_continuation(b: u8) -> bool
 fn is_second(a: u8, b: u8) -> bool
     ensures { result ≡ second a b }
 {
-    match a {
-        0xE0 => matches!(b, 0xA0..=0xBF),
-        0xED => matches!(b, 0x80..=0x9F),
-        0xF0 => matches!(b, 0x90..=0xBF),
-        0xF4 => matches!(b, 0x80..=0x8F),
-        _ => is_continuation(b),
-    }
+    let (low, high) = match a {
+        0xE0 => (0xA0, 0xBF),
+        0xED => (0x80, 0x9F),
+        0xF0 => (0x90, 0xBF),
+        0xF4 => (0x80, 0x8F),
+        _ => (0x80, 0xBF),
+    };
+    (low..=high).contains(&b)
 }
 
 // The character of two bytes, a and b.
@@ -119,44 +119,14 @@ pub fn decode(src: &[u8], at: usize) -> Option<Char>
     }
 }
 
-// Whether the eight bytes at i are below 128.
-fn ascii_eight(src: &[u8], i: usize) -> bool
-    requires { i + 8 ≤ length src.now }
-    ensures { result ≡ eight src.now i }
+// How many bytes below 128 stand at the front: 32 at a time where so many do.
+fn ascii_run(src: &[u8]) -> usize
+    ensures { result ≡ span ascii src.now }
 {
-    (((src[i] < 128) & (src[i + 1] < 128)) & ((src[i + 2] < 128) & (src[i + 3] < 128)))
-        & (((src[i + 4] < 128) & (src[i + 5] < 128)) & ((src[i + 6] < 128) & (src[i + 7] < 128)))
-}
-
-// Whether 32 bytes stand at i, all below 128.
-fn ascii_block(src: &[u8], i: usize) -> bool
-    requires { i ≤ length src.now }
-    ensures { result ≡ leb 32 (length src.now - i) && block src.now i }
-{
-    if src.len() - i < 32 {
-        return false;
-    }
-    (ascii_eight(src, i) & ascii_eight(src, i + 8))
-        & (ascii_eight(src, i + 16) & ascii_eight(src, i + 24))
-}
-
-// Where the bytes below 128 from `at` end: 32 at a time where so many stand there.
-fn ascii_end(src: &[u8], at: usize) -> usize
-    requires { at ≤ length src.now }
-    ensures { (result ≡ at + span ascii (drop at src.now)) × (result ≤ length src.now) }
-{
-    let mut i = at;
-    while i < src.len() {
-        if ascii_block(src, i) {
-            i += 32;
-            continue;
-        }
-        if src[i] >= 128 {
-            return i;
-        }
-        i += 1;
-    }
-    i
+    let (blocks, _) = src.as_chunks::<32>();
+    let whole = blocks.iter().take_while(|block| block.is_ascii()).count();
+    let at = 32 * whole;
+    at + src[at..].iter().take_while(|b| b.is_ascii()).count()
 }
 
 // Where the first ill-formed sequence stands, if there is one.
@@ -166,8 +136,8 @@ pub fn ill_formed(src: &[u8]) -> Option<usize>
 {
     let mut at = 0;
     while at < src.len() {
-        if src[at] < 128 {
-            at = ascii_end(src, at);
+        if src[at].is_ascii() {
+            at += ascii_run(&src[at..]);
         } else {
             let Some(c) = decode(src, at) else {
                 return Some(at);
