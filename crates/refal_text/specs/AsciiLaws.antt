@@ -1,10 +1,10 @@
 -- The run of bytes below 128 at the front, counted in blocks and then one at a time.
-use Rattle.std.specs.Prelude.{ℕ, zero, suc, ◌+◌, ◌*◌, ◌<◌, ◌≤◌, Bool, true, false, cond, ◌&&◌, List, [], ◌∷◌, ◌≡◌, refl, length, take, drop, get_or}
+use Rattle.std.specs.Prelude.{ℕ, zero, suc, ◌+◌, ◌*◌, ◌≤◌, Bool, true, false, cond, ◌&&◌, List, [], ◌∷◌, ◌≡◌, refl, length, take, drop, get_or}
 use Rattle.std.specs.Bool.{MatchBool}
 use Rattle.std.specs.List.{list_all, prefix_len}
 use Rattle.std.specs.Simd.{first_chunks}
 use Rattle.std.specs.Str.{IsAscii, IsNotAscii}
-use Rattle.std.proofs.Common.{arith, ap, sym, ◌∙◌, lt-ltb, le-ltb, drop-drop, length-drop, mul-zero, mul-suc, suc-mul}
+use Rattle.std.proofs.Common.{arith, lt-ltb, le-ltb, drop-drop, length-drop, mul-zero, mul-suc, suc-mul}
 use Rattle.refal_rows.specs.Tests.{and_left, and_right}
 use Rattle.refal_text.specs.Pick.{pick}
 use Rattle.refal_text.specs.Span.{span}

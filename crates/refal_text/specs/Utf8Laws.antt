@@ -1,14 +1,16 @@
 -- Laws of UTF-8: the count of leading ones, the ways out of `char_at` and `first_ill`, and that a character lies within its bytes.
-use Rattle.std.specs.Prelude.{ℕ, zero, suc, ◌+◌, ◌-◌, ◌<◌, ◌≤◌, Bool, true, false, ◌&&◌, List, [], ◌∷◌, ◌≡◌, refl, leb, ltb, eqb, length, take, drop, get_or}
-use Rattle.std.proofs.Common.{arith, zero-add, add-zero, suc-add, ltb-false, eqb-true, eq-eqb, ne_eqb, le-ltb, true≢false, ap, ap₂, sym, subst, ◌∙◌, eqb→eq, drop_of_length-le, length-drop, get_or-drop, drop-cons, drop-drop, take_all}
+use Rattle.std.specs.Prelude.{ℕ, zero, suc, ◌+◌, ◌-◌, ◌<◌, ◌≤◌, Bool, true, false, ◌&&◌, List, [], ◌∷◌, ◌≡◌, refl, leb, ltb, eqb, length, take, drop, get_or, Option, Some, None, IfSome}
+use Rattle.std.proofs.Common.{arith, zero-add, add-zero, suc-add, ltb-false, eqb-true, eq-eqb, ne_eqb, le-ltb, ltb-true, true≢false, ap, sym, subst, ◌∙◌, eqb→eq, drop_of_length-le, length-drop, get_or-drop, drop-cons, drop-drop, take_all}
 use Rattle.std.proofs.Math.Decide.{dec_le}
 use Rattle.std.specs.Int.Count.{count_leading_zeros}
 use Rattle.std.proofs.Math.ListN.{get_or-eq_default}
+use Rattle.std.proofs.lemmas.List.{get_or_read}
 use Rattle.refal_rows.specs.Tests.{each_below, and_right, range_lo, range_hi}
-use Rattle.refal_text.specs.Pick.{pick, split}
+use Rattle.refal_text.specs.Pick.{split}
 use Rattle.refal_text.specs.Span.{span}
 use Rattle.refal_text.specs.SpanLaws.{span_some, span_le}
-use Rattle.refal_text.specs.Utf8.{char, ill, ascii, cont, leads, second, code2, code3, code4, well2, well3, well4, two, three, four, by_lead, char_of, decode, go_on, well_to}
+use Rattle.refal_text.specs.Utf8.{char, ill, ascii, cont, leads, second, two, by_lead, char_of, decode, go_on, well_to}
+use Rattle.refal_text.specs.Told.{char_told}
 use Rattle.refal_text.specs.declared.Char.{Char}
 
 -- the character at a place
@@ -178,29 +180,40 @@ decode_in s at h = rw (decode_at s at h) (
     P : Char → Type 0
     P x = at + x.len ≤ length s
 
--- ---- the ways out of `char_in`
+-- ---- the character at a place, by the count of ones that its lead byte begins with
 module _ (s : List ℕ) (at n : ℕ) (h : at < length s) (e : n ≡ leads (get_or s at 0)) where
-  pub lead_by : decode (drop at s) ≡ by_lead n (get_or s at 0) (get_or s (at + 1) 0) (get_or s (at + 2) 0) (get_or s (at + 3) 0)
+  lead_by : decode (drop at s) ≡ by_lead n (get_or s at 0) (get_or s (at + 1) 0) (get_or s (at + 2) 0) (get_or s (at + 3) 0)
   lead_by = decode_at s at h ∙ ap (λ (k : ℕ). by_lead k (get_or s at 0) (get_or s (at + 1) 0) (get_or s (at + 2) 0) (get_or s (at + 3) 0)) (sym e)
-
-  pub char_one : (w : ℕ) → n ≡ 0 → w ≡ get_or s at 0 → char w 1 ≡ decode (drop at s)
-  char_one w z g = sym (lead_by ∙ simp (eq-eqb _ _ z, ← g))
 
   pub char_two : (r : Char) (b : ℕ) → (n ≡ 0 → ⊥) → n ≡ 2 → b ≡ get_or s (at + 1) 0 → r ≡ two (get_or s at 0) b → r ≡ decode (drop at s)
   char_two r b n0 z g i = i ∙ sym (lead_by ∙ simp (ne_eqb _ _ n0, eq-eqb _ _ z) (ap (two (get_or s at 0)) (sym g)))
 
-  pub char_three : (r : Char) (b c : ℕ) → (n ≡ 0 → ⊥) → (n ≡ 2 → ⊥) → n ≡ 3 → b ≡ get_or s (at + 1) 0 → c ≡ get_or s (at + 2) 0 → r ≡ three (get_or s at 0) b c → r ≡ decode (drop at s)
-  char_three r b c n0 n2 z g g' i = i ∙ sym (lead_by ∙ simp (ne_eqb _ _ n0, ne_eqb _ _ n2, eq-eqb _ _ z) (ap₂ (three (get_or s at 0)) (sym g) (sym g')))
-
-  pub char_four : (r : Char) (b c d : ℕ) → (n ≡ 0 → ⊥) → (n ≡ 2 → ⊥) → (n ≡ 3 → ⊥) → n ≡ 4 → b ≡ get_or s (at + 1) 0 → c ≡ get_or s (at + 2) 0 → d ≡ get_or s (at + 3) 0
-      → r ≡ four (get_or s at 0) b c d → r ≡ decode (drop at s)
-  char_four r b c d n0 n2 n3 z g g' g'' i =
-      i ∙ sym (lead_by
-      ∙ simp (ne_eqb _ _ n0, ne_eqb _ _ n2, ne_eqb _ _ n3, eq-eqb _ _ z) (ap₂ (λ (x y : ℕ). four (get_or s at 0) x y (get_or s (at + 3) 0)) (sym g) (sym g')
-      ∙ ap (four (get_or s at 0) b c) (sym g'')))
-
   pub char_none : (n ≡ 0 → ⊥) → (n ≡ 2 → ⊥) → (n ≡ 3 → ⊥) → (n ≡ 4 → ⊥) → ill ≡ decode (drop at s)
   char_none n0 n2 n3 n4 = sym (lead_by ∙ simp (ne_eqb _ _ n0, ne_eqb _ _ n2, ne_eqb _ _ n3, ne_eqb _ _ n4))
+
+-- the same, where the lead byte that was read is a, and its count m is n, or none that leads a character
+module _ (s : List ℕ) (at a m : ℕ) (h : true ≡ ltb at (length s)) (g : a ≡ get_or s at a) (e : m ≡ leads a) where
+  within : at < length s
+  within = ltb-true _ _ (sym h)
+
+  first : a ≡ get_or s at 0
+  first = get_or_read s at a within g 0
+
+  count : m ≡ leads (get_or s at 0)
+  count = e ∙ ap (λ (x : ℕ). leads x) first
+
+  pub decode_by : (n : ℕ) → m ≡ n → decode (drop at s) ≡ by_lead n a (get_or s (at + 1) 0) (get_or s (at + 2) 0) (get_or s (at + 3) 0)
+  decode_by n q =
+      lead_by s at n within (sym q ∙ count) ∙ ap (λ (x : ℕ). by_lead n x (get_or s (at + 1) 0) (get_or s (at + 2) 0) (get_or s (at + 3) 0)) (sym first)
+
+  pub decode_none : (m ≡ 0 → ⊥) → (m ≡ 2 → ⊥) → (m ≡ 3 → ⊥) → (m ≡ 4 → ⊥) → ill ≡ decode (drop at s)
+  decode_none = char_none s at m within count
+
+  -- a character so found lies within
+  pub found_within : (n : ℕ) → m ≡ n → (r : Option Char) → char_told r ≡ by_lead n a (get_or s (at + 1) 0) (get_or s (at + 2) 0) (get_or s (at + 3) 0)
+      → IfSome r (λ c. 1 ≤ c.len) → IfSome r (λ c. (1 ≤ c.len) × (at + c.len ≤ length s))
+  found_within n q None e k = k
+  found_within n q (Some c) e k = let i = decode_in s at within in let j : (decode (drop at s)).len ≡ c.len = ap (λ (x : Char). x.len) (decode_by n q ∙ sym e) in (k, omega arith)
 
 -- the character that the code found lies within
 pub step_in : (s : List ℕ) (at : ℕ) (r : Char) → at < length s → r ≡ decode (drop at s) → at + r.len ≤ length s
@@ -222,34 +235,7 @@ leads_some a h =
     P : ℕ → Type 0
     P n = 0 < n
 
--- ---- the ways through `first_ill`: how long the sequence is whose lead byte begins with n ones
-pick_len : (t : Bool) (x n : ℕ) → (pick t (char x n) ill).len ≡ pick t n 0
-pick_len true x n = refl
-pick_len false x n = refl
-
-module _ (s : List ℕ) (at n : ℕ) (h : at < length s) (e : n ≡ leads (get_or s at 0)) (t : Bool) where
-  pub len_two : n ≡ 2 → well2 (get_or s at 0) (get_or s (at + 1) 0) ≡ t → (decode (drop at s)).len ≡ pick t 2 0
-  len_two z f =
-      ap (λ (c : Char). c.len) (sym (char_two s at n h e (two (get_or s at 0) (get_or s (at + 1) 0)) (get_or s (at + 1) 0) (λ y. absurd (omega arith)) z refl refl))
-      ∙ ap (λ (u : Bool). (pick u (char (code2 (get_or s at 0) (get_or s (at + 1) 0)) 2) ill).len) f
-      ∙ pick_len t (code2 (get_or s at 0) (get_or s (at + 1) 0)) 2
-
-  pub len_three : n ≡ 3 → well3 (get_or s at 0) (get_or s (at + 1) 0) (get_or s (at + 2) 0) ≡ t → (decode (drop at s)).len ≡ pick t 3 0
-  len_three z f =
-      ap (λ (c : Char). c.len)
-      (sym (char_three s at n h e (three (get_or s at 0) (get_or s (at + 1) 0) (get_or s (at + 2) 0)) (get_or s (at + 1) 0) (get_or s (at + 2) 0) (λ y. absurd (omega arith))
-      (λ y. absurd (omega arith)) z refl refl refl))
-      ∙ ap (λ (u : Bool). (pick u (char (code3 (get_or s at 0) (get_or s (at + 1) 0) (get_or s (at + 2) 0)) 3) ill).len) f
-      ∙ pick_len t (code3 (get_or s at 0) (get_or s (at + 1) 0) (get_or s (at + 2) 0)) 3
-
-  pub len_four : n ≡ 4 → well4 (get_or s at 0) (get_or s (at + 1) 0) (get_or s (at + 2) 0) (get_or s (at + 3) 0) ≡ t → (decode (drop at s)).len ≡ pick t 4 0
-  len_four z f =
-      ap (λ (c : Char). c.len)
-      (sym (char_four s at n h e (four (get_or s at 0) (get_or s (at + 1) 0) (get_or s (at + 2) 0) (get_or s (at + 3) 0)) (get_or s (at + 1) 0) (get_or s (at + 2) 0) (get_or s (at + 3) 0)
-      (λ y. absurd (omega arith)) (λ y. absurd (omega arith)) (λ y. absurd (omega arith)) z refl refl refl refl))
-      ∙ ap (λ (u : Bool). (pick u (char (code4 (get_or s at 0) (get_or s (at + 1) 0) (get_or s (at + 2) 0) (get_or s (at + 3) 0)) 4) ill).len) f
-      ∙ pick_len t (code4 (get_or s at 0) (get_or s (at + 1) 0) (get_or s (at + 2) 0) (get_or s (at + 3) 0)) 4
-
+-- no character begins with a byte from 128 on that leads none
 pub len_none : (s : List ℕ) (at n : ℕ) → at < length s → n ≡ leads (get_or s at 0) → 128 ≤ get_or s at 0 → (n ≡ 2 → ⊥) → (n ≡ 3 → ⊥) → (n ≡ 4 → ⊥) → (decode (drop at s)).len ≡ 0
 len_none s at n h e l n2 n3 n4 = ap (λ (c : Char). c.len) (sym (char_none s at n h e zero_not n2 n3 n4))
   where
@@ -258,7 +244,3 @@ len_none s at n h e l n2 n3 n4 = ap (λ (c : Char). c.len) (sym (char_none s at 
 
     zero_not : n ≡ 0 → ⊥
     zero_not z = some (get_or s at 0) l (sym e ∙ z)
-
--- a sequence of the length that the code found lies within, and is passed
-pub well_pass : (s : List ℕ) (i n : ℕ) → i < length s → (decode (drop i s)).len ≡ suc n → i + suc n ≤ length s
-well_pass s i n h e = let d = decode_in s i h in omega arith

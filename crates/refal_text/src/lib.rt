@@ -56,6 +56,7 @@ fn is_second(a: u8, b: u8) -> bool
 }
 
 // The character of two bytes, a and b.
+#[inline(always)]
 pub fn two(a: u8, b: u8) -> Option<Char>
     requires { 192 ≤ a }
     ensures told { char_told result ≡ two a b }
@@ -70,6 +71,7 @@ pub fn two(a: u8, b: u8) -> Option<Char>
     })
 }
 
+#[inline(always)]
 fn three(a: u8, b: u8, c: u8) -> Option<Char>
     requires { 224 ≤ a }
     ensures told { char_told result ≡ three a b c }
@@ -84,6 +86,7 @@ fn three(a: u8, b: u8, c: u8) -> Option<Char>
     })
 }
 
+#[inline(always)]
 fn four(a: u8, b: u8, c: u8, d: u8) -> Option<Char>
     requires { 240 ≤ a }
     ensures told { char_told result ≡ four a b c d }
@@ -101,7 +104,8 @@ fn four(a: u8, b: u8, c: u8, d: u8) -> Option<Char>
     })
 }
 
-// The character at `at`: none past the end.
+// The character at `at`: none past the end. Inlined, so that whoever asks for its length alone pays for no more.
+#[inline(always)]
 pub fn decode(src: &[u8], at: usize) -> Option<Char>
     ensures told { char_told result ≡ decode (drop at src.now) }
     ensures within { IfSome result (λ c. (1 ≤ c.len) × (at + c.len ≤ length src.now)) }
@@ -121,7 +125,8 @@ pub fn decode(src: &[u8], at: usize) -> Option<Char>
 
 // How many bytes below 128 stand at the front: 32 at a time where so many do.
 fn ascii_run(src: &[u8]) -> usize
-    ensures { result ≡ span ascii src.now }
+    ensures run { result ≡ span ascii src.now }
+    ensures within { result ≤ length src.now }
 {
     let (blocks, _) = src.as_chunks::<32>();
     let whole = blocks.iter().take_while(|block| block.is_ascii()).count();
@@ -130,6 +135,7 @@ fn ascii_run(src: &[u8]) -> usize
 }
 
 // Where the first ill-formed sequence stands, if there is one.
+#[tactic(auto, using(crate::specs::Utf8Laws::well_ascii_run, crate::specs::Utf8Laws::well_end, crate::specs::Utf8Laws::well_stop, crate::specs::Utf8Laws::well_step))]
 pub fn ill_formed(src: &[u8]) -> Option<usize>
     ensures told { place_told (length src.now) result ≡ well_to 0 src.now }
     ensures within { IfSome result (λ at. at < length src.now) }
