@@ -1,14 +1,13 @@
 -- Laws of the test for refusal 41: a row at a time.
-use Rattle.std.specs.Prelude.{ℕ, suc, ◌+◌, ◌*◌, ◌-◌, ◌<◌, ◌≤◌, Bool, true, false, ◌&&◌, List, ◌∷◌, ◌≡◌, refl, take}
+use Rattle.std.specs.Prelude.{ℕ, ◌+◌, ◌-◌, ◌<◌, ◌≤◌, Bool, true, false, ◌&&◌, List, [], ◌∷◌, ◌++◌, ◌≡◌, refl, eqb, take}
 use native.Mathlib.Omega.{arith}
-use Rattle.std.proofs.Common.{add-one, le-leb, ne_eqb, ◌∙◌, drop_of_length-le, drop-cons}
+use Rattle.std.proofs.Common.{le-leb, ne_eqb, lit≤, ◌∙◌}
 use Rattle.std.proofs.lemmas.Bool.{lt-leb}
 use Rattle.std.proofs.Math.Path.{ap, sym}
 use Rattle.std.proofs.Math.ListN.{length, drop}
 use Rattle.refal_text.specs.Pick.{pick}
-use Rattle.refal_ast.specs.Kinds.{tok_identifier, node_number, node_char, node_variable}
-use Rattle.refal_ast.specs.Nodes.{Node, has_text, node_width, col_kind, col_detail, col_start, col_len, word_at, node_at, HasRow, nodes_of}
-use Rattle.refal_ast.specs.NodeLaws.{count_nodes, node_at_lem}
+use Rattle.refal_ast.specs.Kinds.{tok_identifier, node_number, node_char, node_variable, node_call}
+use Rattle.refal_ast.specs.Nodes.{Node, has_text, node_width, node_at, nodes_of}
 use Rattle.refal_spelling.specs.Spell.{text_at}
 use Rattle.refal_spelling.specs.Spells.{spells, spells_index}
 use Rattle.refal_spelling.specs.Spellings.{char_ok, number_ok, text_spelled, row_spelled, nodes_spelled}
@@ -44,32 +43,45 @@ module _ (src : List ℕ) (k s l : ℕ) where
   unfolding row_spelled
   row_plain d n e = sym (rw (ne_eqb k node_char n) (ap (λ (b : Bool). pick b (text_spelled src k s l) true) e))
 
--- ---- the rows from row i on
-module _ (src m : List ℕ) (i : ℕ) where
-  row_at : Bool
-  row_at = row_spelled src (word_at m i col_kind) (word_at m i col_detail) (word_at m i col_start) (word_at m i col_len)
+  -- of no kind
+  pub row_unknown : (d : ℕ) → (1 ≤ k → node_call < k) → row_spelled src k d s l ≡ true
+  unfolding row_spelled
+  row_unknown d h =
+      let n : (m : ℕ) → 1 ≤ m → m ≤ node_call → eqb k m ≡ false = λ m lo hi. ne_eqb k m (λ e. omega arith) in
+      rw (n 11 (lit≤ tt) (lit≤ tt), n 2 (lit≤ tt) (lit≤ tt), n 3 (lit≤ tt) (lit≤ tt), n 9 (lit≤ tt) (lit≤ tt), n 10 (lit≤ tt) (lit≤ tt), n 12 (lit≤ tt) (lit≤ tt), n 14 (lit≤ tt) (lit≤ tt))
 
-  spelled_turn : HasRow m i → nodes_spelled src (drop i (nodes_of m)) ≡ row_at && nodes_spelled src (drop (i + 1) (nodes_of m))
-  unfolding nodes_spelled row_at
-  spelled_turn h =
-      let c = count_nodes m in
-      ap (nodes_spelled src)
-      (drop-cons (nodes_of m) i (node_at m i) (omega arith)
-      ∙ ap (λ (x : Node). x ∷ drop (suc i) (nodes_of m)) (node_at_lem m i (node_at m i) h)
-      ∙ ap (λ (k : ℕ). node_at m i ∷ drop k (nodes_of m)) (sym (add-one i)))
+-- ---- words, a row at a time
+row_first : (r rest : List ℕ) → length r ≡ node_width → nodes_of (r ++ rest) ≡ node_at r 0 ∷ nodes_of rest
+unfolding nodes_of
+row_first [] rest h = absurd (omega arith)
+row_first (k ∷ []) rest h = absurd (omega arith)
+row_first (k ∷ d ∷ []) rest h = absurd (omega arith)
+row_first (k ∷ d ∷ s ∷ []) rest h = absurd (omega arith)
+row_first (k ∷ d ∷ s ∷ l ∷ []) rest h = absurd (omega arith)
+row_first (k ∷ d ∷ s ∷ l ∷ a ∷ []) rest h = absurd (omega arith)
+row_first (k ∷ d ∷ s ∷ l ∷ a ∷ b ∷ []) rest h = absurd (omega arith)
+row_first (k ∷ d ∷ s ∷ l ∷ a ∷ b ∷ x ∷ []) rest h = refl
+row_first (k ∷ d ∷ s ∷ l ∷ a ∷ b ∷ x ∷ y ∷ r) rest h = absurd (omega arith)
 
-  pub spelled_end_lem : length m < node_width * (i + 1) → nodes_spelled src (drop i (nodes_of m)) ≡ true
+-- the words w are the row r, which is the node x, and those behind it
+module _ (src w r rest : List ℕ) (x : Node) (is : w ≡ r ++ rest) (whole : length r ≡ node_width) (at : x ≡ node_at r 0) where
+  spelled_turn : nodes_spelled src (nodes_of w) ≡ row_spelled src x.kind x.detail x.start x.len && nodes_spelled src (nodes_of rest)
   unfolding nodes_spelled
-  spelled_end_lem h =
-      let c = count_nodes m in
-      let l : length (nodes_of m) ≤ i = omega arith in
-      ap (nodes_spelled src) (drop_of_length-le (nodes_of m) l)
+  spelled_turn = rw (is, at) (ap (nodes_spelled src) (row_first r rest whole))
 
-  pub spelled_stop : HasRow m i → row_spelled src (word_at m i col_kind) (word_at m i col_detail) (word_at m i col_start) (word_at m i col_len) ≡ false → nodes_spelled src (drop i (nodes_of m)) ≡ false
-  unfolding row_at
-  spelled_stop h e = spelled_turn h ∙ ap (λ (b : Bool). b && nodes_spelled src (drop (i + 1) (nodes_of m))) e
+  pub spelled_stop : row_spelled src x.kind x.detail x.start x.len ≡ false → nodes_spelled src (nodes_of w) ≡ false
+  spelled_stop h = spelled_turn ∙ ap (λ (b : Bool). b && nodes_spelled src (nodes_of rest)) h
 
-  pub spelled_on : HasRow m i → row_spelled src (word_at m i col_kind) (word_at m i col_detail) (word_at m i col_start) (word_at m i col_len) ≡ true
-      → nodes_spelled src (drop i (nodes_of m)) ≡ nodes_spelled src (drop (i + 1) (nodes_of m))
-  unfolding row_at
-  spelled_on h e = spelled_turn h ∙ ap (λ (b : Bool). b && nodes_spelled src (drop (i + 1) (nodes_of m))) e
+  pub spelled_on : row_spelled src x.kind x.detail x.start x.len ≡ true → nodes_spelled src (nodes_of w) ≡ nodes_spelled src (nodes_of rest)
+  spelled_on h = spelled_turn ∙ ap (λ (b : Bool). b && nodes_spelled src (nodes_of rest)) h
+
+pub spelled_short : (src w : List ℕ) → length w < node_width → nodes_spelled src (nodes_of w) ≡ true
+unfolding nodes_spelled nodes_of
+spelled_short src [] h = refl
+spelled_short src (k ∷ []) h = refl
+spelled_short src (k ∷ d ∷ []) h = refl
+spelled_short src (k ∷ d ∷ s ∷ []) h = refl
+spelled_short src (k ∷ d ∷ s ∷ l ∷ []) h = refl
+spelled_short src (k ∷ d ∷ s ∷ l ∷ a ∷ []) h = refl
+spelled_short src (k ∷ d ∷ s ∷ l ∷ a ∷ b ∷ []) h = refl
+spelled_short src (k ∷ d ∷ s ∷ l ∷ a ∷ b ∷ x ∷ w) h = absurd (omega arith)

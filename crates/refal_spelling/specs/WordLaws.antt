@@ -1,19 +1,20 @@
 -- Laws of words: the tests of the code hold exactly of the words that reading gives.
 use Rattle.std.specs.Prelude.{ℕ, zero, suc, ◌+◌, ◌<◌, ◌≤◌, Bool, true, false, ◌&&◌, ◌||◌, List, [], ◌∷◌, ◌++◌, ◌≡◌, refl, leb, eqb, length, take, drop, get_or}
-use Rattle.std.proofs.Common.{arith, zero-add, lt-ltb, ne_eqb, eqb-true, true≢false, append-nil, ap, sym, subst, ◌∙◌, eqb→eq, take_all}
-use Rattle.std.proofs.lemmas.Bool.{eqb-false}
+use Rattle.std.proofs.Common.{arith, zero-add, le-leb, lt-ltb, eq-eqb, ne_eqb, eqb-true, true≢false, append-nil, ap, sym, subst, ◌∙◌, eqb→eq, take_all}
 use Rattle.std.proofs.Math.Bool.{and-false}
-use Rattle.refal_rows.specs.Tests.{each_below}
+use Rattle.std.proofs.Math.Dec.{eqb-suc-suc}
+use Rattle.std.specs.List.{list_all}
+use Rattle.refal_rows.specs.Tests.{each_below, and_left, and_right, range_lo, range_hi}
 use Rattle.refal_text.specs.Pick.{pick}
 use Rattle.refal_text.specs.Span.{span}
 use Rattle.refal_ast.specs.Kinds.{tok_identifier, tok_number}
-use Rattle.refal_lexer.specs.Classes.{name_byte, digit, upper, class_of}
+use Rattle.refal_lexer.specs.Classes.{name_byte, digit, sign, upper, class_of}
 use Rattle.refal_lexer.specs.BlankLaws.{nonzero_in}
 use Rattle.refal_lexer.specs.Numbers.{whole_scan, number_scan}
 use Rattle.refal_lexer.specs.Tokens.{token_scan}
 use Rattle.refal_lexer.specs.declared.Scan.TheVariants.{Token}
 use Rattle.refal_spelling.specs.Spell.{spelled}
-use Rattle.refal_spelling.specs.Spells.{token_to, spells, spells_index}
+use Rattle.refal_spelling.specs.Spells.{token_to, spells, spells_index, is_index}
 use Rattle.refal_spelling.specs.SpellsLaws.{spells_identifier, identifier_spells, spells_number, spells_index_lem}
 use Rattle.refal_spelling.specs.Good.{Every, Sign, unsigned, plus, minus, Number, macrodigit, real, Good, identifier, number, mark}
 use Rattle.refal_spelling.specs.Runs.{every_span, span_every}
@@ -42,15 +43,6 @@ named w (mark k l h) = absurd (omega arith)
 name_no : (w : List ℕ) → (Named w → ⊥) → false ≡ spells tok_identifier w
 name_no w h = false_of (spells tok_identifier w) (λ e. h (named w (spells_identifier w e)))
 
-pub name_empty : (w : List ℕ) → length w ≡ 0 → false ≡ spells tok_identifier w
-name_empty w h = name_no w (λ n. let l = n.some in omega arith)
-
-pub name_long : (w : List ℕ) → 15 < length w → false ≡ spells tok_identifier w
-name_long w h = name_no w (λ n. let l = n.few in omega arith)
-
-pub name_lower : (w : List ℕ) → upper (get_or w 0 0) ≡ false → false ≡ spells tok_identifier w
-name_lower w h = name_no w (λ n. differ n.first h)
-
 name_yes : (w : List ℕ) → Named w → spells tok_identifier w ≡ true
 name_yes [] n = let h = n.some in absurd (omega arith)
 name_yes (b ∷ s) n =
@@ -58,16 +50,55 @@ name_yes (b ∷ s) n =
     let a : Every name_byte s = subst (Every name_byte) (ap (λ (k : ℕ). take k s) e ∙ take_all (length s) s (omega arith)) (every_span name_byte s) in
     identifier_spells 0 (b ∷ s) (identifier b s n.first a n.few)
 
-pub name_same : (w : List ℕ) (end : ℕ) → 1 ≤ length w → length w ≤ 15 → upper (get_or w 0 0) ≡ true → end ≡ 1 + span name_byte (drop 1 w) → eqb end (length w) ≡ spells tok_identifier w
-name_same w end some few first e = go (eqb end (length w)) refl
-  where
-    go : (b : Bool) → eqb end (length w) ≡ b → b ≡ spells tok_identifier w
-    go true h = sym (name_yes w (record { some = some; few = few; first = first; rest = sym e ∙ eqb-true _ _ h }))
-    go false h = name_no w (λ n. eqb-false end (length w) h (e ∙ n.rest))
-
 -- ---- indices
-pub index_same : (w : List ℕ) (end : ℕ) → end ≡ 0 + span name_byte w → (leb 1 (length w) && leb (length w) 15) && eqb end (length w) ≡ spells_index w
-index_same w end e = ap (λ (k : ℕ). (leb 1 (length w) && leb (length w) 15) && eqb k (length w)) (e ∙ zero-add _) ∙ sym (spells_index_lem w)
+name_all : (w : List ℕ) → list_all name_byte w ≡ eqb (span name_byte w) (length w)
+name_all [] = refl
+name_all (b ∷ s) = go (name_byte b) (name_all s)
+  where
+    go : (t : Bool) → list_all name_byte s ≡ eqb (span name_byte s) (length s) → t && list_all name_byte s ≡ eqb (pick t (suc (span name_byte s)) 0) (suc (length s))
+    go true e = e ∙ sym (eqb-suc-suc (span name_byte s) (length s))
+    go false e = sym (ne_eqb 0 (suc (length s)) (λ z. omega arith))
+
+index_is : (w : List ℕ) → (leb 1 (length w) && leb (length w) 15) && list_all name_byte w ≡ spells_index w
+index_is w = ap (λ (t : Bool). (leb 1 (length w) && leb (length w) 15) && t) (name_all w) ∙ sym (spells_index_lem w)
+
+pub index_in : (w : List ℕ) → 1 ≤ length w → length w ≤ 15 → list_all name_byte w ≡ spells_index w
+index_in w lo hi = sym (rw (le-leb _ _ lo, le-leb _ _ hi)) ∙ index_is w
+
+pub index_out : (w : List ℕ) → (1 ≤ length w → length w ≤ 15 → ⊥) → false ≡ spells_index w
+index_out w h = false_of (spells_index w) (λ e.
+    let r = and_left (leb 1 (length w) && leb (length w) 15) (list_all name_byte w) (index_is w ∙ e) in
+    h (range_lo 1 (length w) 15 r) (range_hi 1 (length w) 15 r))
+
+-- ---- an identifier is an index that begins with A to Z
+upper_name : (b : ℕ) → upper b ≡ true → name_byte b ≡ true
+upper_name b h = rw h refl
+
+-- at such a byte its run of bytes of names goes on
+upper_run : (w : List ℕ) → upper (get_or w 0 0) ≡ true → span name_byte w ≡ 1 + span name_byte (drop 1 w)
+upper_run [] h = absurd (differ h refl)
+upper_run (b ∷ s) h = rw (upper_name b h) (omega arith)
+
+pub identifier_is : (w : List ℕ) → spells_index w && upper (get_or w 0 0) ≡ spells tok_identifier w
+identifier_is w = ap (λ (t : Bool). t && upper (get_or w 0 0)) (spells_index_lem w) ∙ go (is_index w && upper (get_or w 0 0)) refl
+  where
+    short : Bool
+    short = leb 1 (length w) && leb (length w) 15
+
+    run : Bool
+    run = eqb (span name_byte w) (length w)
+
+    go : (t : Bool) → (short && run) && upper (get_or w 0 0) ≡ t → t ≡ spells tok_identifier w
+    go true h =
+        let i : short && run ≡ true = and_left (short && run) (upper (get_or w 0 0)) h in
+        let u : upper (get_or w 0 0) ≡ true = and_right (short && run) (upper (get_or w 0 0)) h in
+        let l : short ≡ true = and_left short run i in
+        let r : span name_byte w ≡ length w = eqb-true _ _ (and_right short run i) in
+        sym (name_yes w (record { some = range_lo 1 (length w) 15 l; few = range_hi 1 (length w) 15 l; first = u; rest = sym (upper_run w u) ∙ r }))
+    go false h = name_no w (λ n. differ (both n) h)
+      where
+        both : Named w → (short && run) && upper (get_or w 0 0) ≡ true
+        both n = rw (le-leb _ _ n.some, le-leb _ _ n.few, eq-eqb (span name_byte w) (length w) (upper_run w n.first ∙ n.rest)) n.first
 
 -- ---- numbers
 whole_pick : (n from a v : ℕ) (b : Bool) → leb v 4294967295 ≡ b → token_to tok_number n (whole_scan 0 from a v) ≡ (eqb from 0 && b) && eqb a n
@@ -132,3 +163,27 @@ no_sign w d s = number_no w (rw (d, s) refl)
 pub no_digit : (w : List ℕ) → digit (get_or w 0 0) ≡ false → digit (get_or w 1 0) ≡ false → false ≡ spells tok_number w
 unfolding starts
 no_digit w d x = number_no w (rw (d, x) (and-false (eqb (get_or w 0 0) 43 || eqb (get_or w 0 0) 45)))
+
+sign_digit : (b : ℕ) → sign b ≡ true → digit b ≡ false
+sign_digit b h = go (eqb b 43) refl h
+  where
+    go : (t : Bool) → eqb b 43 ≡ t → t || eqb b 45 ≡ true → digit b ≡ false
+    go true e h = rw (eqb-true _ _ e) refl
+    go false e h = rw (eqb-true _ _ h) refl
+
+-- from where its digits are to start: behind a sign, if it begins with one
+pub number_is : (w : List ℕ) (t : Bool) (from : ℕ) → t ≡ sign (get_or w 0 0) → (t ≡ true → from ≡ 1) → (t ≡ false → from ≡ 0)
+    → digit (get_or w from 0) && token_to tok_number (length w) (number_scan 0 from w) ≡ spells tok_number w
+number_is w t from e one none = go t e one none
+  where
+    behind : (d : Bool) → sign (get_or w 0 0) ≡ true → digit (get_or w 1 0) ≡ d → d && token_to tok_number (length w) (number_scan 0 1 w) ≡ spells tok_number w
+    behind true s d = sign_first w s d
+    behind false s d = no_digit w (sign_digit (get_or w 0 0) s) d
+
+    alone : (d : Bool) → sign (get_or w 0 0) ≡ false → digit (get_or w 0 0) ≡ d → d && token_to tok_number (length w) (number_scan 0 0 w) ≡ spells tok_number w
+    alone true s d = digit_first w d
+    alone false s d = no_sign w d s
+
+    go : (t : Bool) → t ≡ sign (get_or w 0 0) → (t ≡ true → from ≡ 1) → (t ≡ false → from ≡ 0) → digit (get_or w from 0) && token_to tok_number (length w) (number_scan 0 from w) ≡ spells tok_number w
+    go true e one none = rw (one refl) (behind (digit (get_or w 1 0)) (sym e) refl)
+    go false e one none = rw (none refl) (alone (digit (get_or w 0 0)) (sym e) refl)

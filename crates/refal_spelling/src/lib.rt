@@ -5,12 +5,14 @@
 mod words;
 
 ghost use Rattle.std.specs.Prelude.{◌≡◌, ◌≤◌, length};
-ghost use Rattle.refal_ast.specs.Nodes.{HasRow, word_at, col_kind, col_detail, col_start, col_len};
+ghost use Rattle.refal_ast.specs.KindCodes.{node_code};
+ghost use Rattle.refal_ast.specs.Nodes.{HasRow, word_at, col_start, col_len};
 ghost use Rattle.refal_spelling.specs.Spell.{text_at};
 ghost use Rattle.refal_spelling.specs.Spellings.{char_ok, number_ok, text_spelled, row_spelled, all_spelled};
 
 use crate::words::{is_identifier, is_index, is_number};
-use refal_ast::kinds::node;
+use refal_ast::kinds::NodeKind;
+use refal_ast::nodes::Node;
 use refal_ast::{limits, nodes};
 use refal_rows::least;
 
@@ -18,33 +20,40 @@ use refal_rows::least;
 fn is_char(x: u32) -> bool
     ensures { result ≡ char_ok x }
 {
-    (!(x == 10)) & ((x <= 1114111) & !((55296 <= x) & (x <= 57343)))
+    char::from_u32(x).is_some_and(|c| c != '\n')
 }
 
 // A Number that reading gives.
 fn number_ok(word: &[u8]) -> bool
     ensures { result ≡ number_ok word.now }
 {
-    let short = word.len() <= limits::MOST_BYTES;
-    is_number(word) & short
+    is_number(word) && word.len() <= limits::MOST_BYTES
 }
 
-// The text of a row of the kind.
-fn text_spelled(src: &[u8], kind: u32, start: u32, len: u32) -> bool
-    ensures { result ≡ text_spelled src.now kind start len }
+// The text of a node whose kind uses it.
+fn text_spelled(node: Node, src: &[u8]) -> bool
+    ensures { result ≡ text_spelled src.now (node_code node.kind) node.start node.len }
 {
-    let from = start as usize;
-    let end = from + len as usize;
-    if src.len() < end {
+    let from = node.start as usize;
+    let end = from + node.len as usize;
+    let Some(word) = src.get(from..end) else {
         return false;
+    };
+    match node.kind {
+        NodeKind::Number => number_ok(word),
+        NodeKind::Variable => is_index(word),
+        _ => is_identifier(word),
     }
-    if kind == node::NUMBER {
-        return number_ok(&src[from..end]);
-    }
-    if kind == node::VARIABLE {
-        return is_index(&src[from..end]);
-    }
-    is_identifier(&src[from..end])
+}
+
+// The text of a node, as a part of the source; what lies outside the source is not there.
+pub fn text_of<'a>(node: Node, src: &'a [u8]) -> &'a [u8]
+    ensures text { result.now ≡ text_at src.now node.start node.len }
+    ensures short { length result.now ≤ 4294967295 }
+{
+    let from = (node.start as usize).min(src.len());
+    let n = (node.len as usize).min(src.len() - from);
+    &src[from..from + n]
 }
 
 // The text of row i, as a part of the source; what lies outside the source is not there.
@@ -60,37 +69,29 @@ pub fn text<'a>(tree: &[u32], src: &'a [u8], i: usize) -> &'a [u8]
     &src[from..end]
 }
 
-// Row i of the tree.
-fn row_spelled(tree: &[u32], src: &[u8], i: usize) -> bool
-    requires { HasRow tree.now i }
-    ensures { result ≡ row_spelled src.now (word_at tree.now i col_kind) (word_at tree.now i col_detail) (word_at tree.now i col_start) (word_at tree.now i col_len) }
+// One node.
+#[tactic(auto, unfolding(crate::specs::Spellings::row_spelled))]
+fn row_spelled(node: Node, src: &[u8]) -> bool
+    ensures { result ≡ row_spelled src.now (node_code node.kind) node.detail node.start node.len }
 {
-    let kind = nodes::kind(tree, i);
-    if kind == node::CHAR {
-        return is_char(nodes::detail(tree, i));
+    match node.kind {
+        NodeKind::Char => is_char(node.detail),
+        kind if kind.has_text() => text_spelled(node, src),
+        _ => true,
     }
-    if nodes::has_text(kind) {
-        return text_spelled(
-            src,
-            kind,
-            nodes::text_start(tree, i),
-            nodes::text_len(tree, i),
-        );
-    }
-    true
 }
 
-// Every row of the tree.
+// Every row of the tree. A row of an unknown kind has no text.
 pub fn spellings(tree: &[u32], src: &[u8]) -> bool
     ensures { result ≡ all_spelled src.now tree.now }
 {
-    let rows = tree.len() / nodes::WIDTH;
-    let mut i = 0;
-    while i < rows {
-        if !row_spelled(tree, src, i) {
+    for row in tree.chunks_exact(nodes::WIDTH) {
+        let Ok(node) = Node::read(row, 0) else {
+            continue;
+        };
+        if !row_spelled(node, src) {
             return false;
         }
-        i += 1;
     }
     true
 }
