@@ -121,5 +121,5 @@ pub fn refal5_real(text: &[u8], digits: &mut [u8], form: &mut [u64; 3], answer: 
     ensures left { digits.new ≡ real_digits text.now digits.old }
     ensures formed { form.new ≡ real_form text.now (length digits.old) }
 {
-    *answer = words(refal_real::normal_form(text, digits, form));
+    *answer = words_of(refal_real::normal_form(text, digits, form));
 }

@@ -1,22 +1,15 @@
 -- What the inner functions answer.
-use Rattle.std.specs.Prelude.{ℕ, ◌+◌, ◌-◌, ◌≤◌, min, Bool, true, false, List, ◌++◌, ◌≡◌, leb, ltb, eqb, length, get_or}
+use Rattle.std.specs.Prelude.{ℕ, ◌+◌, ◌≤◌, min, Bool, true, List, ◌++◌, ◌≡◌, leb, eqb, length, get_or}
 use Rattle.std.proofs.Math.Seq.{slice}
 use Rattle.refal_text.specs.Pick.{pick}
 use Rattle.refal_ast.specs.Limits.{most_bytes}
 use Rattle.refal_lexer.specs.Numbers.{sign_bytes, digits_end, point_at, exponent_at}
 use Rattle.refal_real.specs.Value.{num}
 use Rattle.refal_real.specs.Form.{less, trim, trailing, Form, form}
-use Rattle.refal_real.specs.Real.{is_real, Outcome, has_form, is_refused}
-use Rattle.refal_real.specs.Kept.{digits_at, Within}
-use Rattle.refal_real.specs.declared.Power.{Power}
-use Rattle.refal_real.specs.declared.Form.{Form as Code}
-use Rattle.refal_real.specs.declared.Parsed.{Parsed}
-use Rattle.refal_real.specs.declared.Parsed.TheVariants.{Refused, Real}
+use Rattle.refal_real.specs.Real.{is_real}
+use Rattle.refal_real.specs.Inner as P
+use Rattle.refal_real.specs.Inner.{Spelled, Scale, By, Over}
 use Rattle.refal_real.specs.declared.places.Places.{Places}
-use Rattle.refal_real.specs.declared.places.Spelled.{Spelled}
-use Rattle.refal_real.specs.declared.places.Spelled.TheVariants as P
-use Rattle.refal_real.specs.declared.exponent.Scale.{Scale}
-use Rattle.refal_real.specs.declared.exponent.Scale.TheVariants.{By, Over}
 
 -- where the parts of a real stand, by the lexer's scans
 abbrev pub from_of : List ℕ → ℕ
@@ -50,11 +43,6 @@ Stands t P.Other = Unit
 abbrev pub scale_of : Bool → List ℕ → Scale
 scale_of down x = pick (leb (length (less x)) 9) (By down (num x)) Over
 
--- signs and power, by whether there are digits
-abbrev pub scaled_of : Bool → Bool → ℕ → ℕ → Power
-scaled_of some minus u d =
-    pick some (record { minus = minus; down = ltb u d; power = (u - d) + (d - u) }) (record { minus = false; down = false; power = 0 })
-
 -- the form of a real by its places, and by its exponent
 abbrev pub whole_at : List ℕ → Places → List ℕ
 whole_at t p = slice p.from p.whole t
@@ -66,16 +54,3 @@ abbrev pub form_by : List ℕ → Places → Bool → ℕ → Form
 form_by t p down by =
     form (eqb (get_or t 0 0) 45) (less (trim (whole_at t p ++ fraction_in t p)))
     (pick down 0 by + trailing (whole_at t p ++ fraction_in t p)) (length (fraction_in t p) + pick down by 0)
-
--- a form by where its digits stand in the text
-abbrev pub form_at : List ℕ → Code → Form
-form_at t f = record { minus = f.minus; digits = digits_at t f.digits; down = f.down; power = f.power }
-
-abbrev pub outcome_of : List ℕ → Parsed → Outcome
-outcome_of t (Refused x) = is_refused x
-outcome_of t (Real f) = has_form (form_at t f)
-
--- its digits stand in the text
-abbrev pub Inside : List ℕ → Parsed → Type 0
-Inside t (Refused x) = Unit
-Inside t (Real f) = Within t f.digits

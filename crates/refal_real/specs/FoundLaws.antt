@@ -1,12 +1,8 @@
 -- Laws of what the inner functions answer.
-use Rattle.std.specs.Prelude.{ℕ, ◌+◌, ◌-◌, ◌≤◌, ◌<◌, min, Bool, not, ltb, length, drop, get_or}
-use Rattle.std.proofs.Math.Bool.{true, false}
-use mathlib.Core.List.{List, [], ◌∷◌, ◌++◌}
-use Rattle.std.proofs.Math.Path.{◌≡◌, refl, ap, ap₂, sym}
-use Rattle.std.proofs.Common.{subst, ◌∙◌, arith, lt-ltb, le-ltb, leb-true}
-use Rattle.std.proofs.lemmas.Bool.{not-true, not-false}
-use Rattle.std.proofs.Math.Dec.{leb, eqb}
+use Rattle.std.specs.Prelude.{ℕ, zero, suc, ◌+◌, ◌-◌, ◌≤◌, ◌<◌, min, ltb, ℤ, pos, negsuc, ◌+ℤ◌, ◌-ℤ◌, int_lt, unsigned_abs, Bool, true, false, List, [], ◌∷◌, ◌++◌, ◌≡◌, refl, eqb, leb, length, drop, get_or, Some, None}
+use Rattle.std.proofs.Common.{ap, ap₂, sym, ◌∙◌, arith, lt-ltb, le-ltb, leb-true, length-append}
 use Rattle.std.proofs.Math.Seq.{length-slice}
+use Rattle.std.proofs.lemmas.Int.{ints}
 use Rattle.refal_text.specs.Pick.{pick}
 use Rattle.refal_real.specs.Parts.{Parts, parts, run, past, unsigned, fraction_at, past_fraction, down_at, exponent_digits}
 use Rattle.refal_real.specs.Value.{num}
@@ -14,34 +10,75 @@ use Rattle.refal_real.specs.Form.{less, trim, trailing, form, normal}
 use Rattle.refal_real.specs.Real.{is_real, has_form, is_refused, outcome}
 use Rattle.refal_real.specs.Tens.{num_less, num_below, digits_less, tens_up}
 use Rattle.refal_real.specs.Loops.{nine}
-use Rattle.refal_real.specs.Kept.{digits_at, Within, Kept, count_is}
-use Rattle.refal_real.specs.Found.{whole_of, places_of, spelled_of, Located, Stands, scale_of, scaled_of, whole_at, fraction_in, form_by}
+use Rattle.refal_real.specs.Found.{whole_of, places_of, spelled_of, Located, scale_of, whole_at, fraction_in, form_by}
+use Rattle.refal_real.specs.Told.{signed_power, exponent_of}
 use Rattle.refal_real.specs.PartLaws.{whole_is, fraction_is, digits_exponent}
-use Rattle.refal_real.specs.declared.Power.{Power}
-use Rattle.refal_real.specs.declared.digits.Digits.{Digits}
+use Rattle.refal_real.specs.Inner as P
+use Rattle.refal_real.specs.Inner.{Scale, By, Over}
 use Rattle.refal_real.specs.declared.places.Places.{Places}
-use Rattle.refal_real.specs.declared.places.Spelled.{Spelled}
-use Rattle.refal_real.specs.declared.places.Spelled.TheVariants as P
-use Rattle.refal_real.specs.declared.exponent.Scale.TheVariants.{By, Over}
 
--- ---- signs and power
-pub scaled_none : (some minus : Bool) (u d : ℕ) → not some ≡ true → record { minus = false; down = false; power = 0 } ≡ scaled_of some minus u d
-scaled_none some minus u d e = rw (not-true some e) refl
+-- ---- an exponent's sign and magnitude
+pub exponent_none : (s : Scale) → None ≡ exponent_of s → Over ≡ s
+exponent_none (By down by) e = let z : ◌≡◌ {A = ℕ} 0 1 = cc in absurd (omega arith)
+exponent_none Over e = refl
 
-pub scaled_down : (some minus : Bool) (u d : ℕ) → not some ≡ false → u < d → record { minus = minus; down = true; power = d - u } ≡ scaled_of some minus u d
-scaled_down some minus u d e h =
-    let z : (u - d) + (d - u) ≡ d - u = omega arith in
-    rw (not-false some e, lt-ltb u d h, z) refl
+pub exponent_some : (s : Scale) (e : ℤ) → Some e ≡ exponent_of s → (down : Bool) × (by : ℕ) × (By down by ≡ s) × (e ≡ signed_power down by)
+exponent_some (By down by) e h = (down, by, refl, cc)
+exponent_some Over e h = let z : ◌≡◌ {A = ℕ} 0 1 = cc in absurd (omega arith)
 
-pub scaled_up : (some minus : Bool) (u d : ℕ) → not some ≡ false → d ≤ u → record { minus = minus; down = false; power = u - d } ≡ scaled_of some minus u d
-scaled_up some minus u d e h =
-    let z : (u - d) + (d - u) ≡ u - d = omega arith in
-    rw (not-false some e, le-ltb u d h, z) refl
+pub signed_abs : (down : Bool) (by : ℕ) → unsigned_abs (signed_power down by) ≡ by
+signed_abs true zero = refl
+signed_abs true (suc n) = refl
+signed_abs false by = refl
+
+-- by how much it raises and lowers the power
+raises : (down : Bool) (by : ℕ) → pick (int_lt (signed_power down by) (pos 0)) 0 (unsigned_abs (signed_power down by)) ≡ pick down 0 by
+raises true zero = refl
+raises true (suc n) = refl
+raises false by = rw (le-ltb by 0 (omega arith)) refl
+
+lowers : (down : Bool) (by : ℕ) → pick (int_lt (signed_power down by) (pos 0)) (unsigned_abs (signed_power down by)) 0 ≡ pick down by 0
+lowers true zero = refl
+lowers true (suc n) = refl
+lowers false by = rw (le-ltb by 0 (omega arith)) refl
+
+-- ---- a form, from its digits
+-- a power that is u less d, by its sign and magnitude
+power_is : (q : ℤ) (u d : ℕ) → q +ℤ pos d ≡ pos u → (int_lt q (pos 0) ≡ ltb u d) × (unsigned_abs q ≡ (u - d) + (d - u))
+power_is (pos a) u d e = let h : a + d ≡ u = omega (arith, ints) in rw (le-ltb u d (omega arith), le-ltb a 0 (omega arith)) (refl, omega arith)
+power_is (negsuc a) u d e = let h : u + (a + 1) ≡ d = omega (arith, ints) in rw (lt-ltb u d (omega arith)) (refl, omega arith)
+
+form_is : (m : Bool) (D : List ℕ) (q : ℤ) (u d : ℕ) → 0 < length D → q +ℤ pos d ≡ pos u → record { minus = m; digits = D; down = int_lt q (pos 0); power = unsigned_abs q } ≡ form m D u d
+form_is m [] q u d h e = absurd (omega arith)
+form_is m (b ∷ D) q u d h e = let k = power_is q u d e in rw (k.0, k.1) refl
+
+moved : (e q : ℤ) (z n : ℕ) → q ≡ (e +ℤ pos z) -ℤ pos n → q +ℤ pos (n + pick (int_lt e (pos 0)) (unsigned_abs e) 0) ≡ pos (pick (int_lt e (pos 0)) 0 (unsigned_abs e) + z)
+moved (pos a) q z n h = rw (le-ltb a 0 (omega arith)) (omega (arith, ints))
+moved (negsuc a) q z n h = omega (arith, ints)
+
+pub all_short : (t : List ℕ) (p : Places) → Located t p → length (whole_at t p ++ fraction_in t p) ≤ 33554432
+all_short t p L = omega (arith, L.short, L.to, L.whole, length-append (whole_at t p) (fraction_in t p), length-slice p.from p.whole t (omega (arith, L.whole, L.to)), length-slice (min (p.whole + 1) p.to) p.to t L.to)
+
+pub fraction_short : (t : List ℕ) (p : Places) → Located t p → length (fraction_in t p) ≤ 16777216
+fraction_short t p L = omega (arith, L.short, L.to, length-slice (min (p.whole + 1) p.to) p.to t L.to)
+
+-- A: the digits, whole and fraction; D: those that the form keeps
+module _ (t : List ℕ) (p : Places) (e : ℤ) (A D : List ℕ) (a : A ≡ whole_at t p ++ fraction_in t p) (d : D ≡ less (trim A)) where
+  pub found_none : length D ≡ 0 → record { minus = false; digits = D; down = false; power = 0 } ≡ form_by t p (int_lt e (pos 0)) (unsigned_abs e)
+  found_none h = none D h (d ∙ ap (λ (x : List ℕ). less (trim x)) a)
+    where
+      none : (D : List ℕ) → length D ≡ 0 → D ≡ less (trim (whole_at t p ++ fraction_in t p)) → record { minus = false; digits = D; down = false; power = 0 } ≡ form_by t p (int_lt e (pos 0)) (unsigned_abs e)
+      none [] h q = rw (← q) refl
+      none (b ∷ D) h q = absurd (omega arith)
+
+  pub found_some : (m : Bool) (q : ℤ) (n : ℕ) → 0 < length D → m ≡ eqb (get_or t 0 0) 45 → n ≡ length (fraction_in t p) → q ≡ (e +ℤ pos (length A - length (trim A))) -ℤ pos n
+      → record { minus = m; digits = D; down = int_lt q (pos 0); power = unsigned_abs q } ≡ form_by t p (int_lt e (pos 0)) (unsigned_abs e)
+  found_some m q n h em en eq =
+      form_is m D q _ _ h (moved e q (length A - length (trim A)) n eq)
+      ∙ ap₂ (λ (x : Bool) (y : List ℕ). form x y (pick (int_lt e (pos 0)) 0 (unsigned_abs e) + (length A - length (trim A))) (n + pick (int_lt e (pos 0)) (unsigned_abs e) 0)) em (d ∙ ap (λ (x : List ℕ). less (trim x)) a)
+      ∙ ap₂ (λ (x : List ℕ) (k : ℕ). form (eqb (get_or t 0 0) 45) (less (trim (whole_at t p ++ fraction_in t p))) (pick (int_lt e (pos 0)) 0 (unsigned_abs e) + (length x - length (trim x))) (k + pick (int_lt e (pos 0)) (unsigned_abs e) 0)) a en
 
 -- ---- what is spelled
-pub located : (t : List ℕ) (r : Spelled) (p : Places) → r ≡ P.Real p → Stands t r → Located t p
-located t r p e s = subst (Stands t) e s
-
 no_real : (t : List ℕ) (x : Bool) (q : Places) → P.Other ≡ pick x (P.Real q) P.Other → x ≡ false
 no_real t true q e = let z : ◌≡◌ {A = ℕ} 0 1 = cc in absurd (omega arith)
 no_real t false q e = refl
@@ -53,32 +90,6 @@ refused_64 t e = rw (no_real t (is_real t) (places_of t) e) refl
 is_real_lem : (x : Bool) (p q : Places) → P.Real p ≡ pick x (P.Real q) P.Other → (x ≡ true) × (p ≡ q)
 is_real_lem true p q e = (refl, cc)
 is_real_lem false p q e = let z : ◌≡◌ {A = ℕ} 0 1 = cc in absurd (omega arith)
-
--- ---- a form, from its digits
-shape : (m some : Bool) (u v : ℕ) (D : List ℕ) → some ≡ ltb 0 (length D)
-    → record { minus = (scaled_of some m u v).minus; digits = D; down = (scaled_of some m u v).down; power = (scaled_of some m u v).power } ≡ form m D u v
-shape m some u v [] q = rw q refl
-shape m some u v (x ∷ D) q = rw (q, lt-ltb 0 (length (x ∷ D)) (omega arith)) refl
-
-pub kept_at : (t : List ℕ) (p : Places) (f : ℕ) (d : Digits) → f ≡ min (p.whole + 1) p.to → Kept t p.from p.whole f p.to d
-    → Kept t p.from p.whole (min (p.whole + 1) p.to) p.to d
-kept_at t p f d e K = rw e at K
-
-module _ (t : List ℕ) (p : Places) (down : Bool) (by : ℕ) (L : Located t p) (d : Digits) (K : Kept t p.from p.whole (min (p.whole + 1) p.to) p.to d) where
-  pub within : Within t d
-  within = let l = L.to in let m = L.whole in let a = K.last in let b = K.end in record { short = L.short; first = K.first; last = omega arith; next = K.next; end = omega arith }
-
-  pub form_is : (m some : Bool) (u v n : ℕ) (s : Power) → s ≡ scaled_of some m u v → m ≡ eqb (get_or t 0 0) 45 → some ≡ ltb 0 n → n ≡ (d.last - d.first) + (d.end - d.next)
-      → u ≡ pick down 0 by + ((p.whole - d.last) + (p.to - d.end)) → v ≡ (p.to - min (p.whole + 1) p.to) + pick down by 0
-      → record { minus = s.minus; digits = digits_at t d; down = s.down; power = s.power } ≡ form_by t p down by
-  form_is m some u v n s e em es en eu ev =
-      let l : length (fraction_in t p) ≡ p.to - min (p.whole + 1) p.to = length-slice (min (p.whole + 1) p.to) p.to t L.to in
-      let u' : u ≡ pick down 0 by + trailing (whole_at t p ++ fraction_in t p) = eu ∙ ap (λ (x : ℕ). pick down 0 by + x) K.zeros in
-      let v' : v ≡ length (fraction_in t p) + pick down by 0 = ev ∙ ap (λ (x : ℕ). x + pick down by 0) (sym l) in
-      ap (λ (x : Power). record { minus = x.minus; digits = digits_at t d; down = x.down; power = x.power }) e
-      ∙ shape m some u v (digits_at t d) (es ∙ ap (λ (x : ℕ). ltb 0 x) (en ∙ sym (count_is t d within)))
-      ∙ ap₂ (λ (x : Bool) (y : List ℕ). form x y u v) em K.digits
-      ∙ ap₂ (λ (x y : ℕ). form (eqb (get_or t 0 0) 45) (less (trim (whole_at t p ++ fraction_in t p))) x y) u' v'
 
 -- ---- a real, whose parts stand at p
 module _ (t : List ℕ) (p : Places) (e : P.Real p ≡ spelled_of t) where
@@ -129,3 +140,9 @@ module _ (t : List ℕ) (p : Places) (e : P.Real p ≡ spelled_of t) where
         let b = by_is in
         ap has_form (ap₂ (λ (x : Bool) (y : ℕ). form_by t p x y) b.1 b.2 ∙ sym (ap normal parts_are))
         ∙ sym (rw (real, ap (λ (q : Parts). leb (length (less q.exponent)) 9) parts_are ∙ b.0) refl)
+
+    -- its form by the exponent as one number
+    pub form_signed : (e : ℤ) → e ≡ signed_power down by → form_by t p (int_lt e (pos 0)) (unsigned_abs e) ≡ form_by t p down by
+    form_signed e h =
+        ap (λ (x : ℤ). form_by t p (int_lt x (pos 0)) (unsigned_abs x)) h
+        ∙ ap₂ (λ (x y : ℕ). form (eqb (get_or t 0 0) 45) (less (trim (whole_at t p ++ fraction_in t p))) (x + trailing (whole_at t p ++ fraction_in t p)) (length (fraction_in t p) + y)) (raises down by) (lowers down by)

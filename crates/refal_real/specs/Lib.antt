@@ -1,5 +1,6 @@
 -- Definitions: Parts (of a real's text), Value, Form, Real (what is answered), Written (a form written out). What is proved of them: Statements; the
--- proof: Theorems. Found and Kept: what the inner functions answer.
+-- proof: Theorems. Inner and Found: what the inner functions answer. Told: what the code's
+-- values tell.
 -- Laws of digits as numbers: Tens; of values and forms: Same. Of the loops: Kept, Loops. Of the lexer's scans and the parts: PlacesLaws, PartLaws.
 -- Of the answers: FoundLaws, AnswerLaws. Of reading: Alone. Telling cases: Cases.
 pub mod Parts
@@ -10,7 +11,9 @@ pub mod Tens
 pub mod Same
 pub mod Kept
 pub mod Loops
+pub mod Inner
 pub mod Found
+pub mod Told
 pub mod Written
 pub mod Statements
 pub mod PlacesLaws

@@ -1,8 +1,8 @@
 -- Laws of a text's parts, by the places where the lexer's scans end.
-use Rattle.std.specs.Prelude.{ℕ, zero, suc, ◌+◌, ◌-◌, ◌≤◌, ◌<◌, min, Bool, true, false, List, [], ◌∷◌, ◌≡◌, refl, eqb, length, take, drop, get_or}
+use Rattle.std.specs.Prelude.{ℕ, zero, suc, ◌+◌, ◌≤◌, ◌<◌, min, Bool, true, false, List, [], ◌∷◌, ◌≡◌, refl, eqb, length, take, drop, get_or}
 use Rattle.std.proofs.Common.{ap, ap₂, sym, ◌∙◌, arith, zero-add, add-zero, suc-add, add-one, le-leb, drop_of_length-le, drop-cons, drop-drop}
 use Rattle.std.proofs.lemmas.Bool.{lt-leb}
-use Rattle.std.proofs.Math.Seq.{slice, slice_empty, length-slice}
+use Rattle.std.proofs.Math.Seq.{slice, slice_empty}
 use Rattle.refal_text.specs.Pick.{pick}
 use Rattle.refal_text.specs.Span.{span}
 use Rattle.refal_lexer.specs.Classes.{digit}
@@ -15,7 +15,7 @@ use Rattle.refal_real.specs.Tens.{Digits, num_less, digits_less}
 use Rattle.refal_real.specs.Written.{digits_run}
 use Rattle.refal_real.specs.Found.{from_of, whole_of, scale_of}
 use Rattle.refal_real.specs.PlacesLaws.{first_drop}
-use Rattle.refal_real.specs.declared.exponent.Scale.TheVariants.{By, Over}
+use Rattle.refal_real.specs.Inner.{By, Over}
 
 -- ---- digits from a place on
 take_drop : (f k : ℕ) (t : List ℕ) → take k (drop f t) ≡ slice f (f + k) t
@@ -105,19 +105,19 @@ digits_exponent s = go (eqb (first s) 69)
     go true = digits_run (unsigned (drop 1 s))
     go false = tt
 
--- its digits, leading zeros aside, from `start` up to the text's end
-module _ (t : List ℕ) (at from : ℕ) (E : Exponent t at from) (start : ℕ) (z : slice start (length t) t ≡ less (slice from (length t) t)) where
-  few : length (less (exponent_digits (drop at t))) ≡ length t - start
-  few = sym (ap length (z ∙ ap less E.digits)) ∙ length-slice start (length t) t (omega arith)
+-- its digits, leading zeros aside, are s
+module _ (t : List ℕ) (at from : ℕ) (E : Exponent t at from) (s : List ℕ) (z : s ≡ less (slice from (length t) t)) where
+  digits_are : s ≡ less (exponent_digits (drop at t))
+  digits_are = z ∙ ap less E.digits
 
-  pub scale_over : 9 < length t - start → Over ≡ scale_of (down_at (drop at t)) (exponent_digits (drop at t))
-  scale_over h = let f = few in rw (lt-leb (length (less (exponent_digits (drop at t)))) 9 (omega arith)) refl
+  pub scale_over : 9 < length s → Over ≡ scale_of (down_at (drop at t)) (exponent_digits (drop at t))
+  scale_over h = let l = ap length digits_are in rw (lt-leb (length (less (exponent_digits (drop at t)))) 9 (omega arith)) refl
 
-  pub scale_by : (by : ℕ) (down : Bool) → length t - start ≤ 9 → by ≡ num (slice start (length t) t) → down ≡ eqb (get_or t (at + 1) 0) 45 → By down by ≡ scale_of (down_at (drop at t)) (exponent_digits (drop at t))
+  pub scale_by : (by : ℕ) (down : Bool) → length s ≤ 9 → by ≡ num s → down ≡ eqb (get_or t (at + 1) 0) 45 → By down by ≡ scale_of (down_at (drop at t)) (exponent_digits (drop at t))
   scale_by by down h e d =
-      let f = few in
-      let n : by ≡ num (exponent_digits (drop at t)) = e ∙ ap num (z ∙ ap less E.digits) ∙ num_less (exponent_digits (drop at t)) in
+      let l = ap length digits_are in
+      let n : by ≡ num (exponent_digits (drop at t)) = e ∙ ap num digits_are ∙ num_less (exponent_digits (drop at t)) in
       rw (le-leb (length (less (exponent_digits (drop at t)))) 9 (omega arith)) (ap₂ By (d ∙ sym E.down) n)
 
-  pub scale_digits : Digits (slice start (length t) t)
-  scale_digits = rw (z, E.digits) (digits_less (exponent_digits (drop at t)) (digits_exponent (drop at t)))
+  pub scale_digits : Digits s
+  scale_digits = rw digits_are (digits_less (exponent_digits (drop at t)) (digits_exponent (drop at t)))

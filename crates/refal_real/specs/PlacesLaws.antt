@@ -1,17 +1,20 @@
 -- Laws of the places of a real's parts: by the lexer's scans, what is a real, and what its parts are.
-use Rattle.std.specs.Prelude.{ℕ, zero, suc, ◌+◌, ◌≤◌, ◌<◌, Bool, true, false, ◌&&◌, ◌||◌, List, [], ◌∷◌, ◌≡◌, refl, eqb, leb, length, drop, get_or}
+use Rattle.std.specs.Prelude.{ℕ, zero, suc, ◌+◌, ◌≤◌, ◌<◌, Bool, true, false, ◌&&◌, ◌||◌, List, [], ◌∷◌, ◌≡◌, refl, eqb, leb, length, drop, get_or, Some, None, Result, Ok, Err}
+use Rattle.std.specs.Result.{result_ok}
 use Rattle.std.proofs.Math.Bool.{and-false}
 use Rattle.std.proofs.Common.{ap, sym, ◌∙◌, arith, zero-add, add-zero, eqb-true, eq-eqb, ne_eqb, le-leb, leb-true, get_or-drop}
-use Rattle.std.proofs.lemmas.Bool.{eqb-false, lt-leb}
+use Rattle.std.proofs.lemmas.Bool.{eqb-false}
 use Rattle.refal_rows.specs.Tests.{and_left, and_right}
 use Rattle.refal_text.specs.Pick.{pick}
 use Rattle.refal_text.specs.Span.{span}
 use Rattle.refal_ast.specs.Kinds.{tok_number}
 use Rattle.refal_ast.specs.Limits.{most_bytes}
 use Rattle.refal_lexer.specs.Classes.{digit}
-use Rattle.refal_lexer.specs.Numbers.{sign_bytes, part, point_at, exponent_at, digits_end, whole_scan, number_scan}
+use Rattle.refal_lexer.specs.Numbers.{sign_bytes, ends, part, point_at, exponent_at, digits_end, whole_scan, number_scan}
 use Rattle.refal_lexer.specs.BlankLaws.{nonzero_in}
 use Rattle.refal_lexer.specs.NumberLaws.{worth, number_point, number_e, number_whole, number_real}
+use Rattle.refal_lexer.specs.Told.{part_told}
+use Rattle.refal_lexer.specs.declared.number.Bare.{Bare}
 use Rattle.refal_lexer.specs.declared.number.Part.{Part}
 use Rattle.refal_lexer.specs.declared.Scan.{Scan}
 use Rattle.refal_lexer.specs.declared.Scan.TheVariants.{Bad}
@@ -21,11 +24,20 @@ use Rattle.refal_spelling.specs.WordLaws.{digit_first, sign_first, no_sign, no_d
 use Rattle.refal_real.specs.Parts.{first}
 use Rattle.refal_real.specs.Real.{marked, is_real}
 use Rattle.refal_real.specs.Found.{from_of, whole_of, to_of, spelled_of}
-use Rattle.refal_real.specs.declared.places.Spelled.TheVariants as P
+use Rattle.refal_real.specs.Inner as P
 
 -- a number's digits start behind its sign, by where that ends
 pub starts_at : (t : List ℕ) (from : ℕ) → from ≡ 0 + sign_bytes true (drop 0 t) → from ≡ from_of t
 starts_at t from e = e ∙ zero-add (sign_bytes true t)
+
+-- ---- a part that the lexer scans
+pub part_ok : (r : Result ℕ Bare) (x : ℕ) → result_ok r ≡ Some x → part_told r ≡ ends x false
+part_ok (Ok y) x e = let h : y ≡ x = cc in ap (λ (i : ℕ). ends i false) h
+part_ok (Err b) x e = let z : ◌≡◌ {A = ℕ} 0 1 = cc in absurd (omega arith)
+
+pub part_err : (r : Result ℕ Bare) → result_ok r ≡ None → (part_told r).bare ≡ true
+part_err (Ok y) e = let z : ◌≡◌ {A = ℕ} 0 1 = cc in absurd (omega arith)
+part_err (Err b) e = refl
 
 -- ---- what the answer turns on
 other : (t : List ℕ) → is_real t ≡ false → P.Other ≡ spelled_of t
@@ -33,9 +45,6 @@ other t e = rw e refl
 
 not_number : (t : List ℕ) → spells tok_number t ≡ false → P.Other ≡ spelled_of t
 not_number t e = other t (ap (λ (x : Bool). (x && leb (length t) most_bytes) && marked t) e)
-
-pub too_long : (t : List ℕ) → most_bytes < length t → P.Other ≡ spelled_of t
-too_long t h = other t (ap (λ (x : Bool). (spells tok_number t && x) && marked t) (lt-leb (length t) most_bytes h) ∙ ap (λ (x : Bool). x && marked t) (and-false (spells tok_number t)))
 
 -- ---- digits at the front
 some_digit : (s : List ℕ) → 0 < span digit s → digit (first s) ≡ true

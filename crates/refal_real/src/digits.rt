@@ -1,136 +1,99 @@
-// The digits that a form keeps: all but the zeros at both ends.
-ghost use Rattle.std.specs.Prelude.{◌≡◌, ◌++◌, ◌+◌, ◌-◌, ◌≤◌, ◌<◌, length, drop, get_or};
-ghost use Rattle.std.proofs.Math.Seq.{slice};
-ghost use Rattle.refal_ast.specs.Names.{same_list};
+// The digits of a real, before and behind its point.
+ghost use Rattle.std.specs.Prelude.{◌≡◌, ◌++◌, ◌≤◌, eqb, length, drop};
+ghost use Rattle.std.specs.Str.{bytes_eq};
+ghost use Rattle.std.specs.Ordering.{on};
+ghost use Rattle.std.specs.Cmp.{partial_equiv_from_equiv, on_per};
+ghost use Rattle.std.specs.Cmp.Lexicographic.{nat_list_eq_equiv};
 ghost use Rattle.refal_real.specs.Form.{less, trim};
-ghost use Rattle.refal_real.specs.Kept.{Within, digits_at, Kept};
+ghost use Rattle.refal_real.specs.Told.{digits_told};
 
-// Those of the text from `first` up to `last`, and then those from `next` up to `end`.
+// Digits less the zeros that lead them.
+pub fn trim_start(mut digits: &[u8]) -> &[u8]
+    ensures { result.now ≡ less digits.entry.now }
+{
+    while let [b'0', rest @ ..] = digits {
+        digits = rest;
+    }
+    digits
+}
+
+// Digits less the zeros that trail them.
+fn trim_end(mut digits: &[u8]) -> &[u8]
+    ensures { result.now ≡ trim digits.entry.now }
+{
+    while let [rest @ .., b'0'] = digits {
+        digits = rest;
+    }
+    digits
+}
+
+// Digits of a text, in two runs: those before the point and those behind it.
 #[derive(Clone, Copy)]
-pub struct Digits {
-    pub first: usize,
-    pub last: usize,
-    pub next: usize,
-    pub end: usize,
+pub struct Digits<'a> {
+    pub whole: &'a [u8],
+    pub fraction: &'a [u8],
 }
 
-// Where the zeros from `from` on end, at `to` at the latest.
-pub fn zeros_end(text: &[u8], from: usize, to: usize) -> usize
-    requires { (from ≤ to) × (to ≤ length text.now) }
-    ensures { (slice result to text.now ≡ less (slice from to text.now)) × (from ≤ result) × (result ≤ to) }
-{
-    let mut i = from;
-    while i < to {
-        if text[i] != 48 {
-            return i;
+impl<'a> Digits<'a> {
+    // How many.
+    pub fn len(self) -> usize
+        ensures { result ≡ length (digits_told self.entry) }
+    {
+        self.whole.len() + self.fraction.len()
+    }
+
+    pub fn is_empty(self) -> bool
+        ensures { result ≡ eqb (length (digits_told self.entry)) 0 }
+    {
+        self.len() == 0
+    }
+
+    // All but the zeros that lead.
+    pub fn trim_start(self) -> Digits<'a>
+        ensures { digits_told result ≡ less (digits_told self.entry) }
+    {
+        let whole = trim_start(self.whole);
+        if whole.is_empty() {
+            let fraction = trim_start(self.fraction);
+            return Digits { whole, fraction };
         }
-        i += 1;
+        Digits { whole, ..self }
     }
-    i
-}
 
-// Where the zeros up to `to` begin, at `from` at the earliest.
-pub fn zeros_start(text: &[u8], from: usize, to: usize) -> usize
-    requires { (from ≤ to) × (to ≤ length text.now) }
-    ensures { (slice from result text.now ≡ trim (slice from to text.now)) × (from ≤ result) × (result ≤ to) }
-{
-    let mut i = to;
-    while from < i {
-        let last = i - 1;
-        if text[last] != 48 {
-            return i;
+    // All but the zeros that trail.
+    pub fn trim_end(self) -> Digits<'a>
+        ensures { digits_told result ≡ trim (digits_told self.entry) }
+    {
+        let fraction = trim_end(self.fraction);
+        if fraction.is_empty() {
+            let whole = trim_end(self.whole);
+            return Digits { whole, fraction };
         }
-        i = last;
+        Digits { fraction, ..self }
     }
-    i
-}
 
-// Of the digits from `from` up to `whole`, and then from `fraction` up to `to`.
-pub fn kept(text: &[u8], from: usize, whole: usize, fraction: usize, to: usize) -> Digits
-    requires { (from ≤ whole) × (whole ≤ length text.now) × (fraction ≤ to) × (to ≤ length text.now) }
-    ensures { Kept text.now from whole fraction to result }
-{
-    let end = zeros_start(text, fraction, to);
-    if fraction < end {
-        let first = zeros_end(text, from, whole);
-        if first < whole {
-            return Digits {
-                first,
-                last: whole,
-                next: fraction,
-                end,
-            };
-        }
-        let next = zeros_end(text, fraction, end);
-        return Digits {
-            first,
-            last: whole,
-            next,
-            end,
-        };
-    }
-    let last = zeros_start(text, from, whole);
-    let first = zeros_end(text, from, last);
-    Digits {
-        first,
-        last,
-        next: end,
-        end,
+    // All of them, to the front of out.
+    pub fn put(self, out: &mut [u8])
+        requires { length (digits_told self) ≤ length out.old }
+        ensures { out.new ≡ digits_told self.entry ++ drop (length (digits_told self.entry)) out.old }
+    {
+        let point = self.whole.len();
+        let end = self.len();
+        out[..point].copy_from_slice(self.whole);
+        out[point..end].copy_from_slice(self.fraction);
     }
 }
 
-pub fn count(d: Digits) -> usize
-    requires { (d.first ≤ d.last) × (d.last ≤ 16777216) × (d.next ≤ d.end) × (d.end ≤ 16777216) }
-    ensures { result ≡ (d.last - d.first) + (d.end - d.next) }
-{
-    (d.last - d.first) + (d.end - d.next)
-}
+// The same digits, wherever the points stand.
+impl PartialEq for Digits<'_> {
+    ghost eq = { on digits_told bytes_eq };
 
-// The digit k.
-fn digit_at(text: &[u8], d: Digits, k: usize) -> u8
-    requires { Within text.now d × (k < length (digits_at text.now d)) }
-    ensures { result ≡ get_or (digits_at text.now d) k 0 }
-{
-    let first = d.first;
-    let n = d.last - first;
-    if k < n {
-        return text[first + k];
-    }
-    let next = d.next;
-    text[next + (k - n)]
-}
+    ghost laws = { on_per digits_told (partial_equiv_from_equiv nat_list_eq_equiv) };
 
-// All of them, to the front of out.
-pub fn put(text: &[u8], d: Digits, out: &mut [u8])
-    requires { Within text.now d × (length (digits_at text.now d) ≤ length out.old) }
-    ensures { out.new ≡ digits_at text.now d ++ drop (length (digits_at text.now d)) out.old }
-{
-    let n = count(d);
-    let mut i = 0;
-    while i < n {
-        out[i] = digit_at(text, d, i);
-        i += 1;
+    fn eq(&self, other: &Self) -> bool {
+        self.whole
+            .iter()
+            .chain(self.fraction)
+            .eq(other.whole.iter().chain(other.fraction))
     }
-}
-
-// Whether those of two texts are the same.
-pub fn same(a: &[u8], d: Digits, b: &[u8], e: Digits) -> bool
-    requires { Within a.now d × Within b.now e }
-    ensures { result ≡ same_list (digits_at a.now d) (digits_at b.now e) }
-{
-    let n = count(d);
-    let m = count(e);
-    if n != m {
-        return false;
-    }
-    let mut i = 0;
-    while i < n {
-        let x = digit_at(a, d, i);
-        let y = digit_at(b, e, i);
-        if x != y {
-            return false;
-        }
-        i += 1;
-    }
-    true
 }

@@ -1,59 +1,44 @@
 // An exponent: its sign and its value.
-ghost use Rattle.std.specs.Prelude.{◌≡◌, ◌+◌, ◌≤◌, length, drop};
-ghost use Rattle.std.proofs.Math.Seq.{slice};
+ghost use Rattle.std.specs.Prelude.{◌≡◌, ◌≤◌, length, drop};
 ghost use Rattle.refal_lexer.specs.Numbers.{exponent_at};
 ghost use Rattle.refal_real.specs.Parts.{down_at, exponent_digits};
 ghost use Rattle.refal_real.specs.Value.{num};
 ghost use Rattle.refal_real.specs.Tens.{Digits};
 ghost use Rattle.refal_real.specs.Found.{scale_of};
+ghost use Rattle.refal_real.specs.Told.{exponent_of};
 
-use crate::digits::zeros_end;
+use crate::digits::trim_start;
 use crate::places::past_sign;
 
-// Whether a power of ten goes down, and by how much it goes; or that the digits, leading zeros aside, are more than 9.
-#[derive(Clone, Copy)]
-pub enum Scale {
-    By(bool, usize),
-    Over,
-}
+// How many digits an exponent has at most, leading zeros aside.
+const MOST_DIGITS: usize = 9;
 
-fn wide(b: u8) -> usize
-    ensures { result ≡ b }
+// The number that digits make.
+fn number(digits: &[u8]) -> u32
+    requires { (length digits.now ≤ 9) × Digits digits.now }
+    ensures { result ≡ num digits.now }
 {
-    b as usize
-}
-
-// The number that digits make, 9 of them at most.
-fn number(text: &[u8], from: usize, to: usize) -> usize
-    requires { (from ≤ to) × (to ≤ length text.now) × (to ≤ from + 9) × Digits (slice from to text.now) }
-    ensures { result ≡ num (slice from to text.now) }
-{
-    let mut v = 0;
-    let mut i = from;
-    while i < to {
-        let digit = wide(text[i] - 48);
-        v = 10 * v + digit;
-        i += 1;
+    let mut value = 0;
+    for &digit in digits {
+        value = 10 * value + u32::from(digit - b'0');
     }
-    v
+    value
 }
 
-// What stands at `at`, an exponent that goes to the text's end, or nothing.
-pub fn exponent_at(text: &[u8], at: usize) -> Scale
+// What stands at `at`, an exponent that goes to the text's end, or nothing; none where its digits are too many.
+pub fn exponent_at(text: &[u8], at: usize) -> Option<i64>
     requires { (at ≤ length text.now) × ((exponent_at at text.now).end ≡ length text.now) }
-    ensures { result ≡ scale_of (down_at (drop at text.now)) (exponent_digits (drop at text.now)) }
+    ensures { result ≡ exponent_of (scale_of (down_at (drop at text.now)) (exponent_digits (drop at text.now))) }
 {
-    let end = text.len();
-    if at == end {
-        return Scale::By(false, 0);
+    if at == text.len() {
+        return Some(0);
     }
     let mark = at + 1;
-    let from = past_sign(text, mark);
-    let first = zeros_end(text, from, end);
-    if 9 < end - first {
-        return Scale::Over;
+    let digits = trim_start(&text[past_sign(text, mark)..]);
+    if digits.len() > MOST_DIGITS {
+        return None;
     }
-    let by = number(text, first, end);
-    let down = refal_text::byte(text, mark) == 45;
-    Scale::By(down, by)
+    let by = i64::from(number(digits));
+    let down = refal_text::byte(text, mark) == b'-';
+    Some(if down { -by } else { by })
 }

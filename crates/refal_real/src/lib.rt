@@ -5,160 +5,92 @@ mod digits;
 mod exponent;
 mod places;
 
-ghost use Rattle.std.specs.Prelude.{◌≡◌, ◌+◌, ◌-◌, ◌≤◌, ◌<◌, length, replicate};
-ghost use Rattle.refal_text.specs.Pick.{pick};
-ghost use Rattle.refal_real.specs.Real.{bit, refused_by, no_words, outcome, real_answer, real_digits, real_form, reals_equal};
-ghost use Rattle.refal_real.specs.Found.{Located, scaled_of, form_at, form_by, outcome_of, Inside};
-ghost use Rattle.refal_real.specs.Kept.{Within};
+ghost use Rattle.std.specs.Prelude.{◌≡◌, ◌<◌, length, pos, int_lt, unsigned_abs};
+ghost use Rattle.refal_ast.specs.Told.{told};
+ghost use Rattle.refal_real.specs.Real.{outcome, real_answer, real_digits, real_form, reals_equal};
+ghost use Rattle.refal_real.specs.Found.{Located, form_by};
+ghost use Rattle.refal_real.specs.Told.{form_told, outcome_told, Fits};
 
 use crate::digits::Digits;
-use crate::exponent::Scale;
-use crate::places::{Places, Spelled};
-use refal_ast::{Answer, Refusal};
-use refal_rows::least;
+use crate::places::Places;
+use refal_ast::answers::{Reason, Refusal};
 
-// A form's signs and power.
-#[derive(Clone, Copy)]
-struct Power {
+// A form: its sign, its power of ten and its digits.
+#[derive(Clone, Copy, PartialEq)]
+struct Form<'a> {
     minus: bool,
-    down: bool,
-    power: usize,
+    power: i64,
+    digits: Digits<'a>,
 }
 
-// A form: its signs and power, and where its digits stand in the text.
-#[derive(Clone, Copy)]
-struct Form {
-    minus: bool,
-    down: bool,
-    power: usize,
-    digits: Digits,
-}
-
-#[derive(Clone, Copy)]
-enum Parsed {
-    Refused(u32),
-    Real(Form),
-}
-
-// By how much the power is raised, and by how much it is lowered.
-fn raised(down: bool, by: usize, zeros: usize) -> usize
-    requires { (by < 1000000000) × (zeros ≤ 33554432) }
-    ensures { result ≡ pick down 0 by + zeros }
+// The form of a real whose parts stand at p. Zero has plus and power 0.
+fn found(text: &[u8], p: Places, exponent: i64) -> Form<'_>
+    requires { Located text.now p × (unsigned_abs exponent < 1000000000) }
+    ensures { form_told result ≡ form_by text.now p (int_lt exponent (pos 0)) (unsigned_abs exponent) }
 {
-    if down { zeros } else { by + zeros }
-}
-
-fn lowered(down: bool, by: usize, fraction: usize) -> usize
-    requires { (by < 1000000000) × (fraction ≤ 16777216) }
-    ensures { result ≡ fraction + pick down by 0 }
-{
-    if down { fraction + by } else { fraction }
-}
-
-// Signs and power, by whether there are digits: zero has plus and power 0.
-fn scaled(some: bool, minus: bool, up: usize, low: usize) -> Power
-    ensures { result ≡ scaled_of some minus up low }
-{
-    if !some {
-        return Power {
+    let all = Digits {
+        whole: &text[p.from..p.whole],
+        fraction: &text[(p.whole + 1).min(p.to)..p.to],
+    };
+    let trimmed = all.trim_end();
+    let digits = trimmed.trim_start();
+    if digits.is_empty() {
+        return Form {
             minus: false,
-            down: false,
             power: 0,
+            digits,
         };
     }
-    if up < low {
-        let power = low - up;
-        return Power {
-            minus,
-            down: true,
-            power,
-        };
-    }
-    let power = up - low;
-    Power {
-        minus,
-        down: false,
-        power,
-    }
-}
-
-// The form of a real whose parts stand at p, and whose exponent goes down, or up, by so much.
-fn found(text: &[u8], p: Places, down: bool, by: usize) -> Form
-    requires { Located text.now p × (by < 1000000000) }
-    ensures { (form_at text.now result ≡ form_by text.now p down by) × Within text.now result.digits }
-{
-    let whole = p.whole;
-    let to = p.to;
-    let fraction = least(whole + 1, to);
-    let d = digits::kept(text, p.from, whole, fraction, to);
-    let zeros = (whole - d.last) + (to - d.end);
-    let up = raised(down, by, zeros);
-    let low = lowered(down, by, to - fraction);
-    let some = 0 < digits::count(d);
-    let minus = refal_text::byte(text, 0) == 45;
-    let s = scaled(some, minus, up, low);
+    let zeros = all.len() - trimmed.len();
+    let power = exponent + zeros as i64 - all.fraction.len() as i64;
     Form {
-        minus: s.minus,
-        down: s.down,
-        power: s.power,
-        digits: d,
+        minus: refal_text::byte(text, 0) == b'-',
+        power,
+        digits,
     }
 }
 
-// A text's form, or 64 or 65.
-fn parse(text: &[u8]) -> Parsed
-    ensures { (outcome_of text.now result ≡ outcome text.now) × Inside text.now result }
+// A text's form.
+fn parse(text: &[u8]) -> Result<Form<'_>, Reason>
+    ensures { outcome_told result ≡ outcome text.now }
 {
-    let Spelled::Real(p) = places::locate(text) else {
-        return Parsed::Refused(64);
-    };
-    let Scale::By(down, by) = exponent::exponent_at(text, p.to) else {
-        return Parsed::Refused(65);
-    };
-    Parsed::Real(found(text, p, down, by))
+    let p = places::locate(text).ok_or(Reason::NoReal)?;
+    let exponent = exponent::exponent_at(text, p.to).ok_or(Reason::ExponentTooLong)?;
+    Ok(found(text, p, exponent))
 }
 
-fn wide(b: bool) -> u64
-    ensures { result ≡ bit b }
+// A text's form, if its digits fit into so many bytes.
+fn fitting(text: &[u8], room: usize) -> Result<Form<'_>, Refusal>
+    ensures { Fits (outcome text.now) room result }
 {
-    if b { 1 } else { 0 }
-}
-
-// A refusal: all that was lent becomes 0.
-fn refuse(digits: &mut [u8], form: &mut [u64; 3], number: u32, need: usize) -> Answer
-    ensures answer { result ≡ refused_by number need }
-    ensures left { digits.new ≡ replicate (length digits.old) 0 }
-    ensures formed { form.new ≡ no_words }
-{
-    refal_rows::clear_bytes(digits);
-    *form = [0, 0, 0];
-    Answer::Refused(Refusal {
-        number,
-        expected: 0,
-        found: 0,
-        start: 0,
-        end: 0,
-        need,
-    })
+    let form = parse(text)?;
+    let need = form.digits.len();
+    if room < need {
+        return Err(Refusal::needing(Reason::DigitsShort, need));
+    }
+    Ok(form)
 }
 
 // The normal form of a real's text: its digits into the bytes lent, and its sign, its power's sign and magnitude.
-pub fn normal_form(text: &[u8], digits: &mut [u8], form: &mut [u64; 3]) -> Answer
-    ensures answer { result ≡ real_answer text.now (length digits.old) }
+pub fn normal_form(text: &[u8], digits: &mut [u8], form: &mut [u64; 3]) -> Result<usize, Refusal>
+    ensures answer { told result ≡ real_answer text.now (length digits.old) }
     ensures left { digits.new ≡ real_digits text.now digits.old }
     ensures formed { form.new ≡ real_form text.now (length digits.old) }
 {
-    match parse(text) {
-        Parsed::Refused(number) => refuse(digits, form, number, 0),
-        Parsed::Real(f) => {
-            let d = f.digits;
-            let n = digits::count(d);
-            if digits.len() < n {
-                return refuse(digits, form, 66, n);
-            }
-            digits::put(text, d, digits);
-            *form = [wide(f.minus), wide(f.down), f.power as u64];
-            Answer::Done(n)
+    match fitting(text, digits.len()) {
+        Ok(f) => {
+            f.digits.put(digits);
+            *form = [
+                u64::from(f.minus),
+                u64::from(f.power < 0),
+                f.power.unsigned_abs(),
+            ];
+            Ok(f.digits.len())
+        }
+        Err(refusal) => {
+            digits.fill(0);
+            *form = [0; 3];
+            Err(refusal)
         }
     }
 }
@@ -167,18 +99,8 @@ pub fn normal_form(text: &[u8], digits: &mut [u8], form: &mut [u64; 3]) -> Answe
 pub fn reals_equal(a: &[u8], b: &[u8]) -> bool
     ensures { result ≡ reals_equal a.now b.now }
 {
-    let Parsed::Real(f) = parse(a) else {
-        return false;
-    };
-    let Parsed::Real(g) = parse(b) else {
-        return false;
-    };
-    let signs = (f.minus == g.minus) & (f.down == g.down);
-    if !signs {
-        return false;
+    match (parse(a), parse(b)) {
+        (Ok(f), Ok(g)) => f == g,
+        _ => false,
     }
-    if f.power != g.power {
-        return false;
-    }
-    digits::same(a, f.digits, b, g.digits)
 }

@@ -1,26 +1,38 @@
 -- `refal_real::places::locate` meets its contract.
-use Rattle.std.proofs.Common.{arith, ◌≡◌, ap, sym, ◌∙◌, length}
+use Rattle.std.proofs.Common.{arith, ◌≡◌, refl, ap, sym, ◌∙◌, length, false}
+use Rattle.refal_lexer.specs.Numbers.{ends}
+use Rattle.refal_lexer.specs.Told.{part_told}
 use Rattle.refal_lexer.specs.declared.number.Part.{Part}
-use Rattle.refal_real.specs.PlacesLaws.{too_long, no_start, point_bare, e_bare, whole_alone, more_behind, a_real, starts_at}
+use Rattle.refal_real.specs.PlacesLaws.{no_start, point_bare, e_bare, whole_alone, more_behind, a_real, starts_at, part_ok, part_err}
 use Rattle.refal_real.proofs.places.locate.Goals as goal
-
-pub returns-then-n-gt-MOST_BYTES : goal.returns-then-n-gt-MOST_BYTES
-returns-then-n-gt-MOST_BYTES c = (too_long c.args.text.now (omega (arith, c.if-n-gt-MOST_BYTES.true)), tt)
+use Rattle.refal_real.proofs.places.locate.Goals.{then-end-whole-via-then-end-whole, then-end-whole-via-else-end-whole+then-end-text}
 
 pub returns-then-whole-from : goal.returns-then-whole-from
-returns-then-whole-from c = let t = c.args.text.now in let w = c.whole_end-d.ensures in (no_start t c.past_sign-from.result (starts_at t c.past_sign-from.result c.past_sign-from.ensures.0) (omega (arith, w.0, c.if-whole-from.true)), tt)
+returns-then-whole-from c = (no_start c.args.text.now c.past_sign-from.result (starts_at c.args.text.now c.past_sign-from.result c.past_sign-from.ensures.0) (omega (arith, c.digits-whole.ensures.end, c.if-whole-from.true)), tt)
 
-pub returns-then-p : goal.returns-then-p
-returns-then-p c = let t = c.args.text.now in let w = c.whole_end-d.ensures in (point_bare t c.past_sign-from.result c.whole_end-d.result.end c.point-p.result (starts_at t c.past_sign-from.result c.past_sign-from.ensures.0) (omega (arith, w.0, c.if-whole-from.false)) w.0 c.point-p.ensures.0 c.if-p.true, tt)
+pub returns-in_err-to : goal.returns-in_err-to
+returns-in_err-to c = rw c.from_residual.ensures (point_bare c.args.text.now c.past_sign-from.result c.digits-whole.result.end (part_told c.fraction.result) (starts_at c.args.text.now c.past_sign-from.result c.past_sign-from.ensures.0) (omega (arith, c.digits-whole.ensures.end, c.if-whole-from.false)) c.digits-whole.ensures.end c.fraction.ensures.part (part_err c.fraction.result (sym c.ok.ensures.value ∙ c.in_err-to.was)), tt)
 
-pub returns-then-e : goal.returns-then-e
-returns-then-e c = let t = c.args.text.now in let w = c.whole_end-d.ensures in (e_bare t c.past_sign-from.result c.whole_end-d.result.end c.point-p.result (starts_at t c.past_sign-from.result c.past_sign-from.ensures.0) (omega (arith, w.0, c.if-whole-from.false)) w.0 c.point-p.ensures.0 c.exponent-e.result c.if-p.false c.exponent-e.ensures.0 c.if-e.true, tt)
+pub returns-in_err-end : goal.returns-in_err-end
+returns-in_err-end c = rw c.from_residual-in_err-end.ensures (e_bare c.args.text.now c.past_sign-from.result c.digits-whole.result.end (ends c.in_ok-to.to false) (starts_at c.args.text.now c.past_sign-from.result c.past_sign-from.ensures.0) (omega (arith, c.digits-whole.ensures.end, c.if-whole-from.false)) c.digits-whole.ensures.end (sym (part_ok c.fraction.result c.in_ok-to.to (sym c.ok.ensures.value ∙ c.in_ok-to.was)) ∙ c.fraction.ensures.part) (part_told c.power.result) refl c.power.ensures.part (part_err c.power.result (sym c.ok-2.ensures.value ∙ c.in_err-end.was)), tt)
 
 pub returns-then-end-whole : goal.returns-then-end-whole
-returns-then-end-whole c = let t = c.args.text.now in let w = c.whole_end-d.ensures in (whole_alone t c.past_sign-from.result c.whole_end-d.result.end c.point-p.result (starts_at t c.past_sign-from.result c.past_sign-from.ensures.0) (omega (arith, w.0, c.if-whole-from.false)) w.0 c.point-p.ensures.0 c.exponent-e.result c.if-p.false c.exponent-e.ensures.0 c.if-e.false (let p = c.point-p.ensures in let e = c.exponent-e.ensures in omega (arith, w.0, c.if-whole-from.false, p.1, e.1, c.if-end-whole.true)), tt)
-
-pub returns-then-end-n : goal.returns-then-end-n
-returns-then-end-n c = let t = c.args.text.now in let w = c.whole_end-d.ensures in (more_behind t c.past_sign-from.result c.whole_end-d.result.end c.point-p.result (starts_at t c.past_sign-from.result c.past_sign-from.ensures.0) (omega (arith, w.0, c.if-whole-from.false)) w.0 c.point-p.ensures.0 c.exponent-e.result c.if-p.false c.exponent-e.ensures.0 c.if-e.false (λ q. omega (arith, q, c.if-end-whole.false)) (let p = c.point-p.ensures in let e = c.exponent-e.ensures in omega (arith, w.0, p.1, e.1, c.if-end-n.true)), tt)
+returns-then-end-whole c = elim c.then-end-whole.branch [
+  | then-end-whole-via-then-end-whole w ↦ (whole_alone c.args.text.now c.past_sign-from.result c.digits-whole.result.end (ends c.in_ok-to.to false) (starts_at c.args.text.now c.past_sign-from.result c.past_sign-from.ensures.0) (omega (arith, c.digits-whole.ensures.end, c.if-whole-from.false)) c.digits-whole.ensures.end (sym (part_ok c.fraction.result c.in_ok-to.to (sym c.ok.ensures.value ∙ c.in_ok-to.was)) ∙ c.fraction.ensures.part) (ends c.in_ok-end.end false) refl (sym (part_ok c.power.result c.in_ok-end.end (sym c.ok-2.ensures.value ∙ c.in_ok-end.was)) ∙ c.power.ensures.part) refl w.if-end-whole.true, tt)
+  | then-end-whole-via-else-end-whole+then-end-text w ↦ (more_behind c.args.text.now c.past_sign-from.result c.digits-whole.result.end (ends c.in_ok-to.to false) (starts_at c.args.text.now c.past_sign-from.result c.past_sign-from.ensures.0) (omega (arith, c.digits-whole.ensures.end, c.if-whole-from.false)) c.digits-whole.ensures.end (sym (part_ok c.fraction.result c.in_ok-to.to (sym c.ok.ensures.value ∙ c.in_ok-to.was)) ∙ c.fraction.ensures.part) (ends c.in_ok-end.end false) refl (sym (part_ok c.power.result c.in_ok-end.end (sym c.ok-2.ensures.value ∙ c.in_ok-end.was)) ∙ c.power.ensures.part) refl w.if-end-whole.false w.if-end-text.true, tt)
+]
 
 pub returns : goal.returns
-returns c = let t = c.args.text.now in let w = c.whole_end-d.ensures in let p = c.point-p.ensures in let e = c.exponent-e.ensures in (a_real t c.past_sign-from.result c.whole_end-d.result.end c.point-p.result (starts_at t c.past_sign-from.result c.past_sign-from.ensures.0) (omega (arith, w.0, c.if-whole-from.false)) w.0 p.0 c.exponent-e.result c.if-p.false e.0 c.if-e.false (λ q. omega (arith, q, c.if-end-whole.false)) (omega (arith, c.if-end-n.false)) e.2 (omega (arith, c.if-n-gt-MOST_BYTES.false)), record { short = omega (arith, c.if-n-gt-MOST_BYTES.false); from = omega (arith, w.0); whole = p.1; to = p.2; exponent = let z : c.exponent-e.result.end ≡ length t = omega (arith, c.if-end-n.false, e.2) in sym (ap (λ (x : Part). x.end) e.0) ∙ z })
+returns c =
+    let f = ap (λ (x : Part). x.end) (part_ok c.fraction.result c.in_ok-to.to (sym c.ok.ensures.value ∙ c.in_ok-to.was)) in
+    let g = ap (λ (x : Part). x.end) (part_ok c.power.result c.in_ok-end.end (sym c.ok-2.ensures.value ∙ c.in_ok-end.was)) in
+    let z : c.in_ok-end.end ≡ length c.args.text.now = omega (arith, g, c.power.ensures.to, c.if-end-text.false) in (
+      a_real c.args.text.now c.past_sign-from.result c.digits-whole.result.end (ends c.in_ok-to.to false) (starts_at c.args.text.now c.past_sign-from.result c.past_sign-from.ensures.0) (omega (arith, c.digits-whole.ensures.end, c.if-whole-from.false)) c.digits-whole.ensures.end (sym (part_ok c.fraction.result c.in_ok-to.to (sym c.ok.ensures.value ∙ c.in_ok-to.was)) ∙ c.fraction.ensures.part) (ends c.in_ok-end.end false) refl (sym (part_ok c.power.result c.in_ok-end.end (sym c.ok-2.ensures.value ∙ c.in_ok-end.was)) ∙ c.power.ensures.part) refl c.if-end-whole.false c.if-end-text.false (omega arith) (omega (arith, c.if-text-gt-MOST_BYTES.false)),
+      record {
+        short = omega (arith, c.if-text-gt-MOST_BYTES.false);
+        from = omega (arith, c.digits-whole.ensures.end);
+        whole = omega (arith, f, c.fraction.ensures.from);
+        to = omega (arith, f, c.fraction.ensures.to);
+        exponent = sym (ap (λ (x : Part). x.end) c.power.ensures.part) ∙ g ∙ z;
+      },
+    )
