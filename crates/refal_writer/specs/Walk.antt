@@ -3,27 +3,26 @@ use Rattle.std.specs.Prelude.{Result, Ok, Err, Option, Some, None, ℕ, ◌+◌,
 use Rattle.std.proofs.Common.{true≢false, sym, ap, subst, ◌∙◌, arith, eqb-true}
 use Rattle.std.specs.Result.{IsOk}
 use Rattle.std.specs.Option.{IsSome}
-use borrow.Author.Tests.{ne_eqb}
 use Rattle.refal_rows.specs.Tests.{and_left, and_right}
-use Rattle.refal_ast.specs.Kinds.{node_declaration, node_name, node_function, node_sentence, node_condition, node_terms, node_ending_block, node_condition_block, node_identifier, node_number, node_char, node_variable, node_bracket, node_call}
+use Rattle.refal_ast.specs.Kinds.{node_variable}
 use Rattle.refal_ast.specs.KindCodes.{node_code}
 use Rattle.refal_ast.specs.Rows.{node_told, ReadsNode}
 use Rattle.refal_ast.specs.declared.nodes.Node.{Node as TheNode}
 use Rattle.refal_ast.specs.declared.kinds.UnknownKind.{UnknownKind}
 use Rattle.refal_ast.specs.Limits.{most_rows}
-use Rattle.refal_ast.specs.Nodes.{Node, node_at, node_width}
+use Rattle.refal_ast.specs.Nodes.{Node, node_at, node_width, word_at, col_start, col_len}
 use Rattle.refal_ast.specs.Flatten.{Flat}
 use Rattle.refal_tree.specs.Forest.{Row}
-use Rattle.refal_tree.specs.States.{pick_state, state_inside, state_next, below, may_stand, room}
-use Rattle.refal_tree.specs.StateCodes.{state_code, Follows}
+use Rattle.refal_tree.specs.States.{state_inside, state_next, below, may_stand, room}
+use Rattle.refal_tree.specs.StateCodes.{state_code, Follows, no_kind}
 use Rattle.refal_tree.specs.declared.states.State.{State}
 use Rattle.refal_tree.specs.Rules.{variable_letter, fields_ok, row_ok}
 use Rattle.refal_tree.specs.Ranges.{row_at, kind_at, detail_at, next_at, ok_at}
 use Rattle.refal_tree.specs.FlattenRows.{open_tokens, close_tokens}
 use Rattle.refal_tree.specs.Walk.{flat_at, Step, step, flat_step, flat_end_lem}
-use Rattle.refal_spelling.specs.Spell.{text}
+use Rattle.refal_spelling.specs.Spell.{text, text_at}
 use Rattle.refal_writer.specs.Token.{text_of, text_of_append}
-use Rattle.refal_writer.specs.Words.{close_words, close_text}
+use Rattle.refal_writer.specs.Words.{open_words, open_text, close_words, close_text}
 
 -- rows i to j keep the rules, from the state st on
 pub record Walks (w : List ℕ) (i j st : ℕ) : Type 0 where
@@ -54,71 +53,49 @@ lettered st left r h e =
     letter_small r.detail (and_left _ true (ap (λ (k : ℕ). fields_ok k r.detail r.start r.len r.from r.to) (sym e) ∙ and_right f g h))
 
 -- ---- what the steps of the code answer at such a row
-pick_same : (b : Bool) (x : ℕ) → pick_state b x x ≡ x
-pick_same true x = refl
-pick_same false x = refl
-
--- no row of an unknown kind may stand anywhere
-stands_not : (st k : ℕ) → (1 ≤ k → node_call < k) → may_stand st k ≡ false
-stands_not st k h = simp (
-  ne_eqb k node_declaration (λ e. omega arith),
-  ne_eqb k node_name (λ e. omega arith),
-  ne_eqb k node_function (λ e. omega arith),
-  ne_eqb k node_sentence (λ e. omega arith),
-  ne_eqb k node_condition (λ e. omega arith),
-  ne_eqb k node_terms (λ e. omega arith),
-  ne_eqb k node_ending_block (λ e. omega arith),
-  ne_eqb k node_condition_block (λ e. omega arith),
-  ne_eqb k node_identifier (λ e. omega arith),
-  ne_eqb k node_number (λ e. omega arith),
-  ne_eqb k node_char (λ e. omega arith),
-  ne_eqb k node_variable (λ e. omega arith),
-  ne_eqb k node_bracket (λ e. omega arith),
-  ne_eqb k node_call (λ e. omega arith),
-  pick_same,
-)
-
 reads : (w : List ℕ) (i st : ℕ) (r : Result TheNode UnknownKind) → may_stand st (kind_at w i) ≡ true → ReadsNode w i r → IsOk r
 reads w i st (Ok n) h e = refl
-reads w i st (Err u) h e = absurd (true≢false (sym h ∙ stands_not st (kind_at w i) e.1))
+reads w i st (Err u) h e = absurd (true≢false (sym h ∙ no_kind st (kind_at w i) e.1))
 
 goes_on : (st k d : ℕ) (r : Option State) → may_stand st k ≡ true → Follows st k d r → IsSome r
 goes_on st k d (Some s) h e = refl
 goes_on st k d None h e = absurd (true≢false (sym h ∙ e))
 
-pub read_told : (w : List ℕ) (i : ℕ) (r : Result TheNode UnknownKind) (n : TheNode) → ReadsNode w i r → r ≡ Ok n → node_told n ≡ node_at w i
-read_told w i r n h e = subst (λ (x : Result TheNode UnknownKind). ReadsNode w i x) e h
-
 pub next_state : (st k d : ℕ) (r : Option State) (s : State) → Follows st k d r → r ≡ Some s → state_code s ≡ state_next st k d
 next_state st k d r s h e = (subst (λ (x : Option State). Follows st k d x) e h).1
 
-pub row_read : (w : List ℕ) (i j st : ℕ) (r : Result TheNode UnknownKind) → node_width * j ≤ length w → i < j → Walks w i j st → ReadsNode w i r → IsOk r
-row_read w i j st r long more W e = let here = step w i j st W.left long more W.ok in reads w i st r (stands st W.left (row_at w i) here.here) e
+pub row_reads : (w : List ℕ) (i j st : ℕ) (r : Result TheNode UnknownKind) → node_width * j ≤ length w → i < j → Walks w i j st → ReadsNode w i r → IsOk r
+row_reads w i j st r long more W e = let here = step w i j st W.left long more W.ok in reads w i st r (stands st W.left (row_at w i) here.here) e
 
--- ---- a turn of the walk at row i, of the kind k and the detail d, and with the next row x, among the rows to j
-pub record Turn (w : List ℕ) (i j st k d x : ℕ) : Type 0 where
-  pub low : i < x
-  pub high : x ≤ j
-  pub letter : k ≡ node_variable → d < 256
-  pub goes : (r : Option State) → Follows st k d r → IsSome r
+-- ---- a turn of the walk at row i, which is read as n, among the rows to j
+pub record Turn (w : List ℕ) (i j st : ℕ) (n : TheNode) : Type 0 where
+  pub low : i < n.next
+  pub high : n.next ≤ j
+  pub letter : node_code n.kind ≡ node_variable → n.detail < 256
+  pub goes : (r : Option State) → Follows st (node_code n.kind) n.detail r → IsSome r
   -- s is the state of the children, and u the state of what follows
-  pub kids : (s : ℕ) → s ≡ state_inside k → Walks w (i + 1) x s
-  pub rest : (u : ℕ) → u ≡ state_next st k d → Walks w x j u
-  -- the text of a turn, part by part
-  pub parts : (src : List ℕ) (s u : ℕ) → s ≡ state_inside k → u ≡ state_next st k d
-      → text_of src (flat_at w i j st) ≡ text_of src (open_tokens st (row_at w i)) ++ (text_of src (flat_at w (i + 1) x s) ++ (text (close_words st k d) ++ text_of src (flat_at w x j u)))
+  pub kids : (s : ℕ) → s ≡ state_inside (node_code n.kind) → Walks w (i + 1) n.next s
+  pub rest : (u : ℕ) → u ≡ state_next st (node_code n.kind) n.detail → Walks w n.next j u
+  -- the text of a turn, part by part; v is the row's own text
+  pub parts : (src v : List ℕ) (s u : ℕ) → v ≡ text_at src (word_at w i col_start) (word_at w i col_len) → s ≡ state_inside (node_code n.kind) → u ≡ state_next st (node_code n.kind) n.detail
+      → text_of src (flat_at w i j st)
+      ≡ text (open_words st (node_code n.kind) n.detail v) ++ (text_of src (flat_at w (i + 1) n.next s) ++ (text (close_words st (node_code n.kind) n.detail) ++ text_of src (flat_at w n.next j u)))
 
-pub turn : (w : List ℕ) (i j st k d x : ℕ) → k ≡ kind_at w i → d ≡ detail_at w i → x ≡ next_at w i → node_width * j ≤ length w → i < j → Walks w i j st → Turn w i j st k d x
-turn w i j st k d x kind detail next long more W =
+pub turn : (w : List ℕ) (i j st : ℕ) (r : Result TheNode UnknownKind) (n : TheNode) → ReadsNode w i r → r ≡ Ok n → node_width * j ≤ length w → i < j → Walks w i j st → Turn w i j st n
+turn w i j st r n reads is long more W =
     let here : Step w i j st W.left = step w i j st W.left long more W.ok in
+    let told : node_told n ≡ node_at w i = subst (λ (x : Result TheNode UnknownKind). ReadsNode w i x) is reads in
+    let kind : node_code n.kind ≡ kind_at w i = ap (λ (x : Node). x.kind) told in
+    let detail : n.detail ≡ detail_at w i = ap (λ (x : Node). x.detail) told in
+    let next : n.next ≡ next_at w i = ap (λ (x : Node). x.next) told in
     record {
       low = let l = here.lo in omega arith;
       high = let l = here.hi in omega arith;
       letter = λ e. subst (λ (x : ℕ). x < 256) (sym detail) (lettered st W.left (row_at w i) here.here (sym kind ∙ e));
-      goes = λ r. goes_on st k d r (ap (may_stand st) kind ∙ stands st W.left (row_at w i) here.here);
+      goes = λ o. goes_on st (node_code n.kind) n.detail o (ap (may_stand st) kind ∙ stands st W.left (row_at w i) here.here);
       kids = λ s first. record { left = below st (kind_at w i) W.left; ok = rw (first, kind, next) here.kids };
       rest = λ u then. record { left = W.left; ok = rw (then, kind, detail, next) here.rest };
-      parts = λ src s u first then.
+      parts = λ src v s u word first then.
           let K : ℕ = kind_at w i in
           let z : ℕ = next_at w i in
           let A : List Flat = open_tokens st (row_at w i) in
@@ -129,12 +106,9 @@ turn w i j st k d x kind detail next long more W =
           ∙ text_of_append src A (B ++ (C ++ D))
           ∙ ap (λ (l : List ℕ). text_of src A ++ l) (text_of_append src B (C ++ D) ∙ ap (λ (l : List ℕ). text_of src B ++ l) (text_of_append src C D))
           ∙ ap (λ (l : List ℕ). text_of src A ++ (text_of src B ++ (l ++ text_of src D))) (sym (close_text src st K (detail_at w i)))
+          ∙ ap (λ (l : List ℕ). l ++ (text_of src B ++ (text (close_words st K (detail_at w i)) ++ text_of src D))) (sym (open_text src st (row_at w i) (node_code n.kind) n.detail v kind detail word))
           ∙ sym (rw (first, then, kind, detail, next) refl);
     }
-
-pub node_turn : (w : List ℕ) (i j st : ℕ) (n : TheNode) → node_told n ≡ node_at w i → node_width * j ≤ length w → i < j → Walks w i j st
-    → Turn w i j st (node_code n.kind) n.detail n.next
-node_turn w i j st n e = turn w i j st (node_code n.kind) n.detail n.next (ap (λ (x : Node). x.kind) e) (ap (λ (x : Node). x.detail) e) (ap (λ (x : Node). x.next) e)
 
 -- the text of no rows
 pub end_text : (w src : List ℕ) (i j st : ℕ) → i ≡ j → text_of src (flat_at w i j st) ≡ []
