@@ -1,5 +1,5 @@
-// What can be put over a slice from its front on, as far as it goes. The answer is the count of all its bytes in any case.
-ghost use Rattle.std.specs.Prelude.{◌≡◌, ℕ, ◌+◌, ◌≤◌, List, [], ◌++◌, length};
+// What can be put over a slice.
+ghost use Rattle.std.specs.Prelude.{◌≡◌, ℕ, ◌+◌, ◌^◌, ◌≤◌, List, [], ◌++◌, length};
 ghost use Rattle.refal_writer.specs.Puts.{Puts};
 
 pub trait Put {
@@ -8,8 +8,9 @@ pub trait Put {
     // No value of the type has more bytes.
     ghost most: { ℕ };
 
+    // The bytes are put from the front on, as far as the slice goes. The answer is the count of them all in any case.
     fn put(self, out: &mut [u8]) -> usize
-        requires { most ≤ 1152921504606846976 }
+        requires { most ≤ 2 ^ 60 }
         ensures { Puts (bytes self) result out.old out.new × (result ≤ most) };
 }
 

@@ -1,5 +1,5 @@
 // The writers of tokens that hold no text of the source: a token's spelling and one space.
-ghost use Rattle.std.specs.Prelude.{◌≡◌, [], ◌∷◌, ◌≤◌};
+ghost use Rattle.std.specs.Prelude.{◌≡◌, [], ◌∷◌, ◌++◌, ◌+◌, ◌≤◌};
 ghost use Rattle.refal_ast.specs.Kinds.{tok_char};
 ghost use Rattle.refal_spelling.specs.Spell.{spelled};
 ghost use Rattle.refal_writer.specs.Puts.{Puts};
@@ -36,57 +36,53 @@ impl Put for Mark {
         match self {
             Mark::Entry => (*b"$ENTRY ").put(out),
             Mark::Extern => (*b"$EXTRN ").put(out),
-            Mark::LBrace => [b'{', b' '].put(out),
-            Mark::RBrace => [b'}', b' '].put(out),
-            Mark::LParen => [b'(', b' '].put(out),
-            Mark::RParen => [b')', b' '].put(out),
-            Mark::LAngle => [b'<', b' '].put(out),
-            Mark::RAngle => [b'>', b' '].put(out),
-            Mark::Comma => [b',', b' '].put(out),
-            Mark::Colon => [b':', b' '].put(out),
-            Mark::Equals => [b'=', b' '].put(out),
-            Mark::Semicolon => [b';', b' '].put(out),
+            Mark::LBrace => (*b"{ ").put(out),
+            Mark::RBrace => (*b"} ").put(out),
+            Mark::LParen => (*b"( ").put(out),
+            Mark::RParen => (*b") ").put(out),
+            Mark::LAngle => (*b"< ").put(out),
+            Mark::RAngle => (*b"> ").put(out),
+            Mark::Comma => (*b", ").put(out),
+            Mark::Colon => (*b": ").put(out),
+            Mark::Equals => (*b"= ").put(out),
+            Mark::Semicolon => (*b"; ").put(out),
         }
     }
 }
 
-// A character in apostrophes, and a space: an apostrophe twice, any other in UTF-8. `char` has no such number as a lone surrogate,
-// and the contract is for any number.
+// The bytes of a character in apostrophes, and a space.
+fn put_quoted<const N: usize>(bytes: [u8; N], out: &mut [u8]) -> usize
+    requires { N ≤ 4 }
+    ensures { Puts (39 ∷ (bytes.entry ++ 39 ∷ 32 ∷ [])) result out.old out.new × (result ≤ N + 3) }
+{
+    (*b"'", (bytes, *b"' ")).put(out)
+}
+
+// A character in apostrophes: an apostrophe twice, any other in UTF-8. The contract is for every number, and `char` leaves some out.
 #[tactic(auto, unfolding(refal_spelling::specs::Spell::text, refal_spelling::specs::Spell::spelling, refal_spelling::specs::Spell::body))]
 pub fn put_char(x: u32, out: &mut [u8]) -> usize
     ensures { Puts (token_text (spelled tok_char x [])) result out.old out.new × (result ≤ 8) }
 {
     match x {
-        39 => (*b"'''' ").put(out),
-        0..=127 => [b'\'', x as u8, b'\'', b' '].put(out),
-        128..=2047 => {
+        39 => put_quoted(*b"''", out),
+        0..=127 => put_quoted([x as u8], out),
+        128..=2047 => put_quoted([(192 + x / 64) as u8, (128 + x % 64) as u8], out),
+        2048..=65535 => put_quoted(
             [
-                b'\'',
-                (192 + x / 64) as u8,
+                (224 + x / 4096) as u8,
+                (128 + x / 64 % 64) as u8,
                 (128 + x % 64) as u8,
-                b'\'',
-                b' ',
-            ]
-            .put(out)
-        }
-        2048..=65535 => [
-            b'\'',
-            (224 + x / 4096) as u8,
-            (128 + x / 64 % 64) as u8,
-            (128 + x % 64) as u8,
-            b'\'',
-            b' ',
-        ]
-        .put(out),
-        _ => [
-            b'\'',
-            (240 + x / 262144 % 8) as u8,
-            (128 + x / 4096 % 64) as u8,
-            (128 + x / 64 % 64) as u8,
-            (128 + x % 64) as u8,
-            b'\'',
-            b' ',
-        ]
-        .put(out),
+            ],
+            out,
+        ),
+        _ => put_quoted(
+            [
+                (240 + x / 262144 % 8) as u8,
+                (128 + x / 4096 % 64) as u8,
+                (128 + x / 64 % 64) as u8,
+                (128 + x % 64) as u8,
+            ],
+            out,
+        ),
     }
 }
