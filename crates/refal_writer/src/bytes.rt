@@ -33,15 +33,15 @@ impl<'a> Put for Word<'a> {
     }
 }
 
-impl<const N: usize> Put for [u8; N] {
-    ghost bytes = { λ b. b };
+impl<'a, const N: usize> Put for &'a [u8; N] {
+    ghost bytes = { λ b. b.now };
 
     ghost most = { N };
 
     fn put(self, out: &mut [u8]) -> usize {
         // Where all fit, a copy of a known size is one store.
         if N <= out.len() {
-            out[..N].copy_from_slice(&self);
+            out[..N].copy_from_slice(self);
         } else {
             let n = out.len();
             out.copy_from_slice(&self[..n]);

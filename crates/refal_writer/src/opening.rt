@@ -19,7 +19,7 @@ pub fn write_opening(node: Node, state: State, word: Word, out: &mut [u8]) -> us
     requires { node_code node.kind ≡ node_variable → node.detail < 256 }
     ensures { Puts (text (open_words (state_code state) (node_code node.kind) node.detail word.entry.text.now)) result out.old out.new × (result ≤ 4294967312) }
 {
-    let name = (word, *b" ");
+    let name = (word, b" ");
     match (node.kind, state) {
         (NodeKind::Declaration, _) => Mark::Extern.put(out),
         (NodeKind::Name, State::Names) => (Mark::Comma, name).put(out),
@@ -34,7 +34,7 @@ pub fn write_opening(node: Node, state: State, word: Word, out: &mut [u8]) -> us
         (NodeKind::Name | NodeKind::Identifier, _) => name.put(out),
         (NodeKind::Number, _) => name.put(out),
         (NodeKind::Char, _) => put_char(node.detail, out),
-        (NodeKind::Variable, _) => ([node.detail as u8, b'.'], name).put(out),
+        (NodeKind::Variable, _) => (&[node.detail as u8, b'.'], name).put(out),
         (NodeKind::Bracket, _) => Mark::LParen.put(out),
         (NodeKind::Call, _) => (Mark::LAngle, name).put(out),
         (NodeKind::Sentence | NodeKind::Terms, _) => ().put(out),

@@ -34,28 +34,28 @@ impl Put for Mark {
 
     fn put(self, out: &mut [u8]) -> usize {
         match self {
-            Mark::Entry => (*b"$ENTRY ").put(out),
-            Mark::Extern => (*b"$EXTRN ").put(out),
-            Mark::LBrace => (*b"{ ").put(out),
-            Mark::RBrace => (*b"} ").put(out),
-            Mark::LParen => (*b"( ").put(out),
-            Mark::RParen => (*b") ").put(out),
-            Mark::LAngle => (*b"< ").put(out),
-            Mark::RAngle => (*b"> ").put(out),
-            Mark::Comma => (*b", ").put(out),
-            Mark::Colon => (*b": ").put(out),
-            Mark::Equals => (*b"= ").put(out),
-            Mark::Semicolon => (*b"; ").put(out),
+            Mark::Entry => b"$ENTRY ".put(out),
+            Mark::Extern => b"$EXTRN ".put(out),
+            Mark::LBrace => b"{ ".put(out),
+            Mark::RBrace => b"} ".put(out),
+            Mark::LParen => b"( ".put(out),
+            Mark::RParen => b") ".put(out),
+            Mark::LAngle => b"< ".put(out),
+            Mark::RAngle => b"> ".put(out),
+            Mark::Comma => b", ".put(out),
+            Mark::Colon => b": ".put(out),
+            Mark::Equals => b"= ".put(out),
+            Mark::Semicolon => b"; ".put(out),
         }
     }
 }
 
 // The bytes of a character in apostrophes, and a space.
-fn put_quoted<const N: usize>(bytes: [u8; N], out: &mut [u8]) -> usize
+fn put_quoted<const N: usize>(bytes: &[u8; N], out: &mut [u8]) -> usize
     requires { N ≤ 4 }
-    ensures { Puts (39 ∷ (bytes.entry ++ 39 ∷ 32 ∷ [])) result out.old out.new × (result ≤ N + 3) }
+    ensures { Puts (39 ∷ (bytes.now ++ 39 ∷ 32 ∷ [])) result out.old out.new × (result ≤ N + 3) }
 {
-    (*b"'", (bytes, *b"' ")).put(out)
+    (b"'", (bytes, b"' ")).put(out)
 }
 
 // A character in apostrophes: an apostrophe twice, any other in UTF-8. The contract is for every number, and `char` leaves some out.
@@ -64,11 +64,11 @@ pub fn put_char(x: u32, out: &mut [u8]) -> usize
     ensures { Puts (token_text (spelled tok_char x [])) result out.old out.new × (result ≤ 8) }
 {
     match x {
-        39 => put_quoted(*b"''", out),
-        0..=127 => put_quoted([x as u8], out),
-        128..=2047 => put_quoted([(192 + x / 64) as u8, (128 + x % 64) as u8], out),
+        39 => put_quoted(b"''", out),
+        0..=127 => put_quoted(&[x as u8], out),
+        128..=2047 => put_quoted(&[(192 + x / 64) as u8, (128 + x % 64) as u8], out),
         2048..=65535 => put_quoted(
-            [
+            &[
                 (224 + x / 4096) as u8,
                 (128 + x / 64 % 64) as u8,
                 (128 + x % 64) as u8,
@@ -76,7 +76,7 @@ pub fn put_char(x: u32, out: &mut [u8]) -> usize
             out,
         ),
         _ => put_quoted(
-            [
+            &[
                 (240 + x / 262144 % 8) as u8,
                 (128 + x / 4096 % 64) as u8,
                 (128 + x / 64 % 64) as u8,
