@@ -10,7 +10,7 @@ use Rattle.refal_ast.specs.Rows.{node_told, ReadsNode}
 use Rattle.refal_ast.specs.declared.nodes.Node.{Node as TheNode}
 use Rattle.refal_ast.specs.declared.kinds.UnknownKind.{UnknownKind}
 use Rattle.refal_ast.specs.Limits.{most_rows}
-use Rattle.refal_ast.specs.Nodes.{Node, node_at, node_width, word_at, col_start, col_len}
+use Rattle.refal_ast.specs.Nodes.{Node, node_at, node_width}
 use Rattle.refal_ast.specs.Flatten.{Flat}
 use Rattle.refal_tree.specs.Forest.{Row}
 use Rattle.refal_tree.specs.States.{state_inside, state_next, below, may_stand, room}
@@ -76,10 +76,10 @@ pub record Turn (w : List ℕ) (i j st : ℕ) (n : TheNode) : Type 0 where
   -- s is the state of the children, and u the state of what follows
   pub kids : (s : ℕ) → s ≡ state_inside (node_code n.kind) → Walks w (i + 1) n.next s
   pub rest : (u : ℕ) → u ≡ state_next st (node_code n.kind) n.detail → Walks w n.next j u
-  -- the text of a turn, part by part; v is the row's own text
-  pub parts : (src v : List ℕ) (s u : ℕ) → v ≡ text_at src (word_at w i col_start) (word_at w i col_len) → s ≡ state_inside (node_code n.kind) → u ≡ state_next st (node_code n.kind) n.detail
+  -- the text of a turn, part by part
+  pub parts : (src : List ℕ) (s u : ℕ) → s ≡ state_inside (node_code n.kind) → u ≡ state_next st (node_code n.kind) n.detail
       → text_of src (flat_at w i j st)
-      ≡ text (open_words st (node_code n.kind) n.detail v) ++ (text_of src (flat_at w (i + 1) n.next s) ++ (text (close_words st (node_code n.kind) n.detail) ++ text_of src (flat_at w n.next j u)))
+      ≡ text (open_words st (node_code n.kind) n.detail (text_at src n.start n.len)) ++ (text_of src (flat_at w (i + 1) n.next s) ++ (text (close_words st (node_code n.kind) n.detail) ++ text_of src (flat_at w n.next j u)))
 
 pub turn : (w : List ℕ) (i j st : ℕ) (r : Result TheNode UnknownKind) (n : TheNode) → ReadsNode w i r → r ≡ Ok n → node_width * j ≤ length w → i < j → Walks w i j st → Turn w i j st n
 turn w i j st r n reads is long more W =
@@ -95,7 +95,7 @@ turn w i j st r n reads is long more W =
       goes = λ o. goes_on st (node_code n.kind) n.detail o (ap (may_stand st) kind ∙ stands st W.left (row_at w i) here.here);
       kids = λ s first. record { left = below st (kind_at w i) W.left; ok = rw (first, kind, next) here.kids };
       rest = λ u then. record { left = W.left; ok = rw (then, kind, detail, next) here.rest };
-      parts = λ src v s u word first then.
+      parts = λ src s u first then.
           let K : ℕ = kind_at w i in
           let z : ℕ = next_at w i in
           let A : List Flat = open_tokens st (row_at w i) in
@@ -106,7 +106,7 @@ turn w i j st r n reads is long more W =
           ∙ text_of_append src A (B ++ (C ++ D))
           ∙ ap (λ (l : List ℕ). text_of src A ++ l) (text_of_append src B (C ++ D) ∙ ap (λ (l : List ℕ). text_of src B ++ l) (text_of_append src C D))
           ∙ ap (λ (l : List ℕ). text_of src A ++ (text_of src B ++ (l ++ text_of src D))) (sym (close_text src st K (detail_at w i)))
-          ∙ ap (λ (l : List ℕ). l ++ (text_of src B ++ (text (close_words st K (detail_at w i)) ++ text_of src D))) (sym (open_text src st (row_at w i) (node_code n.kind) n.detail v kind detail word))
+          ∙ ap (λ (l : List ℕ). l ++ (text_of src B ++ (text (close_words st K (detail_at w i)) ++ text_of src D))) (sym (open_text src st (row_at w i) (node_code n.kind) n.detail (text_at src n.start n.len) kind detail (ap (λ (x : Node). text_at src x.start x.len) told)))
           ∙ sym (rw (first, then, kind, detail, next) refl);
     }
 

@@ -2,7 +2,7 @@
 ghost use Rattle.std.specs.Prelude.{◌≡◌, ◌≤◌, ◌<◌};
 ghost use Rattle.refal_ast.specs.KindCodes.{node_code};
 ghost use Rattle.refal_ast.specs.Kinds.{node_variable};
-ghost use Rattle.refal_spelling.specs.Spell.{text};
+ghost use Rattle.refal_spelling.specs.Spell.{text, text_at};
 ghost use Rattle.refal_tree.specs.StateCodes.{state_code};
 ghost use Rattle.refal_writer.specs.Puts.{Puts};
 ghost use Rattle.refal_writer.specs.Words.{open_words, close_words};
@@ -15,10 +15,13 @@ use refal_tree::states::State;
 
 // Before the children of a row: a leaf whole, or what opens the others.
 #[tactic(auto, using(crate::specs::TextPuts::opened, crate::specs::Token::name_is, crate::specs::Token::number_is, crate::specs::Token::variable_is))]
-pub fn write_opening(node: Node, state: State, word: Word, out: &mut [u8]) -> usize
+pub fn write_opening(node: Node, state: State, src: &[u8], out: &mut [u8]) -> usize
     requires { node_code node.kind ≡ node_variable → node.detail < 256 }
-    ensures { Puts (text (open_words (state_code state) (node_code node.kind) node.detail word.entry.text.now)) result out.old out.new × (result ≤ 4294967312) }
+    ensures { Puts (text (open_words (state_code state) (node_code node.kind) node.detail (text_at src.now node.start node.len))) result out.old out.new × (result ≤ 4294967312) }
 {
+    let word = Word {
+        text: refal_spelling::text_of(node, src),
+    };
     let name = (word, b" ");
     match (node.kind, state) {
         (NodeKind::Declaration, _) => Mark::Extern.put(out),

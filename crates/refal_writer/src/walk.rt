@@ -8,7 +8,6 @@ ghost use Rattle.refal_writer.specs.Puts.{Puts};
 ghost use Rattle.refal_writer.specs.Token.{text_of};
 ghost use Rattle.refal_writer.specs.Walk.{Walks, widest};
 
-use crate::bytes::Word;
 use crate::opening::{write_closing, write_opening};
 use refal_ast::nodes::Node;
 use refal_tree::states::State;
@@ -32,11 +31,8 @@ pub fn write_rows(
         // The rows keep the rules: each kind is known, and each row may stand where it does.
         let node = Node::read(tree, i).unwrap();
         let next = node.next as usize;
-        let word = Word {
-            text: refal_spelling::text(tree, src, i),
-        };
         let middle = at.min(out.len());
-        at += write_opening(node, state, word, &mut out[middle..]);
+        at += write_opening(node, state, src, &mut out[middle..]);
         let middle = at.min(out.len());
         at += write_rows(
             tree,

@@ -61,7 +61,7 @@ loop-i-preserved t c = let a = c.args in let g = c.loop-i in let st = state_code
     let T = turn a.tree.now g.i a.to st c.read.result n c.read.ensures c.unwrap-node.ensures c.requires.1 c.loop-i-test.true g.invariant.4 in
     let u = next_state st (node_code n.kind) n.detail c.after.result c.unwrap-state.result c.after.ensures c.unwrap-state.ensures in
     let b = turn_small a.from g.i n.next a.to g.at c.write_opening-at.result c.write_rows-at.result g.invariant.3 c.write_opening-at.ensures.1 c.write_rows-at.ensures.1 T.high c.requires.2 c.write_closing-at.result c.write_closing-at.ensures.1 in
-    let e = T.parts a.src.now _ (state_code c.inside.result) (state_code c.unwrap-state.result) c.text.ensures.0 c.inside.ensures u in
+    let e = T.parts a.src.now (state_code c.inside.result) (state_code c.unwrap-state.result) c.inside.ensures u in
     let p = subst (λ (r : List ℕ). Pours (text_of a.src.now (flat_at a.tree.now a.from a.to (state_code a.start))) r g.at g.out a.out.now) e g.invariant.5 in
     let p1 = pours_on _ _ _ _ _ _ _ _ _ p (least_is _ _ _ c.min-middle.ensures) c.write_opening-at.ensures.0 in
     let p2 = pours_on _ _ _ _ _ _ _ _ _ p1 c.min-middle-in-loop-i.ensures c.write_rows-at.ensures.0 in
