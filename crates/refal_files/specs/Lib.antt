@@ -1,3 +1,4 @@
--- Definitions: Files. Laws: FileLaws.
+-- Definitions: Files. Laws: FileLaws. What the code's types stand for: View.
 pub mod Files
 pub mod FileLaws
+pub mod View

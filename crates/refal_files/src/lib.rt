@@ -1,41 +1,74 @@
 // Two trees with their sources, whose rows are numbered through: file one's rows, then file two's.
 #![tactic(auto)]
 
-ghost use Rattle.std.specs.Prelude.{◌≡◌, List, ℕ, ◌<◌};
+mod row;
+
+ghost use Rattle.std.specs.Prelude.{◌≡◌, ◌<◌};
 ghost use Rattle.refal_files.specs.Files.{text_of};
-ghost use Rattle.refal_files.specs.FileLaws.{row_count, both_count, row_at};
+ghost use Rattle.refal_files.specs.FileLaws.{row_count};
+ghost use Rattle.refal_files.specs.View.{rows_of, row_of, placed_of};
 
-use refal_ast::nodes;
+use refal_ast::{answers, nodes};
+pub use row::Row;
 
-// How many rows the words hold.
-pub fn count(tree: &[u32]) -> usize
-    ensures { result ≡ row_count tree.now }
-{
-    tree.len() / nodes::WIDTH
+// A tree with the source of its texts.
+#[derive(Clone, Copy)]
+pub struct File<'a> {
+    pub tree: &'a [u32],
+    pub source: &'a [u8],
 }
 
-// The kind of row g.
-pub fn kind(tree1: &[u32], tree2: &[u32], g: usize) -> u32
-    requires { g < both_count tree1.now tree2.now }
-    ensures { (s₁ s₂ : List ℕ) → result ≡ (row_at tree1.now s₁ tree2.now s₂ g).node.kind }
-{
-    let n = count(tree1);
-    if g < n {
-        return nodes::kind(tree1, g);
-    }
-    let i = g - n;
-    nodes::kind(tree2, i)
+#[derive(Clone, Copy)]
+pub struct Files<'a> {
+    pub one: File<'a>,
+    pub two: File<'a>,
 }
 
-// The text of row g, as a part of whichever source holds it.
-pub fn text<'a>(tree1: &[u32], src1: &'a [u8], tree2: &[u32], src2: &'a [u8], g: usize) -> &'a [u8]
-    requires { g < both_count tree1.now tree2.now }
-    ensures { result.now ≡ text_of (row_at tree1.now src1.now tree2.now src2.now g) }
-{
-    let n = count(tree1);
-    if g < n {
-        return refal_spelling::text(tree1, src1, g);
+impl<'a> File<'a> {
+    // How many rows the tree's words hold.
+    pub fn count(&self) -> usize
+        ensures value { result ≡ row_count self.now.tree.now }
+        ensures fits { result < 4611686018427387904 }
+    {
+        self.tree.len() / nodes::WIDTH
     }
-    let i = g - n;
-    refal_spelling::text(tree2, src2, i)
+}
+
+impl<'a> Files<'a> {
+    // How many rows both have.
+    pub fn count(&self) -> usize
+        ensures { result ≡ rows_of self.now }
+    {
+        self.one.count() + self.two.count()
+    }
+
+    // Row g.
+    #[tactic(auto, unfolding(crate::specs::FileLaws::row_at))]
+    pub fn row(&self, g: usize) -> Row<'a>
+        requires { g < rows_of self.now }
+        ensures { placed_of result ≡ row_of self.now g }
+    {
+        let n = self.one.count();
+        if g < n {
+            Row {
+                file: self.one,
+                which: answers::File::One,
+                number: g,
+            }
+        } else {
+            Row {
+                file: self.two,
+                which: answers::File::Two,
+                number: g - n,
+            }
+        }
+    }
+
+    // The text of row g, as a part of whichever source holds it.
+    pub fn text(&self, g: usize) -> &'a [u8]
+        requires { g < rows_of self.now }
+        ensures { result.now ≡ text_of (row_of self.now g) }
+    {
+        self.row(g).text()
+    }
 }
