@@ -1,0 +1,23 @@
+-- What the code's names know: Names in the terms of Named.antt.
+use Rattle.std.specs.Prelude.{ℕ, ◌+◌, ◌≡◌, Bool, List, Option, Some, None}
+use Rattle.refal_files.specs.View.{row_of}
+use Rattle.refal_files.specs.declared.Files.{Files}
+use Rattle.refal_index.specs.Named.{with_row, answers_to, seen}
+use Rattle.refal_index.specs.declared.index.Index.{Index}
+use Rattle.refal_index.specs.declared.Names.{Names}
+
+-- a row that is entered bears the name
+abbrev pub knows : Names → Bool → List ℕ → Bool
+knows names functions name = seen (λ i. answers_to functions name (row_of names.files i)) names.entered
+
+-- the words with row g entered, where there are any
+abbrev pub Gains : Option Index → Option Index → Files → ℕ → Type 0
+Gains None j f g = j ≡ None
+Gains (Some i) None f g = ⊥
+Gains (Some i) (Some j) f g = (j.rows ≡ i.rows) × (j.buckets ≡ i.buckets) × (j.words.now ≡ with_row i.words.now i.rows i.buckets (row_of f) g)
+
+-- the next row is entered
+pub record EntersNext (old new : Names) : Type 0 where
+  pub files : new.files ≡ old.files
+  pub entered : new.entered ≡ old.entered + 1
+  pub index : Gains old.index new.index old.files old.entered

@@ -1,0 +1,101 @@
+// An index of rows by a hash of their canonical names.
+ghost use Rattle.std.specs.Prelude.{◌≡◌, ◌+◌, ◌≤◌, ◌<◌, length};
+ghost use Rattle.refal_index.specs.Hash.{hash_of, bucket_of};
+
+use crate::Bearers;
+use refal_ast::names::canonical_byte;
+use refal_files::Files;
+
+// The lent words: a link for each row, then the heads of buckets. 0 ends a chain, g + 1 goes on at row g.
+#[derive(Drop)]
+pub struct Index<'w> {
+    words: &'w mut [u32],
+    rows: usize,
+    buckets: usize,
+    ghost sized: { (rows < 4294967296) × (0 < buckets) × (buckets < 4294967296) × (rows + buckets ≤ length words.now) },
+}
+
+impl<'w> Index<'w> {
+    ghost use Rattle.std.specs.Prelude.{ℕ};
+    ghost use Rattle.refal_files.specs.Files.{Placed};
+    ghost use Rattle.refal_files.specs.View.{rows_of, row_of};
+    ghost use Rattle.refal_index.specs.Chain.{pushed};
+    ghost use Rattle.refal_index.specs.Named.{Holds, with_row, answers_to, seen};
+    ghost use Rattle.refal_index.specs.View.{only_functions};
+
+    // An index of no row.
+    pub fn new(words: &'w mut [u32], rows: usize, buckets: usize) -> Index<'w>
+        requires { (rows < 4294967296) × (0 < buckets) × (buckets < 4294967296) × (rows + buckets ≤ length words.old) }
+        ensures holds { (R : ℕ → Placed) → Holds result.words.now rows buckets R 0 }
+        ensures shape { (result.rows ≡ rows) × (result.buckets ≡ buckets) }
+    {
+        words[rows..rows + buckets].fill(0);
+        Index {
+            words,
+            rows,
+            buckets,
+        }
+    }
+
+    // Row g is entered, if it bears a name.
+    pub fn enter(&mut self, files: &Files, g: usize)
+        requires { (rows_of files.now ≡ self.old.rows) × (g < self.old.rows) }
+        ensures entered { self.new.words.now ≡ with_row self.old.words.now self.old.rows self.old.buckets (row_of files.now) g }
+        ensures shape { (self.new.rows ≡ self.old.rows) × (self.new.buckets ≡ self.old.buckets) }
+    {
+        let row = files.row(g);
+        if Bearers::All.contain(&row) {
+            self.push(row.text(), g);
+        }
+    }
+
+    // Row g is put in by its name, above all rows that are in.
+    fn push(&mut self, name: &[u8], g: usize)
+        requires { g < self.old.rows }
+        ensures put { self.new.words.now ≡ pushed self.old.words.now self.old.rows (bucket_of self.old.buckets name.now) g }
+        ensures shape { (self.new.rows ≡ self.old.rows) × (self.new.buckets ≡ self.old.buckets) }
+    {
+        let at = self.rows + bucket(name, self.buckets);
+        self.words[g] = self.words[at];
+        self.words[at] = g as u32 + 1;
+    }
+
+    // Whether a row that is in bears the name: only the rows of the name's bucket are looked at.
+    pub fn find(&self, files: &Files, bearers: Bearers, name: &[u8]) -> bool
+        requires { (rows_of files.now ≡ self.now.rows) × ((g : ℕ) × Holds self.now.words.now self.now.rows self.now.buckets (row_of files.now) g) }
+        ensures { (g : ℕ) → Holds self.now.words.now self.now.rows self.now.buckets (row_of files.now) g → result ≡ seen (λ i. answers_to (only_functions bearers) name.now (row_of files.now i)) g }
+    {
+        let at = self.rows + bucket(name, self.buckets);
+        let mut next = self.words[at] as usize;
+        while 0 < next {
+            let g = next - 1;
+            if bearers.bear(&files.row(g), name) {
+                return true;
+            }
+            next = self.words[g] as usize;
+        }
+        false
+    }
+}
+
+// The hash of a name's canonical form.
+fn hash(name: &[u8]) -> u32
+    ensures { result ≡ hash_of name.now }
+{
+    let mut x: u32 = 2166136261;
+    for b in name {
+        x = x
+            .wrapping_mul(16777619)
+            .wrapping_add(u32::from(canonical_byte(*b, true)));
+    }
+    x
+}
+
+// The bucket of a name, of so many.
+fn bucket(name: &[u8], buckets: usize) -> usize
+    requires { (0 < buckets) × (buckets < 4294967296) }
+    ensures { (result ≡ bucket_of buckets name.now) × (result < buckets) }
+{
+    let spread = hash(name).wrapping_mul(2654435769);
+    spread as usize * buckets / 4294967296
+}
