@@ -2,4 +2,5 @@
 pub mod Link
 pub mod Accepts
 pub mod LinkLaws
+pub mod View
 pub mod Theorems

@@ -149,6 +149,13 @@ module _ (w₁ s₁ w₂ s₂ : List ℕ) where
   unfolding repeated
   open_end g l h = rw (le-leb (both_count w₁ w₂) g l) (sym (ap (repeated (earlier R g)) (kind_end w₁ s₁ w₂ s₂ node_function g l)) ∙ h)
 
+  -- before the rest: the first function whose name an earlier one has is shown, or none is
+  pub open_shown : (g : ℕ) → g < both_count w₁ w₂ → OpenAt g → repeats R g ≡ true → (rest : Answer) → shown_at 60 (R g) ≡ shown 60 (repeated [] (functions rows)) rest
+  open_shown g l h e rest = ap (λ (o : Option Placed). shown 60 o rest) (rw (lt-leb (both_count w₁ w₂) g l) at (open_hit g l h e))
+
+  pub open_passed : (g : ℕ) → both_count w₁ w₂ ≤ g → OpenAt g → (rest : Answer) → rest ≡ shown 60 (repeated [] (functions rows)) rest
+  open_passed g l h rest = ap (λ (o : Option Placed). shown 60 o rest) (rw (le-leb (both_count w₁ w₂) g l) at (open_end g l h))
+
   -- ---- the calls: the names that are known are those of all rows that bear one
   abbrev pub Known : List Placed
   Known = functions rows ++ declared rows

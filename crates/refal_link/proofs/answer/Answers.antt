@@ -1,28 +1,31 @@
 -- `refal_link::answer` meets its contract.
 use Rattle.std.proofs.Common.{arith, sym, ◌∙◌}
-use Rattle.refal_link.specs.LinkLaws.{lawful_length, unlawful_one, misspelled_one, unlawful_two, misspelled_two, both_checked}
+use Rattle.std.proofs.lemmas.Result.{err_from_is_err_and}
+use Rattle.refal_link.specs.Link.{linked}
+use Rattle.refal_link.specs.LinkLaws.{lawful_length}
+use Rattle.refal_link.specs.View.{rows, checked_file, answer_is}
 use Rattle.refal_link.proofs.answer.Goals as goal
 
--- src/lib.rt:217:9
-pub returns-then-not-lawful : goal.returns-then-not-lawful
-returns-then-not-lawful c = let a = c.args in c.refused.ensures ∙ unlawful_one a.tree1.now a.src1.now a.tree2.now a.src2.now (sym c.lawful.ensures ∙ c.if-not-lawful.true)
+pub returns-in_err-check : goal.returns-in_err-check
+returns-in_err-check c =
+    let p = err_from_is_err_and c.from_residual.result c.from_residual.ensures.1 in
+    let f = c.args.files.now in
+    rw (p.1, p.2) (c.in_err-check.ensures.answer (checked_file f.two (linked (rows f))) ∙ answer_is f)
 
--- src/lib.rt:220:9
-pub returns-then-not-spellings : goal.returns-then-not-spellings
-returns-then-not-spellings c = let a = c.args in c.refused-then-not-spellings.ensures ∙ misspelled_one a.tree1.now a.src1.now a.tree2.now a.src2.now (sym c.lawful.ensures ∙ c.if-not-lawful.false) (sym c.spellings.ensures ∙ c.if-not-spellings.true)
+pub returns-in_err-check-2 : goal.returns-in_err-check-2
+returns-in_err-check-2 c =
+    let p = err_from_is_err_and c.from_residual-in_err-check-2.result c.from_residual-in_err-check-2.ensures.1 in
+    let f = c.args.files.now in
+    rw (p.1, p.2) (c.in_err-check-2.ensures.answer (linked (rows f)) ∙ c.in_ok-check.ensures.answer (checked_file f.two (linked (rows f))) ∙ answer_is f)
 
--- src/lib.rt:223:9
-pub returns-then-not-lawful-2 : goal.returns-then-not-lawful-2
-returns-then-not-lawful-2 c = let a = c.args in c.refused-then-not-lawful-2.ensures ∙ unlawful_two a.tree1.now a.src1.now a.tree2.now a.src2.now (sym c.lawful.ensures ∙ c.if-not-lawful.false) (sym c.spellings.ensures ∙ c.if-not-spellings.false) (sym c.lawful-2.ensures ∙ c.if-not-lawful-2.true)
-
--- src/lib.rt:226:9
-pub returns-then-not-spellings-2 : goal.returns-then-not-spellings-2
-returns-then-not-spellings-2 c = let a = c.args in c.refused-then-not-spellings-2.ensures ∙ misspelled_two a.tree1.now a.src1.now a.tree2.now a.src2.now (sym c.lawful.ensures ∙ c.if-not-lawful.false) (sym c.spellings.ensures ∙ c.if-not-spellings.false) (sym c.lawful-2.ensures ∙ c.if-not-lawful-2.false) (sym c.spellings-2.ensures ∙ c.if-not-spellings-2.true)
-
--- src/lib.rt:228:5
 pub link_rows-requires : goal.link_rows-requires
-link_rows-requires c = let a = c.args in let x = lawful_length a.tree1.now (sym c.lawful.ensures ∙ c.if-not-lawful.false) in let y = lawful_length a.tree2.now (sym c.lawful-2.ensures ∙ c.if-not-lawful-2.false) in omega arith
+link_rows-requires c =
+    let f = c.args.files.now in
+    let x = lawful_length f.one.tree.now c.in_ok-check.ensures.is_tree in
+    let y = lawful_length f.two.tree.now c.in_ok-check-2.ensures.is_tree in
+    omega arith
 
--- src/lib.rt:207:1
 pub returns : goal.returns
-returns c = let a = c.args in c.link_rows.ensures ∙ both_checked a.tree1.now a.src1.now a.tree2.now a.src2.now (sym c.lawful.ensures ∙ c.if-not-lawful.false) (sym c.spellings.ensures ∙ c.if-not-spellings.false) (sym c.lawful-2.ensures ∙ c.if-not-lawful-2.false) (sym c.spellings-2.ensures ∙ c.if-not-spellings-2.false)
+returns c =
+    let f = c.args.files.now in
+    c.link_rows.ensures ∙ c.in_ok-check-2.ensures.answer (linked (rows f)) ∙ c.in_ok-check.ensures.answer (checked_file f.two (linked (rows f))) ∙ answer_is f

@@ -1,30 +1,36 @@
 -- `refal_link::repeated` meets its contract.
-use Rattle.std.proofs.Common.{arith, refl, sym, ap, ◌∙◌, ℕ}
-use Rattle.refal_files.specs.FileLaws.{row_at}
-use Rattle.refal_index.specs.Named.{enters}
-use Rattle.refal_link.specs.LinkLaws.{at_row, open_start, open_hit, open_next, open_end}
+use Rattle.std.proofs.Common.{arith, refl, ap, ap₂, sym, ◌∙◌, ◌+◌, ℕ}
+use Rattle.std.proofs.lemmas.Result.{err_from_is_err_and}
+use Rattle.refal_files.specs.View.{row_of}
+use Rattle.refal_files.specs.declared.Files.{Files}
+use Rattle.refal_index.specs.Known.{EntersNext}
+use Rattle.refal_link.specs.Link.{shown_at}
+use Rattle.refal_link.specs.LinkLaws.{repeats, open_start, open_next, open_shown, open_passed}
 use Rattle.refal_link.proofs.repeated.Goals as goal
 
--- src/lib.rt:108:5
-pub loop-g-init : goal.loop-g-init
-loop-g-init c = (omega arith, open_start _ _ _ _, c.requires.1, refl)
+pub loop-init : goal.loop-init
+loop-init c = (refl, c.requires, open_start _ _ _ _)
 
--- src/lib.rt:109:12
-pub repeats-requires : goal.repeats-requires
-repeats-requires c = (c.requires.0, omega arith, c.loop-g.invariant.2)
+pub returns-in_err-repeats-clause-answer : goal.returns-in_err-repeats-clause-answer
+returns-in_err-repeats-clause-answer c =
+    let p = err_from_is_err_and c.from_residual.result c.from_residual.ensures.1 in
+    let f = c.args.names.now.files in
+    let i = c.loop.invariant in
+    let h = c.in_err-repeats.ensures in
+    λ rest.
+    rw (p.1, p.2)
+    (h.1
+    ∙ ap₂ (λ (x : Files) (k : ℕ). shown_at 60 (row_of x k)) i.0 i.1
+    ∙ open_shown f.one.tree.now f.one.source.now f.two.tree.now f.two.source.now c.loop.counter (omega arith) i.2 (sym (ap₂ (λ (x : Files) (k : ℕ). repeats (row_of x) k) i.0 i.1) ∙ h.0) rest)
 
--- src/lib.rt:110:13
-pub returns-then-repeats : goal.returns-then-repeats
-returns-then-repeats c = let a = c.args in let S = c.requires.0 in let R = row_at a.tree1.now a.src1.now a.tree2.now a.src2.now in record { result_value = ap (λ (k : ℕ). at_row R k c.loop-g.g) S.total ∙ open_hit a.tree1.now a.src1.now a.tree2.now a.src2.now c.loop-g.g (omega arith) c.loop-g.invariant.1 (sym c.repeats.ensures ∙ c.if-repeats.true); holds = (c.loop-g.invariant.2, omega arith) }
+pub loop-preserved : goal.loop-preserved
+loop-preserved c =
+    let f = c.args.names.now.files in
+    let i = c.loop.invariant in
+    let e = c.enter.ensures in
+    (e.files ∙ i.0, e.entered ∙ ap (λ (k : ℕ). k + 1) i.1, open_next f.one.tree.now f.one.source.now f.two.tree.now f.two.source.now c.loop.counter (omega arith) i.2 (sym (ap₂ (λ (x : Files) (k : ℕ). repeats (row_of x) k) i.0 i.1) ∙ c.in_ok-repeats.ensures))
 
--- src/lib.rt:112:9
-pub enter-requires : goal.enter-requires
-enter-requires c = (c.requires.0, omega arith, c.loop-g.invariant.2)
-
--- src/lib.rt:108:5
-pub loop-g-preserved : goal.loop-g-preserved
-loop-g-preserved c = let a = c.args in let S = c.requires.0 in (omega arith, open_next a.tree1.now a.src1.now a.tree2.now a.src2.now c.loop-g.g (omega arith) c.loop-g.invariant.1 (sym c.repeats.ensures ∙ c.if-repeats.false), rw c.enter.ensures (enters c.loop-g.work a.n a.buckets (row_at a.tree1.now a.src1.now a.tree2.now a.src2.now) c.loop-g.g (omega arith) c.loop-g.invariant.2), c.enter.auto.work ∙ c.loop-g.invariant.3)
-
--- src/lib.rt:94:1
-pub returns : goal.returns
-returns c = let a = c.args in let S = c.requires.0 in let R = row_at a.tree1.now a.src1.now a.tree2.now a.src2.now in record { result_value = ap (λ (k : ℕ). at_row R k c.loop-g.g) S.total ∙ open_end a.tree1.now a.src1.now a.tree2.now a.src2.now c.loop-g.g (omega arith) c.loop-g.invariant.1; holds = (c.loop-g.invariant.2, omega arith) }
+pub returns-clause-answer : goal.returns-clause-answer
+returns-clause-answer c =
+    let f = c.args.names.now.files in
+    λ rest. open_passed f.one.tree.now f.one.source.now f.two.tree.now f.two.source.now c.loop.counter (omega arith) c.loop.invariant.2 rest
