@@ -15,6 +15,7 @@ ghost use Rattle.refal5.specs.Words.{answer_words};
 
 use refal_ast::Answer;
 use refal_ast::answers::Refusal;
+use refal_link::{File, Files};
 
 // An answer's seven words.
 fn words(a: Answer) -> [u64; 7]
@@ -111,7 +112,17 @@ pub fn refal5_link<'a>(
     ensures told { answer.new ≡ answer_words (link_answer tree1.now src1.now tree2.now src2.now) }
     ensures left { work.new ≡ link_words work.old }
 {
-    *answer = words(refal_link::link(tree1, src1, tree2, src2, work));
+    let files = Files {
+        one: File {
+            tree: tree1,
+            source: src1,
+        },
+        two: File {
+            tree: tree2,
+            source: src2,
+        },
+    };
+    *answer = words_of(refal_link::link(&files, work));
 }
 
 // The normal form of a real's text: its digits, and in `form` its sign (0 plus, 1 minus), its power's sign (0 for zero or plus, 1

@@ -69,6 +69,7 @@ impl<'a> Files<'a> {
         requires { g < rows_of self.now }
         ensures { result.now ≡ text_of (row_of self.now g) }
     {
-        self.row(g).text()
+        let row = self.row(g);
+        refal_spelling::text(row.file.tree, row.file.source, row.number)
     }
 }

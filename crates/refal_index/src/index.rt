@@ -21,7 +21,7 @@ impl<'w> Index<'w> {
     ghost use Rattle.refal_files.specs.View.{rows_of, row_of};
     ghost use Rattle.refal_index.specs.Chain.{pushed};
     ghost use Rattle.refal_index.specs.Named.{Holds, with_row, answers_to, seen};
-    ghost use Rattle.refal_index.specs.View.{only_functions};
+    ghost use Rattle.refal_index.specs.View.{only_functions, Indexes};
 
     // An index of no row.
     pub fn new(words: &'w mut [u32], rows: usize, buckets: usize) -> Index<'w>
@@ -43,9 +43,8 @@ impl<'w> Index<'w> {
         ensures entered { self.new.words.now ≡ with_row self.old.words.now self.old.rows self.old.buckets (row_of files.now) g }
         ensures shape { (self.new.rows ≡ self.old.rows) × (self.new.buckets ≡ self.old.buckets) }
     {
-        let row = files.row(g);
-        if Bearers::All.contain(&row) {
-            self.push(row.text(), g);
+        if Bearers::All.contain(&files.row(g)) {
+            self.push(files.text(g), g);
         }
     }
 
@@ -62,14 +61,14 @@ impl<'w> Index<'w> {
 
     // Whether a row that is in bears the name: only the rows of the name's bucket are looked at.
     pub fn find(&self, files: &Files, bearers: Bearers, name: &[u8]) -> bool
-        requires { (rows_of files.now ≡ self.now.rows) × ((g : ℕ) × Holds self.now.words.now self.now.rows self.now.buckets (row_of files.now) g) }
-        ensures { (g : ℕ) → Holds self.now.words.now self.now.rows self.now.buckets (row_of files.now) g → result ≡ seen (λ i. answers_to (only_functions bearers) name.now (row_of files.now i)) g }
+        requires { (g : ℕ) × Indexes self.now files.now g }
+        ensures { (g : ℕ) → Indexes self.now files.now g → result ≡ seen (λ i. answers_to (only_functions bearers) name.now (row_of files.now i)) g }
     {
         let at = self.rows + bucket(name, self.buckets);
         let mut next = self.words[at] as usize;
         while 0 < next {
             let g = next - 1;
-            if bearers.bear(&files.row(g), name) {
+            if bearers.bear(files, g, name) {
                 return true;
             }
             next = self.words[g] as usize;

@@ -1,12 +1,12 @@
-// The rows of two trees that bear names, Functions and declared Names, looked up by a hash of the canonical name, over lent words: a link for each row,
-// then the heads of buckets. Without words, a search that answers the same.
+// The rows of two trees that bear names, Functions and declared Names, looked up by a hash of the canonical name, over lent
+// words: a link for each row, then the heads of buckets. Without words, a search that answers the same.
 #![tactic(auto)]
 
 mod index;
 
 ghost use Rattle.std.specs.Prelude.{◌≡◌, ℕ, ◌+◌, ◌≤◌, ◌<◌, length};
 ghost use Rattle.refal_ast.specs.KindCodes.{node_code};
-ghost use Rattle.refal_files.specs.View.{rows_of, placed_of};
+ghost use Rattle.refal_files.specs.View.{rows_of, row_of, placed_of};
 ghost use Rattle.refal_index.specs.Named.{bears, answers_to};
 ghost use Rattle.refal_index.specs.View.{only_functions, IndexesIf, indexes_if_prop};
 
@@ -39,12 +39,13 @@ impl Bearers {
         row.node().is_ok_and(|node| self.include(node.kind))
     }
 
-    // Whether the row bears the name.
+    // Whether row g bears the name.
     #[tactic(auto, unfolding(crate::specs::Named::answers_to))]
-    fn bear(self, row: &Row, name: &[u8]) -> bool
-        ensures { result ≡ answers_to (only_functions self) name.now (placed_of row.now) }
+    fn bear(self, files: &Files, g: usize, name: &[u8]) -> bool
+        requires { g < rows_of files.now }
+        ensures { result ≡ answers_to (only_functions self) name.now (row_of files.now g) }
     {
-        self.contain(row) && identifiers_equal(name, row.text())
+        self.contain(&files.row(g)) && identifiers_equal(name, files.text(g))
     }
 }
 
@@ -83,7 +84,7 @@ impl<'w, 'a> Names<'w, 'a> {
     {
         match &self.index {
             Some(index) => index.find(&self.files, bearers, name),
-            None => (0..self.entered).any(|g| bearers.bear(&self.files.row(g), name)),
+            None => (0..self.entered).any(|g| bearers.bear(&self.files, g, name)),
         }
     }
 

@@ -1,5 +1,5 @@
 -- The code's files and answers as Link.antt has them.
-use Rattle.std.specs.Prelude.{ℕ, Bool, List, [], ◌≡◌, refl, Result, Ok, Err}
+use Rattle.std.specs.Prelude.{ℕ, Bool, true, false, List, [], ◌≡◌, refl, Result, Ok, Err}
 use Rattle.refal_ast.specs.Told.{reason_code, refusal_told}
 use Rattle.refal_ast.specs.declared.Answer.{Answer}
 use Rattle.refal_ast.specs.declared.Answer.TheVariants.{Refused}
@@ -34,6 +34,11 @@ reason_or (Err reason) rest = refuse (reason_code reason)
 abbrev pub refused_or : Result Unit Told → Answer → Answer
 refused_or (Ok x) rest = rest
 refused_or (Err r) rest = Refused (refusal_told r)
+
+-- a fault of a row is refused, as it is shown; an answer says that there is none
+abbrev pub Tells : {T : Type 0} → Result T Told → Bool → Answer → Type 0
+Tells (Ok x) fault refused = fault ≡ false
+Tells (Err r) fault refused = (fault ≡ true) × (Refused (refusal_told r) ≡ refused)
 
 -- 60 comes before 61
 pub linked_is : (f : Files) → shown 60 (repeated [] (functions (rows f))) (resolved (rows f)) ≡ linked (rows f)

@@ -1,8 +1,8 @@
-// Linking: two files, each a tree with its source. No two functions of both may have equal names, and every call must name a function or a declared name
-// of either.
+// Linking: two files, each a tree with its source. No two functions of both may have equal names, and every call must name a
+// function or a declared name of either.
 #![tactic(auto)]
 
-ghost use Rattle.std.specs.Prelude.{◌≡◌, true, false, ℕ, ◌≤◌, ◌<◌, [], eqb, IfOk, MatchResult};
+ghost use Rattle.std.specs.Prelude.{◌≡◌, true, false, ℕ, ◌≤◌, ◌<◌, [], eqb, IfOk};
 ghost use Rattle.refal_text.specs.Pick.{pick};
 ghost use Rattle.refal_ast.specs.Kinds.{node_call};
 ghost use Rattle.refal_ast.specs.Answers.{refusal};
@@ -13,39 +13,38 @@ ghost use Rattle.refal_tree.specs.Lawful.{lawful};
 ghost use Rattle.refal_files.specs.View.{rows_of, row_of};
 ghost use Rattle.refal_link.specs.Link.{functions, repeated as first_repeated, shown, shown_at, resolved, linked, link_words};
 ghost use Rattle.refal_link.specs.LinkLaws.{repeats as is_repeated, bucket_count};
-ghost use Rattle.refal_link.specs.View.{rows, is_lost, answer_for, checked_file, reason_or, refused_or};
+ghost use Rattle.refal_link.specs.View.{rows, is_lost, answer_for, checked_file, reason_or, refused_or, Tells};
 
 use refal_ast::answers::{self, Found, Reason, Refusal, Span};
 use refal_ast::kinds::NodeKind;
 use refal_ast::nodes::Node;
-use refal_files::{File, Files};
+pub use refal_files::{File, Files};
 use refal_index::{Bearers, Names};
 
 // The refusal that shows a node of a file.
 fn refusal_at(reason: Reason, which: answers::File, node: &Node) -> Refusal
     ensures { refusal_told result ≡ refusal (reason_code reason) 0 (file_code which) node.now.from node.now.to 0 }
 {
+    let span = Span {
+        start: node.from as usize,
+        end: node.to as usize,
+    };
     Refusal {
-        reason,
-        expected: None,
         found: Some(Found::File(which)),
-        span: Span {
-            start: node.from as usize,
-            end: node.to as usize,
-        },
-        need: 0,
+        ..Refusal::at(reason, span)
     }
 }
 
 // Whether the next row is a function whose name an earlier one has.
 fn repeats(names: &Names) -> Result<(), Refusal>
     requires { names.now.entered < rows_of names.now.files }
-    ensures { MatchResult result (λ _. is_repeated (row_of names.now.files) names.now.entered ≡ false) (λ r. (is_repeated (row_of names.now.files) names.now.entered ≡ true) × (Refused (refusal_told r) ≡ shown_at 60 (row_of names.now.files names.now.entered))) }
+    ensures { Tells result (is_repeated (row_of names.now.files) names.now.entered) (shown_at 60 (row_of names.now.files names.now.entered)) }
 {
     let row = names.files.row(names.entered);
     match row.node() {
         Ok(node)
-            if node.kind == NodeKind::Function && names.known(Bearers::Functions, row.text()) => {
+            if node.kind == NodeKind::Function
+                && names.known(Bearers::Functions, names.files.text(names.entered)) => {
             Err(refusal_at(Reason::FunctionRepeated, row.which, &node))
         }
         _ => Ok(()),
@@ -69,12 +68,13 @@ fn repeated(names: &mut Names) -> Result<(), Refusal>
 // 1 for a call, whose name a row must bear; 0 for another row.
 fn call(names: &Names, g: usize) -> Result<usize, Refusal>
     requires { (names.now.entered ≡ rows_of names.now.files) × (g < rows_of names.now.files) }
-    ensures { MatchResult result (λ n. (is_lost names.now.files g ≡ false) × (n ≡ pick (eqb (row_of names.now.files g).node.kind node_call) 1 0) × (n ≤ 1)) (λ r. (is_lost names.now.files g ≡ true) × (Refused (refusal_told r) ≡ shown_at 61 (row_of names.now.files g))) }
+    ensures tells { Tells result (is_lost names.now.files g) (shown_at 61 (row_of names.now.files g)) }
+    ensures one { IfOk result (λ n. (n ≡ pick (eqb (row_of names.now.files g).node.kind node_call) 1 0) × (n ≤ 1)) }
 {
     let row = names.files.row(g);
     match row.node() {
         Ok(node) if node.kind == NodeKind::Call => {
-            if names.known(Bearers::All, row.text()) {
+            if names.known(Bearers::All, names.files.text(g)) {
                 Ok(1)
             } else {
                 Err(refusal_at(Reason::FunctionMissing, row.which, &node))
@@ -96,7 +96,8 @@ fn resolve(names: &Names) -> Result<usize, Refusal>
     Ok(found)
 }
 
-// How many buckets there are for n rows in so many words: one for eight rows, since few rows bear names, or fewer where the words end.
+// How many buckets there are for n rows in so many words: one for eight rows, since few rows bear names, or fewer where the
+// words end.
 fn bucket_count(n: usize, words: usize) -> usize
     requires { n < 4294967296 }
     ensures { result ≡ bucket_count n words }
@@ -138,8 +139,8 @@ fn answer(files: &Files, work: &mut [u32]) -> Result<usize, Refusal>
     link_rows(files, work)
 }
 
-// The number of calls of both files, all of which are resolved, or the first refusal. The answer does not depend on `work`, every word of which is 0
-// afterwards; with 2 words for each row of both trees the time is linear on average.
+// The number of calls of both files, all of which are resolved, or the first refusal. The answer does not depend on `work`, every
+// word of which is 0 afterwards; with 2 words for each row of both trees the time is linear on average.
 pub fn link(files: &Files, work: &mut [u32]) -> Result<usize, Refusal>
     ensures value { told result ≡ answer_for files.now }
     ensures work_after { work.new ≡ link_words work.old }

@@ -1,5 +1,5 @@
 -- `refal_link::answer` meets its contract.
-use Rattle.std.proofs.Common.{arith, sym, ◌∙◌}
+use Rattle.std.proofs.Common.{arith, ◌∙◌}
 use Rattle.std.proofs.lemmas.Result.{err_from_is_err_and}
 use Rattle.refal_link.specs.Link.{linked}
 use Rattle.refal_link.specs.LinkLaws.{lawful_length}

@@ -1,5 +1,5 @@
 -- `refal_link::link_rows` meets its contract.
-use Rattle.std.proofs.Common.{ap, sym, ◌∙◌}
+use Rattle.std.proofs.Common.{ap, ◌∙◌}
 use Rattle.std.proofs.lemmas.Result.{err_from_is_err_and}
 use Rattle.refal_files.specs.declared.Files.{Files}
 use Rattle.refal_link.specs.Link.{resolved, linked}

@@ -3,7 +3,6 @@ use Rattle.std.proofs.Common.{arith, refl, ap, ap₂, sym, ◌∙◌, ◌+◌, �
 use Rattle.std.proofs.lemmas.Result.{err_from_is_err_and}
 use Rattle.refal_files.specs.View.{row_of}
 use Rattle.refal_files.specs.declared.Files.{Files}
-use Rattle.refal_index.specs.Known.{EntersNext}
 use Rattle.refal_link.specs.Link.{shown_at}
 use Rattle.refal_link.specs.LinkLaws.{repeats, open_start, open_next, open_shown, open_passed}
 use Rattle.refal_link.proofs.repeated.Goals as goal

@@ -1,5 +1,5 @@
 -- `refal_index::index::hash` meets its contract.
-use Rattle.std.proofs.Common.{arith, ◌≡◌, ◌+◌, ◌*◌, ◌%◌, ap, sym, ◌∙◌, drop, ℕ}
+use Rattle.std.proofs.Common.{arith, ◌+◌, ◌*◌, ap, sym, ◌∙◌, drop, ℕ}
 use Rattle.std.proofs.Math.Nat.{mod-add-mod}
 use Rattle.refal_ast.specs.Names.{canonical_name}
 use Rattle.refal_index.specs.Hash.{hash_from, hash_step, hash_end}

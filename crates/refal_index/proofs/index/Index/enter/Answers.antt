@@ -1,6 +1,6 @@
 -- `refal_index::index::Index::enter` meets its contract.
 use Rattle.std.proofs.Common.{arith, sym, ap, ◌∙◌, false, List, ℕ}
-use Rattle.refal_files.specs.Files.{Placed, text_of}
+use Rattle.refal_files.specs.Files.{Placed}
 use Rattle.refal_files.specs.View.{row_of}
 use Rattle.refal_index.specs.Hash.{bucket_of}
 use Rattle.refal_index.specs.Chain.{pushed}
@@ -11,10 +11,10 @@ pub returns-then-contain-clause-entered : goal.returns-then-contain-clause-enter
 returns-then-contain-clause-entered c =
     let i = c.args.self.now in
     c.push.ensures.put
-    ∙ ap (λ (s : List ℕ). pushed i.words.now i.rows (bucket_of i.buckets s) c.args.g) (c.text.ensures ∙ ap text_of c.row-row.ensures)
-    ∙ named i.words.now i.rows i.buckets (row_of c.args.files.now) c.args.g (λ e. omega arith) (ap (λ (p : Placed). bears false p.node.kind) (sym c.row-row.ensures) ∙ sym c.contain.ensures ∙ c.if-contain.true)
+    ∙ ap (λ (s : List ℕ). pushed i.words.now i.rows (bucket_of i.buckets s) c.args.g) c.text.ensures
+    ∙ named i.words.now i.rows i.buckets (row_of c.args.files.now) c.args.g (λ e. omega arith) (ap (λ (p : Placed). bears false p.node.kind) (sym c.row.ensures) ∙ sym c.contain.ensures ∙ c.if-contain.true)
 
 pub returns-else-contain-clause-entered : goal.returns-else-contain-clause-entered
 returns-else-contain-clause-entered c =
     let i = c.args.self.now in
-    no_name i.words.now i.rows i.buckets (row_of c.args.files.now) c.args.g (ap (λ (p : Placed). bears false p.node.kind) (sym c.row-row.ensures) ∙ sym c.contain.ensures ∙ c.if-contain.false)
+    no_name i.words.now i.rows i.buckets (row_of c.args.files.now) c.args.g (ap (λ (p : Placed). bears false p.node.kind) (sym c.row.ensures) ∙ sym c.contain.ensures ∙ c.if-contain.false)

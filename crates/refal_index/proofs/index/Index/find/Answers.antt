@@ -12,14 +12,17 @@ loop-next-init c =
     let i = a.self.now in
     rw c.bucket.ensures.0 (find_start i.words.now i.rows i.buckets (row_of a.files.now) (only_functions a.bearers) a.name.now _ (omega arith) (rw (← c.bucket.ensures.0) c.bucket.ensures.1) c.requires.1.1)
 
-pub row-requires : goal.row-requires
-row-requires c = let L = walk_low _ _ _ _ _ _ c.loop-next.invariant in omega arith
+pub bear-requires : goal.bear-requires
+bear-requires c =
+    let S = c.requires.1.0 in
+    let L = walk_low _ _ _ _ _ _ c.loop-next.invariant in
+    omega arith
 
 pub returns-then-bear : goal.returns-then-bear
 returns-then-bear c =
     let a = c.args in
     let e : answers_to (only_functions a.bearers) a.name.now (row_of a.files.now (c.loop-next.next - 1)) ≡ true = cc in
-    λ g H. find_hit _ _ _ _ _ _ (c.loop-next.next - 1) c.loop-next.next _ (omega arith) e c.loop-next.invariant (omega arith) H
+    λ g H. find_hit _ _ _ _ _ _ (c.loop-next.next - 1) c.loop-next.next _ (omega arith) e c.loop-next.invariant (omega arith) H.1
 
 pub offset_bounds-self-g : goal.offset_bounds-self-g
 offset_bounds-self-g c = let L = walk_low _ _ _ _ _ _ c.loop-next.invariant in omega arith
@@ -40,4 +43,4 @@ loop-next-preserved c =
     (walk_next _ _ _ _ _ (c.loop-next.next - 1) c.loop-next.next (omega arith) e c.loop-next.invariant).0
 
 pub returns : goal.returns
-returns c = λ g H. find_end _ _ _ _ _ _ c.loop-next.next _ (omega arith) c.loop-next.invariant (omega arith) H
+returns c = λ g H. find_end _ _ _ _ _ _ c.loop-next.next _ (omega arith) c.loop-next.invariant (omega arith) H.1
