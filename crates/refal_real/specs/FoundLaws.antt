@@ -22,11 +22,11 @@ pub exponent_none : (s : Scale) → None ≡ exponent_of s → Over ≡ s
 exponent_none (By down by) e = let z : ◌≡◌ {A = ℕ} 0 1 = cc in absurd (omega arith)
 exponent_none Over e = refl
 
-pub exponent_some : (s : Scale) (e : ℤ) → Some e ≡ exponent_of s → (down : Bool) × (by : ℕ) × (By down by ≡ s) × (e ≡ signed_power down by)
+exponent_some : (s : Scale) (e : ℤ) → Some e ≡ exponent_of s → (down : Bool) × (by : ℕ) × (By down by ≡ s) × (e ≡ signed_power down by)
 exponent_some (By down by) e h = (down, by, refl, cc)
 exponent_some Over e h = let z : ◌≡◌ {A = ℕ} 0 1 = cc in absurd (omega arith)
 
-pub signed_abs : (down : Bool) (by : ℕ) → unsigned_abs (signed_power down by) ≡ by
+signed_abs : (down : Bool) (by : ℕ) → unsigned_abs (signed_power down by) ≡ by
 signed_abs true zero = refl
 signed_abs true (suc n) = refl
 signed_abs false by = refl
@@ -41,6 +41,10 @@ lowers : (down : Bool) (by : ℕ) → pick (int_lt (signed_power down by) (pos 0
 lowers true zero = refl
 lowers true (suc n) = refl
 lowers false by = rw (le-ltb by 0 (omega arith)) refl
+
+form_signed : (t : List ℕ) (p : Places) (down : Bool) (by : ℕ) → form_by t p (int_lt (signed_power down by) (pos 0)) (unsigned_abs (signed_power down by)) ≡ form_by t p down by
+form_signed t p down by =
+    ap₂ (λ (x y : ℕ). form (eqb (get_or t 0 0) 45) (less (trim (whole_at t p ++ fraction_in t p))) (x + trailing (whole_at t p ++ fraction_in t p)) (length (fraction_in t p) + y)) (raises down by) (lowers down by)
 
 -- ---- a form, from its digits
 -- a power that is u less d, by its sign and magnitude
@@ -129,20 +133,27 @@ module _ (t : List ℕ) (p : Places) (e : P.Real p ≡ spelled_of t) where
         go true q = (refl, cc, cc)
         go false q = let z : ◌≡◌ {A = ℕ} 0 1 = cc in absurd (omega arith)
 
-    pub by_small : by < 1000000000
+    by_small : by < 1000000000
     by_small =
         let b = by_is in
         omega (arith, b.2, num_less X, num_below (less X) (digits_less X (digits_exponent (drop p.to t))), tens_up (length (less X)) 9 (leb-true (length (less X)) 9 b.0), nine)
 
-    pub has_form_lem : has_form (form_by t p down by) ≡ outcome t
+    has_form_lem : has_form (form_by t p down by) ≡ outcome t
     unfolding outcome
     has_form_lem =
         let b = by_is in
         ap has_form (ap₂ (λ (x : Bool) (y : ℕ). form_by t p x y) b.1 b.2 ∙ sym (ap normal parts_are))
         ∙ sym (rw (real, ap (λ (q : Parts). leb (length (less q.exponent)) 9) parts_are ∙ b.0) refl)
 
-    -- its form by the exponent as one number
-    pub form_signed : (e : ℤ) → e ≡ signed_power down by → form_by t p (int_lt e (pos 0)) (unsigned_abs e) ≡ form_by t p down by
-    form_signed e h =
-        ap (λ (x : ℤ). form_by t p (int_lt x (pos 0)) (unsigned_abs x)) h
-        ∙ ap₂ (λ (x y : ℕ). form (eqb (get_or t 0 0) 45) (less (trim (whole_at t p ++ fraction_in t p))) (x + trailing (whole_at t p ++ fraction_in t p)) (length (fraction_in t p) + y)) (raises down by) (lowers down by)
+  -- the same by the exponent as one number
+  module _ (x : ℤ) (h : Some x ≡ exponent_of (scale_of (down_at (drop p.to t)) X)) where
+    pub exponent_small : unsigned_abs x < 1000000000
+    exponent_small =
+        let s = exponent_some (scale_of (down_at (drop p.to t)) X) x h in
+        let b = by_small s.0 s.1 s.2 in
+        rw (s.3, signed_abs s.0 s.1) b
+
+    pub has_form_signed : has_form (form_by t p (int_lt x (pos 0)) (unsigned_abs x)) ≡ outcome t
+    has_form_signed =
+        let s = exponent_some (scale_of (down_at (drop p.to t)) X) x h in
+        ap (λ (z : ℤ). has_form (form_by t p (int_lt z (pos 0)) (unsigned_abs z))) s.3 ∙ ap has_form (form_signed t p s.0 s.1) ∙ has_form_lem s.0 s.1 s.2

@@ -105,19 +105,16 @@ digits_exponent s = go (eqb (first s) 69)
     go true = digits_run (unsigned (drop 1 s))
     go false = tt
 
--- its digits, leading zeros aside, are s
-module _ (t : List ℕ) (at from : ℕ) (E : Exponent t at from) (s : List ℕ) (z : s ≡ less (slice from (length t) t)) where
-  digits_are : s ≡ less (exponent_digits (drop at t))
-  digits_are = z ∙ ap less E.digits
-
+-- s: its digits, leading zeros aside
+module _ (t : List ℕ) (at : ℕ) (s : List ℕ) (z : s ≡ less (exponent_digits (drop at t))) where
   pub scale_over : 9 < length s → Over ≡ scale_of (down_at (drop at t)) (exponent_digits (drop at t))
-  scale_over h = let l = ap length digits_are in rw (lt-leb (length (less (exponent_digits (drop at t)))) 9 (omega arith)) refl
+  scale_over h = let l = ap length z in rw (lt-leb (length (less (exponent_digits (drop at t)))) 9 (omega arith)) refl
 
-  pub scale_by : (by : ℕ) (down : Bool) → length s ≤ 9 → by ≡ num s → down ≡ eqb (get_or t (at + 1) 0) 45 → By down by ≡ scale_of (down_at (drop at t)) (exponent_digits (drop at t))
+  pub scale_by : (by : ℕ) (down : Bool) → length s ≤ 9 → by ≡ num s → down ≡ down_at (drop at t) → By down by ≡ scale_of (down_at (drop at t)) (exponent_digits (drop at t))
   scale_by by down h e d =
-      let l = ap length digits_are in
-      let n : by ≡ num (exponent_digits (drop at t)) = e ∙ ap num digits_are ∙ num_less (exponent_digits (drop at t)) in
-      rw (le-leb (length (less (exponent_digits (drop at t)))) 9 (omega arith)) (ap₂ By (d ∙ sym E.down) n)
+      let l = ap length z in
+      let n : by ≡ num (exponent_digits (drop at t)) = e ∙ ap num z ∙ num_less (exponent_digits (drop at t)) in
+      rw (le-leb (length (less (exponent_digits (drop at t)))) 9 (omega arith)) (ap₂ By d n)
 
   pub scale_digits : Digits s
-  scale_digits = rw digits_are (digits_less (exponent_digits (drop at t)) (digits_exponent (drop at t)))
+  scale_digits = rw z (digits_less (exponent_digits (drop at t)) (digits_exponent (drop at t)))

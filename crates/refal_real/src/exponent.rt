@@ -8,7 +8,7 @@ ghost use Rattle.refal_real.specs.Found.{scale_of};
 ghost use Rattle.refal_real.specs.Told.{exponent_of};
 
 use crate::digits::trim_start;
-use crate::places::past_sign;
+use refal_lexer::class;
 
 // How many digits an exponent has at most, leading zeros aside.
 const MOST_DIGITS: usize = 9;
@@ -34,11 +34,12 @@ pub fn exponent_at(text: &[u8], at: usize) -> Option<i64>
         return Some(0);
     }
     let mark = at + 1;
-    let digits = trim_start(&text[past_sign(text, mark)..]);
+    let sign = refal_text::byte(text, mark);
+    let digits = trim_start(&text[mark + usize::from(class::is_sign(sign))..]);
     if digits.len() > MOST_DIGITS {
         return None;
     }
     let by = i64::from(number(digits));
-    let down = refal_text::byte(text, mark) == b'-';
+    let down = sign == b'-';
     Some(if down { -by } else { by })
 }

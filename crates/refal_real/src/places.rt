@@ -1,6 +1,5 @@
 // Where the parts of a real's text stand.
-ghost use Rattle.std.specs.Prelude.{◌≡◌, true, ◌+◌, ◌≤◌, length, drop};
-ghost use Rattle.refal_lexer.specs.Numbers.{sign_bytes};
+ghost use Rattle.std.specs.Prelude.{◌≡◌};
 ghost use Rattle.refal_real.specs.Found.{spelled_of, Stands};
 ghost use Rattle.refal_real.specs.Told.{spelled_told};
 
@@ -15,14 +14,6 @@ pub struct Places {
     pub to: usize,
 }
 
-// Where what stands at `at` goes on behind its sign.
-pub fn past_sign(text: &[u8], at: usize) -> usize
-    requires { at ≤ length text.now }
-    ensures { (result ≡ at + sign_bytes true (drop at text.now)) × (at ≤ result) × (result ≤ length text.now) }
-{
-    at + usize::from(class::is_sign(refal_text::byte(text, at)))
-}
-
 // The places of a real that reading gives: a Number with a point or an E.
 pub fn locate(text: &[u8]) -> Option<Places>
     ensures { (spelled_told result ≡ spelled_of text.now) × Stands text.now (spelled_told result) }
@@ -30,7 +21,7 @@ pub fn locate(text: &[u8]) -> Option<Places>
     if limits::MOST_BYTES < text.len() {
         return None;
     }
-    let from = past_sign(text, 0);
+    let from = usize::from(class::is_sign(refal_text::byte(text, 0)));
     let whole = number::digits(text, from).end;
     if whole == from {
         return None;

@@ -1,11 +1,11 @@
 -- `refal_real::parse` meets its contract.
-use Rattle.std.proofs.Common.{rules, arith, ◌≡◌, Err, sym, ap, subst, ◌∙◌, Option, unsigned_abs, w64, SFits}
+use Rattle.std.proofs.Common.{rules, ◌≡◌, Err, sym, ap, subst, ◌∙◌, Option, w64, SFits}
 use Rattle.std.proofs.lemmas.Int.{to_z-of_z}
 use Rattle.refal_ast.specs.declared.answers.Reason.TheVariants as reason
 use Rattle.refal_real.specs.Real.{has_form}
 use Rattle.refal_real.specs.Found.{Stands}
 use Rattle.refal_real.specs.Told.{outcome_told, spelled_told}
-use Rattle.refal_real.specs.FoundLaws.{refused_64, refused_65, exponent_none, exponent_some, signed_abs, by_small, has_form_lem, form_signed}
+use Rattle.refal_real.specs.FoundLaws.{refused_64, refused_65, exponent_none, exponent_small, has_form_signed}
 use Rattle.refal_real.specs.declared.places.Places.{Places}
 use Rattle.refal_real.proofs.parse.Goals as goal
 
@@ -17,25 +17,21 @@ returns-in_err-p c =
 pub returns-in_err-exponent : goal.returns-in_err-exponent
 returns-in_err-exponent c =
     let q : c.from_residual-in_err-exponent.result ≡ Err reason.ExponentTooLong = search rules in
-    ap outcome_told q
-    ∙ refused_65 c.args.text.now c.in_ok-p.p (sym (ap spelled_told c.in_ok-p.ensures.ok_part) ∙ c.locate.ensures.0) (exponent_none _ (sym c.in_err-exponent.ensures.ok_part ∙ c.exponent_at.ensures))
+    let g = sym (ap spelled_told c.in_ok-p.ensures.ok_part) ∙ c.locate.ensures.0 in
+    ap outcome_told q ∙ refused_65 c.args.text.now c.in_ok-p.p g (exponent_none _ (sym c.in_err-exponent.ensures.ok_part ∙ c.exponent_at.ensures))
 
 pub found-requires : goal.found-requires
 found-requires c =
-    let t = c.args.text.now in
-    let e = c.in_ok-exponent.exponent in
-    let f : SFits w64 c.in_ok-exponent.exponent = search rules in
-    let x = exponent_some _ e (sym c.in_ok-exponent.ensures.ok_part ∙ c.exponent_at.ensures) in
-    let s = by_small t c.in_ok-p.p (sym (ap spelled_told c.in_ok-p.ensures.ok_part) ∙ c.locate.ensures.0) x.0 x.1 x.2 in
-    (subst (λ (r : Option Places). Stands t (spelled_told r)) c.in_ok-p.ensures.ok_part c.locate.ensures.1, rw (to_z-of_z w64 e f) (omega (arith, s, ap unsigned_abs x.3, signed_abs x.0 x.1)))
-
-pub returns : goal.returns
-returns c =
-    let t = c.args.text.now in
-    let p = c.in_ok-p.p in
     let e = c.in_ok-exponent.exponent in
     let f : SFits w64 c.in_ok-exponent.exponent = search rules in
     let g = sym (ap spelled_told c.in_ok-p.ensures.ok_part) ∙ c.locate.ensures.0 in
-    let x = exponent_some _ e (sym c.in_ok-exponent.ensures.ok_part ∙ c.exponent_at.ensures) in
+    let s = exponent_small c.args.text.now c.in_ok-p.p g e (sym c.in_ok-exponent.ensures.ok_part ∙ c.exponent_at.ensures) in
+    (subst (λ (r : Option Places). Stands c.args.text.now (spelled_told r)) c.in_ok-p.ensures.ok_part c.locate.ensures.1, rw (to_z-of_z w64 e f) s)
+
+pub returns : goal.returns
+returns c =
+    let e = c.in_ok-exponent.exponent in
+    let f : SFits w64 c.in_ok-exponent.exponent = search rules in
+    let g = sym (ap spelled_told c.in_ok-p.ensures.ok_part) ∙ c.locate.ensures.0 in
     let h = rw (to_z-of_z w64 e f) at c.found.ensures in
-    ap has_form (h ∙ form_signed t p g x.0 x.1 x.2 e x.3) ∙ has_form_lem t p g x.0 x.1 x.2
+    ap has_form h ∙ has_form_signed c.args.text.now c.in_ok-p.p g e (sym c.in_ok-exponent.ensures.ok_part ∙ c.exponent_at.ensures)

@@ -1,37 +1,45 @@
 -- `refal_real::exponent::exponent_at` meets its contract.
-use Rattle.std.proofs.Common.{arith, ◌≡◌, ap, sym, ◌∙◌, ◌+◌, pos, neg_ℤ, length, get_or, Some, eq-eqb, ne_eqb}
+use Rattle.std.proofs.Common.{arith, ◌≡◌, ap, sym, ◌∙◌, ℕ, ◌+◌, ◌-◌, ◌<◌, Bool, List, pos, neg_ℤ, eqb, length, take, drop, get_or, Some, eq-eqb, ne_eqb}
 use Rattle.std.proofs.lemmas.Slice.{between_is}
 use Rattle.std.proofs.lemmas.Int.{ints}
+use mir.Val.{bool_byte}
+use Rattle.refal_lexer.specs.Classes.{sign}
+use Rattle.refal_lexer.specs.Numbers.{exponent_at}
+use Rattle.refal_real.specs.Parts.{down_at, exponent_digits}
 use Rattle.refal_real.specs.Form.{less}
 use Rattle.refal_real.specs.Told.{exponent_of}
+use Rattle.refal_real.specs.PlacesLaws.{sign_long}
 use Rattle.refal_real.specs.PartLaws.{scale_none, exponent_is, scale_over, scale_by, scale_digits}
 use Rattle.refal_real.proofs.exponent.exponent_at.Goals as goal
+
+-- its digits and its sign, by the byte b behind its mark and by the number n of bytes of a sign there
+spelled : (t : List ℕ) (at b n : ℕ) (r : Bool) (s : List ℕ) → at < length t → (exponent_at at t).end ≡ length t → b ≡ get_or t (at + 1) 0 → r ≡ sign b → n ≡ bool_byte r
+    → s ≡ less (take (length t - (at + 1 + n)) (drop (at + 1 + n) t)) → (s ≡ less (exponent_digits (drop at t))) × (down_at (drop at t) ≡ eqb b 45)
+spelled t at b n r s h e eb er en es =
+    let E = exponent_is t at (at + 1 + n) h e (ap (λ (x : ℕ). at + 1 + x) (sign_long t (at + 1) b n r eb er en)) in
+    (es ∙ ap less (between_is t (at + 1 + n) (length t)) ∙ ap less E.digits, E.down ∙ ap (λ (x : ℕ). eqb x 45) (sym eb))
 
 pub returns-then-at-text : goal.returns-then-at-text
 returns-then-at-text c = ap exponent_of (scale_none c.args.text.now c.args.at c.if-at-text.true)
 
 pub returns-then-digits-gt-MOST_DIGITS : goal.returns-then-digits-gt-MOST_DIGITS
 returns-then-digits-gt-MOST_DIGITS c =
-    let t = c.args.text.now in
-    let E = exponent_is t c.args.at c.past_sign.result (omega (arith, c.if-at-text.false, c.requires.0)) c.requires.1 c.past_sign.ensures.0 in
-    ap exponent_of (scale_over t c.args.at c.past_sign.result E _ (c.trim_start-digits.ensures ∙ ap less (between_is t c.past_sign.result (length t))) c.if-digits-gt-MOST_DIGITS.true)
+    let p = spelled c.args.text.now c.args.at c.byte-sign.result c.from.result c.is_sign.result _ (omega (arith, c.if-at-text.false, c.requires.0)) c.requires.1 c.byte-sign.ensures c.is_sign.ensures c.from.ensures c.trim_start-digits.ensures in
+    ap exponent_of (scale_over c.args.text.now c.args.at _ p.0 c.if-digits-gt-MOST_DIGITS.true)
 
 pub number-requires : goal.number-requires
 number-requires c =
-    let t = c.args.text.now in
-    let E = exponent_is t c.args.at c.past_sign.result (omega (arith, c.if-at-text.false, c.requires.0)) c.requires.1 c.past_sign.ensures.0 in
-    (omega arith, scale_digits t c.args.at c.past_sign.result E _ (c.trim_start-digits.ensures ∙ ap less (between_is t c.past_sign.result (length t))))
+    let p = spelled c.args.text.now c.args.at c.byte-sign.result c.from.result c.is_sign.result _ (omega (arith, c.if-at-text.false, c.requires.0)) c.requires.1 c.byte-sign.ensures c.is_sign.ensures c.from.ensures c.trim_start-digits.ensures in
+    (omega arith, scale_digits c.args.text.now c.args.at _ p.0)
 
 pub returns-then-down : goal.returns-then-down
 returns-then-down c =
-    let t = c.args.text.now in
-    let E = exponent_is t c.args.at c.past_sign.result (omega (arith, c.if-at-text.false, c.requires.0)) c.requires.1 c.past_sign.ensures.0 in
+    let p = spelled c.args.text.now c.args.at c.byte-sign.result c.from.result c.is_sign.result _ (omega (arith, c.if-at-text.false, c.requires.0)) c.requires.1 c.byte-sign.ensures c.is_sign.ensures c.from.ensures c.trim_start-digits.ensures in
     ap Some (let k : _ ≡ neg_ℤ (pos c.number.result) = omega (arith, ints) in k)
-    ∙ ap exponent_of (scale_by t c.args.at c.past_sign.result E _ (c.trim_start-digits.ensures ∙ ap less (between_is t c.past_sign.result (length t))) c.number.result _ (omega arith) c.number.ensures (sym (eq-eqb (get_or t (c.args.at + 1) 0) 45 (sym c.byte-down.ensures ∙ c.if-down.true))))
+    ∙ ap exponent_of (scale_by c.args.text.now c.args.at _ p.0 c.number.result _ (omega arith) c.number.ensures (sym (p.1 ∙ eq-eqb c.byte-sign.result 45 c.if-down.true)))
 
 pub returns-else-down : goal.returns-else-down
 returns-else-down c =
-    let t = c.args.text.now in
-    let E = exponent_is t c.args.at c.past_sign.result (omega (arith, c.if-at-text.false, c.requires.0)) c.requires.1 c.past_sign.ensures.0 in
+    let p = spelled c.args.text.now c.args.at c.byte-sign.result c.from.result c.is_sign.result _ (omega (arith, c.if-at-text.false, c.requires.0)) c.requires.1 c.byte-sign.ensures c.is_sign.ensures c.from.ensures c.trim_start-digits.ensures in
     ap Some (let k : _ ≡ pos c.number.result = omega (arith, ints) in k)
-    ∙ ap exponent_of (scale_by t c.args.at c.past_sign.result E _ (c.trim_start-digits.ensures ∙ ap less (between_is t c.past_sign.result (length t))) c.number.result _ (omega arith) c.number.ensures (sym (ne_eqb (get_or t (c.args.at + 1) 0) 45 (λ q. c.if-down.false (c.byte-down.ensures ∙ q)))))
+    ∙ ap exponent_of (scale_by c.args.text.now c.args.at _ p.0 c.number.result _ (omega arith) c.number.ensures (sym (p.1 ∙ ne_eqb c.byte-sign.result 45 c.if-down.false)))

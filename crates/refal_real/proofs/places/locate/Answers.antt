@@ -3,23 +3,23 @@ use Rattle.std.proofs.Common.{arith, ◌≡◌, refl, ap, sym, ◌∙◌, length
 use Rattle.refal_lexer.specs.Numbers.{ends}
 use Rattle.refal_lexer.specs.Told.{part_told}
 use Rattle.refal_lexer.specs.declared.number.Part.{Part}
-use Rattle.refal_real.specs.PlacesLaws.{no_start, point_bare, e_bare, whole_alone, more_behind, a_real, starts_at, part_ok, part_err}
+use Rattle.refal_real.specs.PlacesLaws.{no_start, point_bare, e_bare, whole_alone, more_behind, a_real, sign_long, part_ok, part_err}
 use Rattle.refal_real.proofs.places.locate.Goals as goal
 use Rattle.refal_real.proofs.places.locate.Goals.{then-end-whole-via-then-end-whole, then-end-whole-via-else-end-whole+then-end-text}
 
 pub returns-then-whole-from : goal.returns-then-whole-from
-returns-then-whole-from c = (no_start c.args.text.now c.past_sign-from.result (starts_at c.args.text.now c.past_sign-from.result c.past_sign-from.ensures.0) (omega (arith, c.digits-whole.ensures.end, c.if-whole-from.true)), tt)
+returns-then-whole-from c = (no_start c.args.text.now c.from-from.result (sign_long c.args.text.now 0 c.byte.result c.from-from.result c.is_sign.result c.byte.ensures c.is_sign.ensures c.from-from.ensures) (omega (arith, c.digits-whole.ensures.end, c.if-whole-from.true)), tt)
 
 pub returns-in_err-to : goal.returns-in_err-to
-returns-in_err-to c = rw c.from_residual.ensures (point_bare c.args.text.now c.past_sign-from.result c.digits-whole.result.end (part_told c.fraction.result) (starts_at c.args.text.now c.past_sign-from.result c.past_sign-from.ensures.0) (omega (arith, c.digits-whole.ensures.end, c.if-whole-from.false)) c.digits-whole.ensures.end c.fraction.ensures.part (part_err c.fraction.result (sym c.ok.ensures.value ∙ c.in_err-to.was)), tt)
+returns-in_err-to c = rw c.from_residual.ensures (point_bare c.args.text.now c.from-from.result c.digits-whole.result.end (part_told c.fraction.result) (sign_long c.args.text.now 0 c.byte.result c.from-from.result c.is_sign.result c.byte.ensures c.is_sign.ensures c.from-from.ensures) (omega (arith, c.digits-whole.ensures.end, c.if-whole-from.false)) c.digits-whole.ensures.end c.fraction.ensures.part (part_err c.fraction.result (sym c.ok.ensures.value ∙ c.in_err-to.was)), tt)
 
 pub returns-in_err-end : goal.returns-in_err-end
-returns-in_err-end c = rw c.from_residual-in_err-end.ensures (e_bare c.args.text.now c.past_sign-from.result c.digits-whole.result.end (ends c.in_ok-to.to false) (starts_at c.args.text.now c.past_sign-from.result c.past_sign-from.ensures.0) (omega (arith, c.digits-whole.ensures.end, c.if-whole-from.false)) c.digits-whole.ensures.end (sym (part_ok c.fraction.result c.in_ok-to.to (sym c.ok.ensures.value ∙ c.in_ok-to.was)) ∙ c.fraction.ensures.part) (part_told c.power.result) refl c.power.ensures.part (part_err c.power.result (sym c.ok-2.ensures.value ∙ c.in_err-end.was)), tt)
+returns-in_err-end c = rw c.from_residual-in_err-end.ensures (e_bare c.args.text.now c.from-from.result c.digits-whole.result.end (ends c.in_ok-to.to false) (sign_long c.args.text.now 0 c.byte.result c.from-from.result c.is_sign.result c.byte.ensures c.is_sign.ensures c.from-from.ensures) (omega (arith, c.digits-whole.ensures.end, c.if-whole-from.false)) c.digits-whole.ensures.end (sym (part_ok c.fraction.result c.in_ok-to.to (sym c.ok.ensures.value ∙ c.in_ok-to.was)) ∙ c.fraction.ensures.part) (part_told c.power.result) refl c.power.ensures.part (part_err c.power.result (sym c.ok-2.ensures.value ∙ c.in_err-end.was)), tt)
 
 pub returns-then-end-whole : goal.returns-then-end-whole
 returns-then-end-whole c = elim c.then-end-whole.branch [
-  | then-end-whole-via-then-end-whole w ↦ (whole_alone c.args.text.now c.past_sign-from.result c.digits-whole.result.end (ends c.in_ok-to.to false) (starts_at c.args.text.now c.past_sign-from.result c.past_sign-from.ensures.0) (omega (arith, c.digits-whole.ensures.end, c.if-whole-from.false)) c.digits-whole.ensures.end (sym (part_ok c.fraction.result c.in_ok-to.to (sym c.ok.ensures.value ∙ c.in_ok-to.was)) ∙ c.fraction.ensures.part) (ends c.in_ok-end.end false) refl (sym (part_ok c.power.result c.in_ok-end.end (sym c.ok-2.ensures.value ∙ c.in_ok-end.was)) ∙ c.power.ensures.part) refl w.if-end-whole.true, tt)
-  | then-end-whole-via-else-end-whole+then-end-text w ↦ (more_behind c.args.text.now c.past_sign-from.result c.digits-whole.result.end (ends c.in_ok-to.to false) (starts_at c.args.text.now c.past_sign-from.result c.past_sign-from.ensures.0) (omega (arith, c.digits-whole.ensures.end, c.if-whole-from.false)) c.digits-whole.ensures.end (sym (part_ok c.fraction.result c.in_ok-to.to (sym c.ok.ensures.value ∙ c.in_ok-to.was)) ∙ c.fraction.ensures.part) (ends c.in_ok-end.end false) refl (sym (part_ok c.power.result c.in_ok-end.end (sym c.ok-2.ensures.value ∙ c.in_ok-end.was)) ∙ c.power.ensures.part) refl w.if-end-whole.false w.if-end-text.true, tt)
+  | then-end-whole-via-then-end-whole w ↦ (whole_alone c.args.text.now c.from-from.result c.digits-whole.result.end (ends c.in_ok-to.to false) (sign_long c.args.text.now 0 c.byte.result c.from-from.result c.is_sign.result c.byte.ensures c.is_sign.ensures c.from-from.ensures) (omega (arith, c.digits-whole.ensures.end, c.if-whole-from.false)) c.digits-whole.ensures.end (sym (part_ok c.fraction.result c.in_ok-to.to (sym c.ok.ensures.value ∙ c.in_ok-to.was)) ∙ c.fraction.ensures.part) (ends c.in_ok-end.end false) refl (sym (part_ok c.power.result c.in_ok-end.end (sym c.ok-2.ensures.value ∙ c.in_ok-end.was)) ∙ c.power.ensures.part) refl w.if-end-whole.true, tt)
+  | then-end-whole-via-else-end-whole+then-end-text w ↦ (more_behind c.args.text.now c.from-from.result c.digits-whole.result.end (ends c.in_ok-to.to false) (sign_long c.args.text.now 0 c.byte.result c.from-from.result c.is_sign.result c.byte.ensures c.is_sign.ensures c.from-from.ensures) (omega (arith, c.digits-whole.ensures.end, c.if-whole-from.false)) c.digits-whole.ensures.end (sym (part_ok c.fraction.result c.in_ok-to.to (sym c.ok.ensures.value ∙ c.in_ok-to.was)) ∙ c.fraction.ensures.part) (ends c.in_ok-end.end false) refl (sym (part_ok c.power.result c.in_ok-end.end (sym c.ok-2.ensures.value ∙ c.in_ok-end.was)) ∙ c.power.ensures.part) refl w.if-end-whole.false w.if-end-text.true, tt)
 ]
 
 pub returns : goal.returns
@@ -27,7 +27,7 @@ returns c =
     let f = ap (λ (x : Part). x.end) (part_ok c.fraction.result c.in_ok-to.to (sym c.ok.ensures.value ∙ c.in_ok-to.was)) in
     let g = ap (λ (x : Part). x.end) (part_ok c.power.result c.in_ok-end.end (sym c.ok-2.ensures.value ∙ c.in_ok-end.was)) in
     let z : c.in_ok-end.end ≡ length c.args.text.now = omega (arith, g, c.power.ensures.to, c.if-end-text.false) in (
-      a_real c.args.text.now c.past_sign-from.result c.digits-whole.result.end (ends c.in_ok-to.to false) (starts_at c.args.text.now c.past_sign-from.result c.past_sign-from.ensures.0) (omega (arith, c.digits-whole.ensures.end, c.if-whole-from.false)) c.digits-whole.ensures.end (sym (part_ok c.fraction.result c.in_ok-to.to (sym c.ok.ensures.value ∙ c.in_ok-to.was)) ∙ c.fraction.ensures.part) (ends c.in_ok-end.end false) refl (sym (part_ok c.power.result c.in_ok-end.end (sym c.ok-2.ensures.value ∙ c.in_ok-end.was)) ∙ c.power.ensures.part) refl c.if-end-whole.false c.if-end-text.false (omega arith) (omega (arith, c.if-text-gt-MOST_BYTES.false)),
+      a_real c.args.text.now c.from-from.result c.digits-whole.result.end (ends c.in_ok-to.to false) (sign_long c.args.text.now 0 c.byte.result c.from-from.result c.is_sign.result c.byte.ensures c.is_sign.ensures c.from-from.ensures) (omega (arith, c.digits-whole.ensures.end, c.if-whole-from.false)) c.digits-whole.ensures.end (sym (part_ok c.fraction.result c.in_ok-to.to (sym c.ok.ensures.value ∙ c.in_ok-to.was)) ∙ c.fraction.ensures.part) (ends c.in_ok-end.end false) refl (sym (part_ok c.power.result c.in_ok-end.end (sym c.ok-2.ensures.value ∙ c.in_ok-end.was)) ∙ c.power.ensures.part) refl c.if-end-whole.false c.if-end-text.false (omega arith) (omega (arith, c.if-text-gt-MOST_BYTES.false)),
       record {
         short = omega (arith, c.if-text-gt-MOST_BYTES.false);
         from = omega (arith, c.digits-whole.ensures.end);
