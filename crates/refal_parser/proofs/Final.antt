@@ -1,5 +1,5 @@
 -- From the program's answer to what `parse` answers and leaves.
-use mathlib.Core.Path.{◌≡◌, sym, ap, ◌∙◌}
+use mathlib.Core.Path.{◌≡◌, refl, sym, ap, ◌∙◌}
 use Prim.Native.Nat.{ℕ, ◌*◌, ◌≤◌, ◌<◌}
 use mathlib.Core.List.{List, ◌++◌}
 use mathlib.Core.Bool.{Bool, true, false}
@@ -15,11 +15,12 @@ use Rattle.refal_ast.specs.Tokens.{tokens_of}
 use Rattle.refal_ast.specs.Check.{well_formed}
 use Rattle.refal_ast.specs.Tree.{Program, p0, size_p}
 use Rattle.refal_ast.specs.Encode.{enc_p}
+use Rattle.refal_ast.specs.declared.Refusal.{Refusal}
 use Rattle.refal_ast.specs.declared.Answer.{Answer}
 use Rattle.refal_ast.specs.declared.Answer.TheVariants.{Done, Refused}
 use Rattle.refal_ast.specs.Limits.{most_levels}
 use Rattle.refal_parser.specs.Machine.{outside, Outcome, tree, refuse, run}
-use Rattle.refal_parser.specs.Parse.{pick_outcome, parsed, answer_of, rows_left, parse_answer, parse_rows}
+use Rattle.refal_parser.specs.Parse.{pick_outcome, parsed, answer_of, rows_left, fits, parse_answer, parse_rows}
 use Rattle.refal_parser.specs.Post.{runs}
 use Rattle.refal_parser.specs.Writers.{w_p}
 use Rattle.refal_parser.proofs.Rows.{writes_p}
@@ -32,9 +33,22 @@ pub parsed_good : (w : List ℕ) → well_formed w ≡ true → parsed w ≡ run
 unfolding parsed
 parsed_good w e = ap (λ (b : Bool). pick_outcome b (run most_levels (tokens_of w) p0 outside) (refuse 30 0 0 0 0)) e
 
-pub refused : (w B B' : List ℕ) (r : Answer) (a b c d e : ℕ) → parsed w ≡ refuse a b c d e → r ≡ Refused (refusal a b c d e 0) → B' ≡ replicate (length B) 0 →
-    (r ≡ parse_answer w B) × (B' ≡ parse_rows w B)
-refused w B B' r a b c d e h q k = (q ∙ sym (ap (λ (o : Outcome). answer_of o B) h), k ∙ sym (ap (λ (o : Outcome). rows_left o B) h))
+-- the answer, where the outcome is known
+pub answered : (w B : List ℕ) {o : Outcome} → parsed w ≡ o → answer_of o B ≡ parse_answer w B
+answered w B h = sym (ap (λ (o : Outcome). answer_of o B) h)
+
+-- a refusal leaves every word 0
+pub left_refused : (w B : List ℕ) (r : Refusal) → Refused r ≡ parse_answer w B → parse_rows w B ≡ replicate (length B) 0
+left_refused w B r e = by (parsed w) e
+  where
+    fit : (t : Program) (x : Bool) → Refused r ≡ pick_answer x (Done (size_p t)) (Refused (refusal 38 0 0 0 0 (size_p t))) →
+        pick_list x (enc_p t 0 ++ drop (node_width * size_p t) B) (replicate (length B) 0) ≡ replicate (length B) 0
+    fit t true e = cc
+    fit t false e = refl
+
+    by : (o : Outcome) → Refused r ≡ answer_of o B → rows_left o B ≡ replicate (length B) 0
+    by (refuse a b c d x) e = refl
+    by (tree t) e = fit t (fits t B) e
 
 -- the answer and the rows for a tree, by whether it fits
 fitted : (B : List ℕ) (t : Program) (b : Bool) → leb (node_width * size_p t) (length B) ≡ b →
@@ -50,11 +64,10 @@ pub done : (w B B' : List ℕ) (t : Program) (m : ℕ) → parsed w ≡ tree t �
 done w B B' t m h e l k r =
     let l' : node_width * size_p t ≤ length B = omega arith in
     let z = fitted B t true (le-leb (node_width * size_p t) (length B) l') in
-    (ap Done e ∙ sym (ap (λ (o : Outcome). answer_of o B) h ∙ z.0), r ∙ whole B (writes_p t 0) l' ∙ sym (ap (λ (o : Outcome). rows_left o B) h ∙ z.1))
+    (ap Done e ∙ sym z.0 ∙ answered w B h, r ∙ whole B (writes_p t 0) l' ∙ sym (ap (λ (o : Outcome). rows_left o B) h ∙ z.1))
 
-pub full : (w B B' : List ℕ) (r : Answer) (t : Program) (m : ℕ) → parsed w ≡ tree t → m ≡ size_p t → length B < node_width * m → r ≡ Refused (refusal 38 0 0 0 0 m) →
-    B' ≡ replicate (length B) 0 → (r ≡ parse_answer w B) × (B' ≡ parse_rows w B)
-full w B B' r t m h e l q k =
+pub full : (w B : List ℕ) (t : Program) (m : ℕ) → parsed w ≡ tree t → m ≡ size_p t → length B < node_width * m → Refused (refusal 38 0 0 0 0 m) ≡ parse_answer w B
+full w B t m h e l =
     let l' : length B < node_width * size_p t = omega arith in
     let z = fitted B t false (lt-leb (node_width * size_p t) (length B) l') in
-    (q ∙ ap (λ (x : ℕ). Refused (refusal 38 0 0 0 0 x)) e ∙ sym (ap (λ (o : Outcome). answer_of o B) h ∙ z.0), k ∙ sym (ap (λ (o : Outcome). rows_left o B) h ∙ z.1))
+    ap (λ (x : ℕ). Refused (refusal 38 0 0 0 0 x)) e ∙ sym z.0 ∙ answered w B h

@@ -9,21 +9,29 @@ use lib.ListN.{get_or}
 use lib.Dec.{eqb}
 use borrow.Author.Tests.{ne_eqb, eq-eqb, eqb-false}
 use Rattle.refal_ast.specs.Kinds.{tok_entry, tok_extern, tok_identifier, tok_l_brace, tok_r_brace, tok_comma, tok_equals, tok_semicolon, tok_eof}
+use Rattle.std.proofs.Common.{Result, Ok, Err, IsErrAnd}
+use Rattle.refal_rows.specs.Rows.{put_row}
+use Rattle.refal_ast.specs.KindCodes.{token_code}
+use Rattle.refal_ast.specs.Told.{reason_code, kind_told}
+use Rattle.refal_parser.specs.declared.answers.Place.{Place as ThePlace}
+use Rattle.refal_parser.specs.declared.answers.SyntaxError.{SyntaxError}
 use Rattle.refal_ast.specs.Tokens.{Token, token}
+use Rattle.refal_ast.specs.Nodes.{node_width, node_words}
+use Rattle.refal_ast.specs.Rows.{node_told}
+use Rattle.refal_ast.specs.declared.nodes.Node.{Node as TheNode}
 use Rattle.refal_ast.specs.Tree.{Terms, t0, End, Sentences, s0, b_all, Names, n_one, n_more, declaration, Program, p_more}
-use Rattle.refal_ast.specs.declared.tree.Term.{Term}
-use Rattle.refal_ast.specs.declared.tree.Term.TheVariants.{Symbol as the_symbol, Variable, Bracket, Call, UnknownVariable, NoTerm}
+use Rattle.refal_parser.specs.Begins.{Term, Symbol as the_symbol, Variable, Bracket, Call, UnknownVariable, NoTerm}
 use Rattle.refal_ast.specs.Limits.{most_levels}
 use Rattle.refal_parser.specs.Machine.{term_of, variable_of, Heading, Begun, Argument, Block, body, in_condition, in_ending, Place, pattern, argument, matching, result, ending, in_bracket, in_call}
 use Rattle.refal_parser.specs.Machine.{State, outside, wants_name, wants_more, named, entered, headed, between, within, calling, matched, conditioned, equated, blocked, ended}
 use Rattle.refal_parser.specs.Machine.{tree, refuse, Step, go, opens, expected, wants, among, closing, either, in_terms, at_terms, finished, left_off, leave, step, run}
 use Rattle.refal_parser.specs.Ready.{tok, term_at, after_from, after_to, Ready}
 use Rattle.refal_parser.specs.Post.{Cases, runs, Same, Refuses, leads, after, Joint}
+use Rattle.refal_parser.specs.Writers.{put_node}
 use Rattle.refal_parser.specs.PostTerms.{Closing}
 use Rattle.refal_parser.specs.PostBlock.{Opens}
 use Rattle.refal_parser.specs.PostItems.{heading}
-use Rattle.refal_parser.specs.declared.answers.Got.{Got}
-use Rattle.refal_parser.specs.declared.answers.Got.TheVariants.{At, No}
+use Rattle.refal_parser.specs.Got.{Got, At, No, error_told, got_told}
 use Rattle.refal_parser.proofs.TokenLaws.{rest_step, ready_next, from_next}
 
 -- ---- answers that are known
@@ -41,6 +49,16 @@ is_no {r} {P} {Q} {a} {b} {c} {d} {e} q p = record {
       subst (λ (x : ℕ). Q x b' c' d' x') u₁
       (subst (λ (x : ℕ). Q a x c' d' x') u₂ (subst (λ (x : ℕ). Q a b x d' x') u₃ (subst (λ (x : ℕ). Q a b c x x') u₄ (subst (λ (x : ℕ). Q a b c d x) u₅ p))));
 }
+
+-- what a `?` passes on
+pub passed : (r : Result ThePlace SyntaxError) (e : SyntaxError) {P : ℕ → ℕ → Type 0} {Q : ℕ → ℕ → ℕ → ℕ → ℕ → Type 0} → IsErrAnd r (λ x. x ≡ e) →
+    Q (reason_code e.reason) (kind_told e.expected) (token_code e.found) e.span.start e.span.end → Cases (got_told r) P Q
+passed (Ok p) e h q = absurd h
+passed (Err x) e {P} {Q} h q = subst (λ (y : SyntaxError). Cases (error_told y) P Q) (sym h) (is_no refl q)
+
+-- ---- rows that are put
+pub put_as : (B : List ℕ) {B' : List ℕ} (m : ℕ) (x : TheNode) {row : List ℕ} → B' ≡ put_row node_width B m (node_words (node_told x)) → node_words (node_told x) ≡ row → B' ≡ put_node B m row
+put_as B m x e f = e ∙ ap (λ (r : List ℕ). put_node B m r) f
 
 -- ---- what a token begins
 pub variable_none : (x s l : ℕ) → (x ≡ 115 → ⊥) → (x ≡ 116 → ⊥) → (x ≡ 101 → ⊥) → UnknownVariable ≡ variable_of x s l

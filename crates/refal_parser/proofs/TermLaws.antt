@@ -10,8 +10,7 @@ use Rattle.refal_ast.specs.Tree.{Leaf, symbol, variable, leaf, bracket, call, Te
 use Rattle.refal_ast.specs.Encode.{leaf_row}
 use Rattle.refal_parser.specs.Machine.{Place, State, Step, within, in_bracket, in_call, closing, either, in_terms, first_start, refuse}
 use Rattle.refal_parser.specs.Ready.{tok, term_at, after_from, after_to, end_before, Few, Ready}
-use Rattle.refal_ast.specs.declared.tree.Term.{Term}
-use Rattle.refal_ast.specs.declared.tree.Term.TheVariants.{Symbol as the_symbol, Variable, Bracket, Call, NoTerm}
+use Rattle.refal_parser.specs.Begins.{Term, Symbol as the_symbol, Variable, Bracket, Call, NoTerm}
 use Rattle.refal_parser.specs.Writers.{put_node, span_row, w_term, w_terms}
 use Rattle.refal_parser.specs.Post.{runs, Same, Refuses, after, Joint}
 use Rattle.refal_parser.specs.PostTerms.{TermsAt, TermsInv, Closing, ClosesAt, Ends, ClosedNo, UntilAt, TermGot, FollowsAt, Turns, ClauseAt, ClauseNo}

@@ -2,18 +2,27 @@
 use mathlib.Core.Path.{◌≡◌, refl, sym, ap, ◌∙◌}
 use Prim.Native.Nat.{ℕ, suc, ◌+◌, ◌-◌, ◌≤◌, ◌<◌}
 use mathlib.Core.List.{List, [], ◌∷◌}
-use mathlib.Core.Bool.{true, ◌&&◌, true≢false}
+use mathlib.Core.Bool.{true, false, not, ◌&&◌, true≢false}
 use native.Mathlib.Omega.{arith}
 use lib.ListN.{length, get_or, drop, length-drop}
 use lib.Seq.{drop-cons}
-use lib.Dec.{leb}
+use lib.Dec.{leb, eqb}
 use borrow.Author.Tests.{leb-true, eqb-true}
 use Rattle.refal_rows.specs.Tests.{and_left, and_right}
+use Rattle.std.proofs.Common.{rules, cond, Result, Ok, Err}
+use Rattle.std.specs.Prelude.{IsOk}
+use denote.Enum.Bare.{sameb, same_true, same_false, differs_true, differs_false}
+use Rattle.refal_ast.specs.contracts.kinds.TokenKind.{the_type}
 use Rattle.refal_ast.specs.Kinds.{tok_eof}
+use Rattle.refal_ast.specs.KindCodes.{token_code, DecodesToken}
 use Rattle.refal_ast.specs.Tokens.{Token, tokens_of}
+use Rattle.refal_ast.specs.declared.kinds.UnknownKind.{UnknownKind}
+use Rattle.refal_ast.specs.declared.kinds.TokenKind.{TokenKind}
+use Rattle.refal_ast.specs.declared.kinds.TokenKind.TheVariants as kind
+use Rattle.refal_ast.specs.declared.tokens.Token.{Token as TheToken}
 use Rattle.refal_ast.specs.Check.{good_token, ok_tokens}
 use Rattle.refal_parser.specs.Machine.{next_from, next_to}
-use Rattle.refal_parser.specs.Ready.{rest, tok, after_from, after_to, end_before, Ready}
+use Rattle.refal_parser.specs.Ready.{rest, tok, after_from, after_to, end_before, Ready, TokenAt}
 
 -- six words and what follows
 drop6 : (w : List ℕ) (at : ℕ) → at + 5 < length w →
@@ -85,6 +94,23 @@ ready w at e h = record { toks = e; room = omega (arith, ok_length (drop at w) e
 pub ready_next : (w : List ℕ) (at : ℕ) → Ready w at → (get_or w at 0 ≡ tok_eof → ⊥) → Ready w (at + 6)
 ready_next w at r n = ready w (at + 6) (ok_next (tok w at) (rest w (at + 6)) (ap ok_tokens (sym (rest_step w at r.room)) ∙ r.toks) n) r.short
 
+-- the kinds that such a token may have
+ok_kind : (t : Token) (ts : List Token) → ok_tokens (t ∷ ts) ≡ true → (1 ≤ t.kind) × (t.kind ≤ 17)
+unfolding ok_tokens
+ok_kind t [] e = let k = eqb-true t.kind tok_eof (and_left _ _ e) in (omega arith, omega arith)
+ok_kind t (u ∷ ts) e =
+    let g : good_token t ≡ true = and_left (good_token t) (ok_tokens (u ∷ ts)) e in
+    let r : leb 1 t.kind && leb t.kind 16 ≡ true = and_left _ _ g in
+    let l : 1 ≤ t.kind = leb-true 1 t.kind (and_left _ (leb t.kind 16) r) in
+    let h : t.kind ≤ 16 = leb-true t.kind 16 (and_right (leb 1 t.kind) _ r) in
+    (l, omega arith)
+
+pub known : (w : List ℕ) (at : ℕ) → Ready w at → (r : Result TokenKind UnknownKind) → DecodesToken (get_or w at 0) r → IsOk r
+known w at r (Ok k) d = search rules
+known w at r (Err e) d =
+    let k = ok_kind (tok w at) (rest w (at + 6)) (ap ok_tokens (sym (rest_step w at r.room)) ∙ r.toks) in
+    absurd (omega (arith, d.1 k.0, k.1))
+
 pub rest_eof : (w : List ℕ) (at : ℕ) → Ready w at → get_or w at 0 ≡ tok_eof → rest w (at + 6) ≡ []
 rest_eof w at r k = ok_eof (tok w at) (rest w (at + 6)) (ap ok_tokens (sym (rest_step w at r.room)) ∙ r.toks) k
 
@@ -100,6 +126,58 @@ from_eof w at r k = ap (λ (l : List Token). next_from (tok w at) l) (rest_eof w
 
 pub to_eof : (w : List ℕ) (at : ℕ) → Ready w at → get_or w at 0 ≡ tok_eof → after_to w at ≡ get_or w (at + 5) 0
 to_eof w at r k = ap (λ (l : List Token). next_to (tok w at) l) (rest_eof w at r k)
+
+-- ---- a token that was read
+-- the kind with a number
+kind_of : ℕ → TokenKind
+kind_of x =
+    cond (eqb x 1) kind.Entry (cond (eqb x 2) kind.Extern (cond (eqb x 3) kind.Identifier (cond (eqb x 4) kind.Variable (cond (eqb x 5) kind.Number
+    (cond (eqb x 6) kind.Char (cond (eqb x 7) kind.LBrace (cond (eqb x 8) kind.RBrace (cond (eqb x 9) kind.LParen (cond (eqb x 10) kind.RParen
+    (cond (eqb x 11) kind.LAngle (cond (eqb x 12) kind.RAngle (cond (eqb x 13) kind.Comma (cond (eqb x 14) kind.Colon (cond (eqb x 15) kind.Equals
+    (cond (eqb x 16) kind.Semicolon kind.Eof)))))))))))))))
+
+kind_back : (k : TokenKind) → kind_of (token_code k) ≡ k
+unfolding kind_of
+kind_back kind.Entry = refl
+kind_back kind.Extern = refl
+kind_back kind.Identifier = refl
+kind_back kind.Variable = refl
+kind_back kind.Number = refl
+kind_back kind.Char = refl
+kind_back kind.LBrace = refl
+kind_back kind.RBrace = refl
+kind_back kind.LParen = refl
+kind_back kind.RParen = refl
+kind_back kind.LAngle = refl
+kind_back kind.RAngle = refl
+kind_back kind.Comma = refl
+kind_back kind.Colon = refl
+kind_back kind.Equals = refl
+kind_back kind.Semicolon = refl
+kind_back kind.Eof = refl
+
+pub same_code : (k l : TokenKind) → token_code k ≡ token_code l → k ≡ l
+same_code k l e = sym (kind_back k) ∙ ap kind_of e ∙ kind_back l
+
+-- what `==` and `!=` say of two kinds
+pub same_kind : {k l : TokenKind} → true ≡ sameb the_type k l → k ≡ l
+same_kind {k} {l} e = same_true the_type (search rules) k l (sym e)
+
+pub other_kind : {k l : TokenKind} → false ≡ sameb the_type k l → k ≡ l → ⊥
+other_kind {k} {l} e = same_false the_type k l (sym e)
+
+pub alike_kind : {k l : TokenKind} → false ≡ not (sameb the_type k l) → k ≡ l
+alike_kind {k} {l} e = differs_false the_type (search rules) k l (sym e)
+
+pub unlike_kind : {k l : TokenKind} → true ≡ not (sameb the_type k l) → k ≡ l → ⊥
+unlike_kind {k} {l} e = differs_true the_type k l (sym e)
+
+-- it is of the kind k, or not
+pub is_kind : {w : List ℕ} {at : ℕ} {t : TheToken} {k : TokenKind} → TokenAt w at t → t.kind ≡ k → get_or w at 0 ≡ token_code k
+is_kind r e = sym r.kind ∙ ap token_code e
+
+pub not_kind : {w : List ℕ} {at : ℕ} {t : TheToken} {k : TokenKind} → TokenAt w at t → (t.kind ≡ k → ⊥) → get_or w at 0 ≡ token_code k → ⊥
+not_kind {w} {at} {t} {k} r n e = n (same_code t.kind k (r.kind ∙ e))
 
 -- the end of the token before
 pub end_before_lem : (w : List ℕ) (at : ℕ) → get_or w (at + 5) 0 ≡ end_before w (at + 6)

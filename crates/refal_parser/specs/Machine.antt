@@ -13,8 +13,7 @@ use Rattle.refal_ast.specs.Tree.{symbol, variable, Term as TreeTerm, leaf, brack
 use Rattle.refal_ast.specs.Tree.{End, e_terms, e_block, sentence, Sentences, s0, s_more, Sentence, Body, b_all, b_off, Names, n_one, n_more, Item, declaration, function, Program, p_more}
 use Rattle.refal_ast.specs.declared.tree.Symbol.TheVariants.{Char, Identifier, Number}
 use Rattle.refal_ast.specs.declared.tree.VariableKind.TheVariants.{Symbol as kind_s, Term as kind_t, Expression as kind_e}
-use Rattle.refal_ast.specs.declared.tree.Term.{Term}
-use Rattle.refal_ast.specs.declared.tree.Term.TheVariants.{Symbol as the_symbol, Variable, Bracket, Call, UnknownVariable, NoTerm}
+use Rattle.refal_parser.specs.Begins.{Term, Symbol as the_symbol, Variable, Bracket, Call, UnknownVariable, NoTerm}
 
 -- ---- what a token begins where a term may stand
 abbrev pub pick_term : Bool → Term → Term → Term

@@ -4,8 +4,7 @@ use Rattle.refal_ast.specs.Tree.{Program}
 use Rattle.refal_ast.specs.Limits.{most_levels}
 use Rattle.refal_parser.specs.Machine.{State, Outcome, refuse, Step, follow, run}
 use Rattle.refal_parser.specs.Ready.{rest, after_from, after_to}
-use Rattle.refal_parser.specs.declared.answers.Got.{Got}
-use Rattle.refal_parser.specs.declared.answers.Got.TheVariants.{At, No}
+use Rattle.refal_parser.specs.Got.{Got, At, No}
 
 -- what holds of an answer, by what it is
 pub record Cases (r : Got) (P : ℕ → ℕ → Type 0) (Q : ℕ → ℕ → ℕ → ℕ → ℕ → Type 0) : Type 0 where

@@ -7,7 +7,7 @@ use Rattle.refal_parser.specs.Machine.{Begun, Block, pattern, within, between, c
 use Rattle.refal_parser.specs.Ready.{tok, end_before, Few, Ready}
 use Rattle.refal_parser.specs.Writers.{put_node, sentence_row, w_condition, w_c, w_end, w_sentence, w_b}
 use Rattle.refal_parser.specs.Post.{Cases, runs, Same, Refuses, leads, after, Joint}
-use Rattle.refal_parser.specs.declared.answers.Got.{Got}
+use Rattle.refal_parser.specs.Got.{Got}
 
 abbrev pub CondNo : List ℕ → ℕ → ℕ → ℕ → ℕ → ℕ → ℕ → ℕ → Type 0
 CondNo w at left a b c d e = (q : Block) (r : Begun) → Refuses w at (conditioned left q r) a b c d e

@@ -7,7 +7,7 @@ use Rattle.refal_parser.specs.Machine.{Heading, function_of, outside, wants_name
 use Rattle.refal_parser.specs.Ready.{Few, Ready}
 use Rattle.refal_parser.specs.Writers.{put_node, name_row, w_item, w_n, w_b, w_p}
 use Rattle.refal_parser.specs.Post.{Cases, runs, Same, Refuses}
-use Rattle.refal_parser.specs.declared.answers.Got.{Got}
+use Rattle.refal_parser.specs.Got.{Got}
 
 -- ---- a declaration's name
 pub record NameAt (w B B' : List ℕ) (at n j m : ℕ) : Type 0 where

@@ -4,12 +4,12 @@ use Rattle.refal_ast.specs.Kinds.{tok_colon}
 use Rattle.refal_ast.specs.Limits.{most_levels}
 use Rattle.refal_ast.specs.Tokens.{Token}
 use Rattle.refal_ast.specs.Tree.{Term, Terms, t0, t_more, Program, size_term, size_t}
-use Rattle.refal_ast.specs.declared.tree.Term.TheVariants.{NoTerm}
+use Rattle.refal_parser.specs.Begins.{NoTerm}
 use Rattle.refal_parser.specs.Machine.{Argument, Place, State, within, Outcome, refuse, Step, expected, among, closing, only, either, start_term, end_term, first_start, last_end, asked, end_of, step}
 use Rattle.refal_parser.specs.Ready.{tok, term_at, after_from, after_to, end_before, Few, Ready}
 use Rattle.refal_parser.specs.Writers.{w_term, w_t, w_terms}
 use Rattle.refal_parser.specs.Post.{Cases, runs, Same, Refuses, after, Joint}
-use Rattle.refal_parser.specs.declared.answers.Got.{Got}
+use Rattle.refal_parser.specs.Got.{Got}
 
 -- ---- terms up to a token that begins none
 pub record TermsAt (w B B' : List ℕ) (at n left j m : ℕ) : Type 0 where

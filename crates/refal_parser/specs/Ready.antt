@@ -2,7 +2,9 @@
 use Rattle.std.specs.Prelude.{◌≡◌, ℕ, ◌+◌, ◌-◌, ◌≤◌, ◌<◌, List, true, length, get_or, drop}
 use Rattle.refal_ast.specs.Tokens.{Token, token, tokens_of}
 use Rattle.refal_ast.specs.Check.{ok_tokens}
-use Rattle.refal_ast.specs.declared.tree.Term.{Term}
+use Rattle.refal_ast.specs.KindCodes.{token_code}
+use Rattle.refal_ast.specs.declared.tokens.Token.{Token as TheToken}
+use Rattle.refal_parser.specs.Begins.{Term}
 use Rattle.refal_parser.specs.Machine.{next_from, next_to, term_of}
 
 -- the tokens from word i on
@@ -33,6 +35,15 @@ pub record Ready (w : List ℕ) (at : ℕ) : Type 0 where
   pub toks : ok_tokens (rest w at) ≡ true
   pub room : at + 5 < length w
   pub short : length w ≤ 100663302
+
+-- the token at the word, as it was read
+pub record TokenAt (w : List ℕ) (at : ℕ) (t : TheToken) : Type 0 where
+  pub kind : token_code t.kind ≡ get_or w at 0
+  pub detail : t.detail ≡ get_or w (at + 1) 0
+  pub start : t.start ≡ get_or w (at + 2) 0
+  pub len : t.len ≡ get_or w (at + 3) 0
+  pub from : t.from ≡ get_or w (at + 4) 0
+  pub to : t.to ≡ get_or w (at + 5) 0
 
 -- The next row is `row` and the next token stands at word `at`: no more rows are put than words of tokens stand before it, and `more` more. With Ready
 -- it bounds every row, so that sums and casts of rows are safe.

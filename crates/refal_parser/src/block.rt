@@ -2,102 +2,80 @@
 ghost use Rattle.std.specs.Prelude.{◌≡◌, get_or, ◌≤◌};
 ghost use Rattle.refal_ast.specs.Kinds.{tok_comma, tok_l_brace, tok_r_brace, tok_semicolon};
 ghost use Rattle.refal_parser.specs.Ready.{Few, Ready};
+ghost use Rattle.refal_parser.specs.Got.{got_told};
 ghost use Rattle.refal_parser.specs.Post.{Joint};
 ghost use Rattle.refal_parser.specs.PostBlock.{BlockPost, CondPost, EndingPost, SentencePost, sentence_end, sentence_put};
 
-use crate::answers::{Got, present};
-use crate::cursor::Cursor;
-use crate::nodes::{put_node, put_span};
+use crate::answers::{Place, SyntaxError, present};
+use crate::nodes;
 use crate::terms::{argument, clause, follows};
-use crate::tokens::{end_before, kind, span_from};
-use refal_ast::kinds::{node, token};
+use crate::tokens::{end_before, token};
+use refal_ast::answers::Reason;
+use refal_ast::kinds::{NodeKind, TokenKind};
+use refal_ast::tokens::WIDTH;
 
-// The condition whose comma is at the cursor, up to a comma or `=`; its row is the next one.
+// The condition whose comma is at the place, up to a comma or `=`.
 #[cycle(block_condition_ending_sentence)]
-fn condition(tokens: &[u32], rows: &mut [u32], cursor: Cursor) -> Got
-    requires { Ready tokens.now cursor.at × Few cursor.row cursor.at 2 × (get_or tokens.now cursor.at 0 ≡ tok_comma) }
-    ensures { CondPost tokens.now rows.old rows.new cursor.at cursor.row cursor.left result }
+fn condition(
+    tokens: &[u32],
+    rows: &mut [u32],
+    place: Place,
+    left: usize,
+) -> Result<Place, SyntaxError>
+    requires { Ready tokens.now place.at × Few place.row place.at 2 × (get_or tokens.now place.at 0 ≡ tok_comma) }
+    ensures { CondPost tokens.now rows.old rows.new place.at place.row left (got_told result) }
 {
-    let at = cursor.at;
-    let n = cursor.row;
-    let left = cursor.left;
-    let start = at + 6;
-    let from = span_from(tokens, start);
-    let first = n + 1;
-    let here = Cursor {
-        at: start,
-        row: first,
-        left,
+    let Place { at, row } = place;
+    let start = Place {
+        at: at + WIDTH,
+        row: row + 1,
     };
-    let r = argument(tokens, rows, here);
-    let Got::At(j, m) = r else {
-        return r;
-    };
-    if kind(tokens, j) == token::LBRACE {
-        let row = m + 1;
-        let r2 = block(tokens, rows, Cursor { at: j, row, left });
-        let Got::At(i, m2) = r2 else {
-            return r2;
+    let from = token(tokens, start.at).from;
+    let asked = argument(tokens, rows, start, left)?;
+    if let TokenKind::LBrace = token(tokens, asked.at).kind {
+        let inside = Place {
+            at: asked.at,
+            row: asked.row + 1,
         };
-        let to = end_before(tokens, i);
-        put_span(rows, m, node::CONDITION_BLOCK, from, to, m2);
-        put_span(rows, n, node::CONDITION, from, to, m2);
-        return follows(tokens, i, m2, false, token::COMMA, token::EQUALS);
+        let end = block(tokens, rows, inside, left)?;
+        let to = end_before(tokens, end.at);
+        nodes::spanned(NodeKind::ConditionBlock, from, to, end.row).put(rows, asked.row);
+        nodes::spanned(NodeKind::Condition, from, to, end.row).put(rows, row);
+        return follows(tokens, end, false, TokenKind::Comma, TokenKind::Equals);
     }
-    let right = Cursor {
-        at: j,
-        row: m,
-        left,
-    };
-    let r3 = clause(tokens, rows, right, token::COMMA, token::EQUALS);
-    let Got::At(i, m2) = r3 else {
-        return r3;
-    };
-    let to = end_before(tokens, i);
-    put_span(rows, n, node::CONDITION, from, to, m2);
-    Got::At(i, m2)
+    let (also, want) = (TokenKind::Comma, TokenKind::Equals);
+    let end = clause(tokens, rows, asked, left, also, want)?;
+    let to = end_before(tokens, end.at);
+    nodes::spanned(NodeKind::Condition, from, to, end.row).put(rows, row);
+    Ok(end)
 }
 
 // What stands after a sentence's `=`: terms, or a comma and an ending block; up to the `;`, or the `}` of the block that the
 // sentence stands in, where its `;` is left off.
 #[cycle(block_condition_ending_sentence)]
-fn ending(tokens: &[u32], rows: &mut [u32], cursor: Cursor) -> Got
-    requires { Ready tokens.now cursor.at × Few cursor.row cursor.at 0 }
-    ensures { EndingPost tokens.now rows.old rows.new cursor.at cursor.row cursor.left result }
+fn ending(tokens: &[u32], rows: &mut [u32], place: Place, left: usize) -> Result<Place, SyntaxError>
+    requires { Ready tokens.now place.at × Few place.row place.at 0 }
+    ensures { EndingPost tokens.now rows.old rows.new place.at place.row left (got_told result) }
 {
-    let at = cursor.at;
-    let n = cursor.row;
-    let left = cursor.left;
-    if kind(tokens, at) != token::COMMA {
-        return clause(tokens, rows, cursor, token::RBRACE, token::SEMICOLON);
-    }
-    let start = at + 6;
-    let from = span_from(tokens, start);
-    let first = n + 1;
-    let here = Cursor {
-        at: start,
-        row: first,
-        left,
+    let Place { at, row } = place;
+    let TokenKind::Comma = token(tokens, at).kind else {
+        let (also, want) = (TokenKind::RBrace, TokenKind::Semicolon);
+        return clause(tokens, rows, place, left, also, want);
     };
-    let r = argument(tokens, rows, here);
-    let Got::At(j, m) = r else {
-        return r;
+    let start = Place {
+        at: at + WIDTH,
+        row: row + 1,
     };
-    if kind(tokens, j) != token::LBRACE {
-        return present(tokens, j, 35, token::LBRACE);
-    }
-    let inside = Cursor {
-        at: j,
-        row: m,
-        left,
+    let from = token(tokens, start.at).from;
+    let asked = argument(tokens, rows, start, left)?;
+    let TokenKind::LBrace = token(tokens, asked.at).kind else {
+        let expected = Some(TokenKind::LBrace);
+        return Err(present(tokens, asked.at, Reason::OtherKind, expected));
     };
-    let r2 = block(tokens, rows, inside);
-    let Got::At(i, m2) = r2 else {
-        return r2;
-    };
-    let to = end_before(tokens, i);
-    put_span(rows, n, node::ENDING_BLOCK, from, to, m2);
-    follows(tokens, i, m2, false, token::RBRACE, token::SEMICOLON)
+    let end = block(tokens, rows, asked, left)?;
+    let to = end_before(tokens, end.at);
+    nodes::spanned(NodeKind::EndingBlock, from, to, end.row).put(rows, row);
+    follows(tokens, end, false, TokenKind::RBrace, TokenKind::Semicolon)
 }
 
 // The row of the sentence that begins at `at`, of which all but its `;` ends before the word `end`; the word after the sentence.
@@ -107,100 +85,87 @@ fn put_sentence(
     rows: &mut [u32],
     at: usize,
     end: usize,
-    n: usize,
-    m: usize,
+    row: usize,
+    next: usize,
 ) -> usize
-    requires { Ready tokens.now at × Ready tokens.now end × (1 ≤ end) × Joint tokens.now end tok_r_brace tok_semicolon × (n ≤ 1073741824) × (m ≤ 1073741824) }
+    requires { Ready tokens.now at × Ready tokens.now end × (1 ≤ end) × Joint tokens.now end tok_r_brace tok_semicolon × (row ≤ 1073741824) × (next ≤ 1073741824) }
     ensures next { result ≡ sentence_end tokens.now end }
-    ensures put { rows.new ≡ sentence_put tokens.now rows.old at end n m }
+    ensures put { rows.new ≡ sentence_put tokens.now rows.old at end row next }
 {
-    let from = span_from(tokens, at);
-    if kind(tokens, end) == token::RBRACE {
+    let from = token(tokens, at).from;
+    if let TokenKind::RBrace = token(tokens, end).kind {
         let to = end_before(tokens, end);
-        put_node(rows, n, node::SENTENCE, 1, 0, 0, from, to, m);
+        nodes::sentence(true, from, to, next).put(rows, row);
         return end;
     }
-    let next = end + 6;
-    let to = end_before(tokens, next);
-    put_node(rows, n, node::SENTENCE, 0, 0, 0, from, to, m);
-    next
+    let after = end + WIDTH;
+    let to = end_before(tokens, after);
+    nodes::sentence(false, from, to, next).put(rows, row);
+    after
 }
 
-// The sentence that begins at the cursor; its row is the next one.
+// The sentence that begins at the place.
 #[cycle(block_condition_ending_sentence)]
-fn sentence(tokens: &[u32], rows: &mut [u32], cursor: Cursor) -> Got
-    requires { Ready tokens.now cursor.at × Few cursor.row cursor.at 0 }
-    ensures { SentencePost tokens.now rows.old rows.new cursor.at cursor.row cursor.left result }
+fn sentence(
+    tokens: &[u32],
+    rows: &mut [u32],
+    start: Place,
+    left: usize,
+) -> Result<Place, SyntaxError>
+    requires { Ready tokens.now start.at × Few start.row start.at 0 }
+    ensures { SentencePost tokens.now rows.old rows.new start.at start.row left (got_told result) }
 {
-    let at = cursor.at;
-    let n = cursor.row;
-    let left = cursor.left;
-    let row = n + 1;
-    let start = Cursor { at, row, left };
-    let r = clause(tokens, rows, start, token::COMMA, token::EQUALS);
-    let Got::At(j, m) = r else {
-        return r;
-    };
-    let mut i = j;
-    let mut k = m;
-    while kind(tokens, i) == token::COMMA {
-        let here = Cursor {
-            at: i,
-            row: k,
-            left,
-        };
-        let r2 = condition(tokens, rows, here);
-        let Got::At(j2, m2) = r2 else {
-            return r2;
-        };
-        i = j2;
-        k = m2;
+    let Place { at, row } = start;
+    let pattern = Place { at, row: row + 1 };
+    let (also, want) = (TokenKind::Comma, TokenKind::Equals);
+    let mut place = clause(tokens, rows, pattern, left, also, want)?;
+    while let TokenKind::Comma = token(tokens, place.at).kind {
+        place = condition(tokens, rows, place, left)?;
     }
-    let after = i + 6;
-    let right = Cursor {
+    let right = Place {
+        at: place.at + WIDTH,
+        row: place.row,
+    };
+    let end = ending(tokens, rows, right, left)?;
+    let after = put_sentence(tokens, rows, at, end.at, row, end.row);
+    Ok(Place {
         at: after,
-        row: k,
-        left,
-    };
-    let r3 = ending(tokens, rows, right);
-    let Got::At(end, m3) = r3 else {
-        return r3;
-    };
-    let next = put_sentence(tokens, rows, at, end, n, m3);
-    Got::At(next, m3)
+        row: end.row,
+    })
 }
 
-// The sentences in the block whose `{` is at the cursor, with its `}`; this block's level is among those left.
+// The sentences in the block whose `{` is at the place, with its `}`; this block's level is among those left.
 #[cycle(block_condition_ending_sentence)]
-pub fn block(tokens: &[u32], rows: &mut [u32], cursor: Cursor) -> Got
-    requires { Ready tokens.now cursor.at × Few cursor.row cursor.at 4 × (get_or tokens.now cursor.at 0 ≡ tok_l_brace) }
-    ensures { BlockPost tokens.now rows.old rows.new cursor.at cursor.row cursor.left result }
+pub fn block(
+    tokens: &[u32],
+    rows: &mut [u32],
+    brace: Place,
+    left: usize,
+) -> Result<Place, SyntaxError>
+    requires { Ready tokens.now brace.at × Few brace.row brace.at 4 × (get_or tokens.now brace.at 0 ≡ tok_l_brace) }
+    ensures { BlockPost tokens.now rows.old rows.new brace.at brace.row left (got_told result) }
 {
-    let at = cursor.at;
-    let n = cursor.row;
-    let left = cursor.left;
+    let Place { at, row } = brace;
     if left == 0 {
-        return present(tokens, at, 37, 0);
+        return Err(present(tokens, at, Reason::TooDeep, None));
     }
-    let under = left - 1;
-    let mut i = at + 6;
-    let mut m = n;
-    while kind(tokens, i) != token::RBRACE {
-        if kind(tokens, i) == token::EOF {
-            return present(tokens, i, 35, token::RBRACE);
+    let mut place = Place {
+        at: at + WIDTH,
+        row,
+    };
+    loop {
+        match token(tokens, place.at).kind {
+            TokenKind::RBrace => {
+                return Ok(Place {
+                    at: place.at + WIDTH,
+                    row: place.row,
+                });
+            }
+            TokenKind::Eof => {
+                let expected = Some(TokenKind::RBrace);
+                return Err(present(tokens, place.at, Reason::OtherKind, expected));
+            }
+            _ => place = sentence(tokens, rows, place, left - 1)?,
         }
-        let here = Cursor {
-            at: i,
-            row: m,
-            left: under,
-        };
-        let r = sentence(tokens, rows, here);
-        let Got::At(j, m2) = r else {
-            return r;
-        };
-        i = j;
-        m = m2;
     }
-    let next = i + 6;
-    Got::At(next, m)
 }

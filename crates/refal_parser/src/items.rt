@@ -1,135 +1,132 @@
 // Items: declarations and functions; and the program.
 ghost use Rattle.std.specs.Prelude.{◌≡◌, get_or};
 ghost use Rattle.refal_ast.specs.Kinds.{tok_eof, tok_extern, tok_identifier, tok_semicolon};
+ghost use Rattle.refal_ast.specs.Encode.{entry_detail};
 ghost use Rattle.refal_parser.specs.Ready.{Few, Ready};
+ghost use Rattle.refal_parser.specs.Got.{got_told};
 ghost use Rattle.refal_parser.specs.PostItems.{FunctionPost, ItemPost, NamePost, ProgramPost};
 
-use crate::answers::{Got, present, taken};
+use crate::answers::{Place, SyntaxError, present, taken};
 use crate::block::block;
-use crate::cursor::Cursor;
-use crate::nodes::{put_node, put_span};
-use crate::tokens::{end_before, kind, span_from, text_len, text_start};
-use refal_ast::kinds::{node, token};
+use crate::nodes;
+use crate::tokens::{end_before, token};
+use refal_ast::answers::Reason;
+use refal_ast::kinds::{NodeKind, TokenKind};
 use refal_ast::limits;
+use refal_ast::tokens::WIDTH;
 
 // The levels of a function's own braces, which stand outside all that may be open at once.
 const BODY: usize = limits::MOST_LEVELS + 1;
 
-// A name of a declaration, at `at`; its row is row n.
-fn name(tokens: &[u32], rows: &mut [u32], at: usize, n: usize) -> Got
-    requires { Ready tokens.now at × Few n at 0 }
-    ensures { NamePost tokens.now rows.old rows.new at n result }
+// The name of a declaration at the place.
+fn name(tokens: &[u32], rows: &mut [u32], place: Place) -> Result<Place, SyntaxError>
+    requires { Ready tokens.now place.at × Few place.row place.at 0 }
+    ensures { NamePost tokens.now rows.old rows.new place.at place.row (got_told result) }
 {
-    if kind(tokens, at) != token::IDENTIFIER {
-        return taken(tokens, at, 31, token::IDENTIFIER);
-    }
-    let next = at + 6;
-    let row = n + 1;
-    let start = text_start(tokens, at);
-    let len = text_len(tokens, at);
-    put_node(rows, n, node::NAME, 0, start, len, 0, 0, row);
-    Got::At(next, row)
+    let Place { at, row } = place;
+    let name = token(tokens, at);
+    let TokenKind::Identifier = name.kind else {
+        let expected = Some(TokenKind::Identifier);
+        return Err(taken(tokens, at, Reason::DeclarationName, expected));
+    };
+    let end = Place {
+        at: at + WIDTH,
+        row: row + 1,
+    };
+    nodes::named(NodeKind::Name, name.start, name.len, 0, 0, end.row).put(rows, row);
+    Ok(end)
 }
 
-// The declaration whose Extern is at `at`; its row is row n.
-fn declaration(tokens: &[u32], rows: &mut [u32], at: usize, n: usize) -> Got
-    requires { Ready tokens.now at × Few n at 0 × (get_or tokens.now at 0 ≡ tok_extern) }
-    ensures { ItemPost tokens.now rows.old rows.new at n result }
+// The declaration whose Extern is at the place.
+fn declaration(tokens: &[u32], rows: &mut [u32], start: Place) -> Result<Place, SyntaxError>
+    requires { Ready tokens.now start.at × Few start.row start.at 0 × (get_or tokens.now start.at 0 ≡ tok_extern) }
+    ensures { ItemPost tokens.now rows.old rows.new start.at start.row (got_told result) }
 {
-    let first = at + 6;
-    let row = n + 1;
-    let r = name(tokens, rows, first, row);
-    let Got::At(j, m) = r else {
-        return r;
+    let Place { at, row } = start;
+    let first = Place {
+        at: at + WIDTH,
+        row: row + 1,
     };
-    let mut i = j;
-    let mut k = m;
-    while kind(tokens, i) == token::COMMA {
-        let more = i + 6;
-        let r2 = name(tokens, rows, more, k);
-        let Got::At(j2, m2) = r2 else {
-            return r2;
+    let mut place = name(tokens, rows, first)?;
+    while let TokenKind::Comma = token(tokens, place.at).kind {
+        let more = Place {
+            at: place.at + WIDTH,
+            row: place.row,
         };
-        i = j2;
-        k = m2;
+        place = name(tokens, rows, more)?;
     }
-    if kind(tokens, i) != token::SEMICOLON {
-        return present(tokens, i, 35, token::SEMICOLON);
-    }
-    let next = i + 6;
-    let from = span_from(tokens, at);
-    let to = end_before(tokens, next);
-    put_span(rows, n, node::DECLARATION, from, to, k);
-    Got::At(next, k)
+    let last = token(tokens, place.at);
+    let TokenKind::Semicolon = last.kind else {
+        let expected = Some(TokenKind::Semicolon);
+        return Err(present(tokens, place.at, Reason::OtherKind, expected));
+    };
+    let from = token(tokens, at).from;
+    nodes::spanned(NodeKind::Declaration, from, last.to, place.row).put(rows, row);
+    Ok(Place {
+        at: place.at + WIDTH,
+        row: place.row,
+    })
 }
 
-// The function that begins at `at`, whose name is at `name`; its row is row n.
-fn function(tokens: &[u32], rows: &mut [u32], at: usize, name: usize, n: usize, entry: u32) -> Got
-    requires { Ready tokens.now at × Ready tokens.now name × Few n name 0 × (get_or tokens.now name 0 ≡ tok_identifier) }
-    ensures { FunctionPost tokens.now rows.old rows.new at name n entry result }
+// The function that begins at the place, whose name is at `name`.
+fn function(
+    tokens: &[u32],
+    rows: &mut [u32],
+    place: Place,
+    name: usize,
+    entry: bool,
+) -> Result<Place, SyntaxError>
+    requires { Ready tokens.now place.at × Ready tokens.now name × Few place.row name 0 × (get_or tokens.now name 0 ≡ tok_identifier) }
+    ensures { FunctionPost tokens.now rows.old rows.new place.at name place.row (entry_detail entry) (got_told result) }
 {
-    let open = name + 6;
-    if kind(tokens, open) != token::LBRACE {
-        return present(tokens, open, 35, token::LBRACE);
-    }
-    let first = n + 1;
-    let body = Cursor {
-        at: open,
-        row: first,
-        left: BODY,
+    let Place { at, row } = place;
+    let open = Place {
+        at: name + WIDTH,
+        row: row + 1,
     };
-    let r = block(tokens, rows, body);
-    let Got::At(j, m) = r else {
-        return r;
+    let TokenKind::LBrace = token(tokens, open.at).kind else {
+        let expected = Some(TokenKind::LBrace);
+        return Err(present(tokens, open.at, Reason::OtherKind, expected));
     };
-    let start = text_start(tokens, name);
-    let len = text_len(tokens, name);
-    let from = span_from(tokens, at);
-    let to = end_before(tokens, j);
-    put_node(rows, n, node::FUNCTION, entry, start, len, from, to, m);
-    Got::At(j, m)
+    let end = block(tokens, rows, open, BODY)?;
+    let text = token(tokens, name);
+    let from = token(tokens, at).from;
+    let to = end_before(tokens, end.at);
+    nodes::function(entry, text.start, text.len, from, to, end.row).put(rows, row);
+    Ok(end)
 }
 
-// The item that begins at `at`; its row is row n.
-fn item(tokens: &[u32], rows: &mut [u32], at: usize, n: usize) -> Got
-    requires { Ready tokens.now at × Few n at 0 × (get_or tokens.now at 0 ≡ tok_eof → ⊥) × (get_or tokens.now at 0 ≡ tok_semicolon → ⊥) }
-    ensures { ItemPost tokens.now rows.old rows.new at n result }
+// The item that begins at the place.
+fn item(tokens: &[u32], rows: &mut [u32], place: Place) -> Result<Place, SyntaxError>
+    requires { Ready tokens.now place.at × Few place.row place.at 0 × (get_or tokens.now place.at 0 ≡ tok_eof → ⊥) × (get_or tokens.now place.at 0 ≡ tok_semicolon → ⊥) }
+    ensures { ItemPost tokens.now rows.old rows.new place.at place.row (got_told result) }
 {
-    let k = kind(tokens, at);
-    if k == token::EXTERN {
-        return declaration(tokens, rows, at, n);
+    let expected = Some(TokenKind::Identifier);
+    match token(tokens, place.at).kind {
+        TokenKind::Extern => declaration(tokens, rows, place),
+        TokenKind::Identifier => function(tokens, rows, place, place.at, false),
+        TokenKind::Entry => {
+            let name = place.at + WIDTH;
+            match token(tokens, name).kind {
+                TokenKind::Identifier => function(tokens, rows, place, name, true),
+                _ => Err(taken(tokens, name, Reason::ItemName, expected)),
+            }
+        }
+        _ => Err(taken(tokens, place.at, Reason::ItemName, expected)),
     }
-    if k == token::IDENTIFIER {
-        return function(tokens, rows, at, at, n, 0);
-    }
-    if k != token::ENTRY {
-        return taken(tokens, at, 32, token::IDENTIFIER);
-    }
-    let name = at + 6;
-    if kind(tokens, name) != token::IDENTIFIER {
-        return taken(tokens, name, 32, token::IDENTIFIER);
-    }
-    function(tokens, rows, at, name, n, 1)
 }
 
 // The items, up to the Eof; semicolons outside items are passed over.
-pub fn program(tokens: &[u32], rows: &mut [u32]) -> Got
+pub fn program(tokens: &[u32], rows: &mut [u32]) -> Result<Place, SyntaxError>
     requires { Ready tokens.now 0 }
-    ensures { ProgramPost tokens.now rows.old rows.new result }
+    ensures { ProgramPost tokens.now rows.old rows.new (got_told result) }
 {
-    let mut i = 0;
-    let mut m = 0;
-    while kind(tokens, i) != token::EOF {
-        if kind(tokens, i) == token::SEMICOLON {
-            i += 6;
-        } else {
-            let r = item(tokens, rows, i, m);
-            let Got::At(j, m2) = r else {
-                return r;
-            };
-            i = j;
-            m = m2;
+    let mut place = Place { at: 0, row: 0 };
+    loop {
+        match token(tokens, place.at).kind {
+            TokenKind::Eof => return Ok(place),
+            TokenKind::Semicolon => place.at += WIDTH,
+            _ => place = item(tokens, rows, place)?,
         }
     }
-    Got::At(i, m)
 }

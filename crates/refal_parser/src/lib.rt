@@ -1,57 +1,46 @@
 // The parser: token rows to node rows.
 #![tactic(auto)]
 
-ghost use Rattle.std.specs.Prelude.{◌≡◌};
-ghost use Rattle.refal_ast.specs.Answers.{refusal};
-ghost use Rattle.refal_ast.specs.declared.Answer.TheVariants.{Refused};
+ghost use Rattle.std.specs.Prelude.{◌≡◌, OnOk};
+ghost use Rattle.refal_ast.specs.Told.{told};
 ghost use Rattle.refal_parser.specs.Parse.{parse_answer, parse_rows};
 
 mod answers;
 mod block;
 mod check;
-mod cursor;
 mod items;
 mod nodes;
 mod terms;
 mod tokens;
 
-use answers::Got;
-use refal_ast::{Answer, Refusal};
+use refal_ast::answers::{Reason, Refusal};
+use refal_ast::nodes::WIDTH;
 
-fn refused(number: u32, expected: u32, found: u32, start: u32, end: u32, need: usize) -> Answer
-    ensures { result ≡ Refused (refusal number expected found start end need) }
+// How many rows the tree of the tokens has, which are put where they fit.
+fn tree(tokens: &[u32], rows: &mut [u32]) -> Result<usize, Refusal>
+    ensures answer { told result ≡ parse_answer tokens.now rows.old }
+    ensures left { OnOk result (rows.new ≡ parse_rows tokens.now rows.old) }
 {
-    Answer::Refused(Refusal {
-        number,
-        expected,
-        found,
-        start: start as usize,
-        end: end as usize,
-        need,
-    })
+    if !check::check(tokens) {
+        return Err(Refusal::from(Reason::NoTokenRows));
+    }
+    let nodes = items::program(tokens, rows)?.row;
+    let words = WIDTH * nodes;
+    if words <= rows.len() {
+        Ok(nodes)
+    } else {
+        Err(Refusal::needing(Reason::NodeRowsShort, nodes))
+    }
 }
 
 // The tree of the tokens, put into the rows parent first; or the refusal, and every word 0.
-pub fn parse(tokens: &[u32], rows: &mut [u32]) -> Answer
-    ensures answer { result ≡ parse_answer tokens.now rows.old }
+pub fn parse(tokens: &[u32], rows: &mut [u32]) -> Result<usize, Refusal>
+    ensures answer { told result ≡ parse_answer tokens.now rows.old }
     ensures left { rows.new ≡ parse_rows tokens.now rows.old }
 {
-    if !check::check(tokens) {
-        refal_rows::clear(rows);
-        return refused(30, 0, 0, 0, 0, 0);
+    let answer = tree(tokens, rows);
+    if answer.is_err() {
+        rows.fill(0);
     }
-    match items::program(tokens, rows) {
-        Got::No(number, expected, found, start, end) => {
-            refal_rows::clear(rows);
-            refused(number, expected, found, start, end, 0)
-        }
-        Got::At(_, m) => {
-            let words = refal_ast::nodes::WIDTH * m;
-            if words <= rows.len() {
-                return Answer::Done(m);
-            }
-            refal_rows::clear(rows);
-            refused(38, 0, 0, 0, 0, m)
-        }
-    }
+    answer
 }

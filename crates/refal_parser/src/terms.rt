@@ -1,273 +1,220 @@
 // Terms, brackets and calls; and what follows terms.
 ghost use Rattle.std.specs.Prelude.{◌≡◌, ◌≤◌};
-ghost use Rattle.refal_ast.specs.declared.tree.Term.TheVariants.{Bracket, Call};
-ghost use Rattle.refal_parser.specs.Machine.{term_of, variable_of};
+ghost use Rattle.refal_ast.specs.KindCodes.{token_code};
+ghost use Rattle.refal_parser.specs.Begins.{term_told, Bracket, Call};
+ghost use Rattle.refal_parser.specs.Machine.{term_of};
 ghost use Rattle.refal_parser.specs.Ready.{Few, Ready, term_at};
+ghost use Rattle.refal_parser.specs.Got.{got_told};
 ghost use Rattle.refal_parser.specs.PostTerms.{ArgumentPost, ClausePost, ClosesPost, FollowsPost, TermPost, TermsPost, UntilPost};
 
-use crate::answers::{Got, present, taken};
-use crate::cursor::Cursor;
-use crate::nodes::{put_node, put_span, put_symbol, put_terms, put_variable};
-use crate::tokens::{detail, end_before, kind, span_from, span_to, text_len, text_start};
-use refal_ast::kinds::{node, token};
-use refal_ast::tree::{Symbol, Term, VariableKind};
-
-fn variable_of(letter: u32, start: u32, len: u32) -> Term
-    ensures { result ≡ variable_of letter start len }
-{
-    match letter {
-        115 => Term::Variable {
-            kind: VariableKind::Symbol,
-            start,
-            len,
-        },
-        116 => Term::Variable {
-            kind: VariableKind::Term,
-            start,
-            len,
-        },
-        101 => Term::Variable {
-            kind: VariableKind::Expression,
-            start,
-            len,
-        },
-        _ => Term::UnknownVariable,
-    }
-}
+use crate::answers::{Place, SyntaxError, present, taken};
+use crate::nodes;
+use crate::tokens::{end_before, token};
+use refal_ast::answers::Reason;
+use refal_ast::kinds::{NodeKind, TokenKind};
+use refal_ast::tokens::{Token, WIDTH};
+use refal_ast::tree::{Symbol, Term, UnknownLetter, VariableKind};
 
 // What a token begins where a term may stand.
-fn term_of(kind: u32, detail: u32, start: u32, len: u32) -> Term
-    ensures { result ≡ term_of kind detail start len }
+fn term_of(token: Token) -> Result<Option<Term>, UnknownLetter>
+    ensures { term_told result ≡ term_of (token_code token.kind) token.detail token.start token.len }
 {
+    let Token {
+        detail,
+        start,
+        len,
+        ..
+    } = token;
+    match token.kind {
+        TokenKind::Identifier => Ok(Some(Term::Symbol(Symbol::Identifier { start, len }))),
+        TokenKind::Variable => {
+            let kind = VariableKind::try_from(detail)?;
+            Ok(Some(Term::Variable { kind, start, len }))
+        }
+        TokenKind::Number => Ok(Some(Term::Symbol(Symbol::Number { start, len }))),
+        TokenKind::Char => Ok(Some(Term::Symbol(Symbol::Char(detail)))),
+        TokenKind::LParen => Ok(Some(Term::Bracket)),
+        TokenKind::LAngle => Ok(Some(Term::Call)),
+        _ => Ok(None),
+    }
+}
+
+// The kind that closes terms, where no term begins: Eof there is 35, another kind 34.
+fn closes(tokens: &[u32], place: Place, want: TokenKind) -> Result<Place, SyntaxError>
+    requires { Ready tokens.now place.at × (token_code want ≤ 16) }
+    ensures { ClosesPost tokens.now place.at place.row (token_code want) (got_told result) }
+{
+    let Place { at, row } = place;
+    let kind = token(tokens, at).kind;
+    if kind == want {
+        return Ok(Place {
+            at: at + WIDTH,
+            row,
+        });
+    }
     match kind {
-        token::IDENTIFIER => Term::Symbol(Symbol::Identifier { start, len }),
-        token::VARIABLE => variable_of(detail, start, len),
-        token::NUMBER => Term::Symbol(Symbol::Number { start, len }),
-        token::CHAR => Term::Symbol(Symbol::Char(detail)),
-        token::LPAREN => Term::Bracket,
-        token::LANGLE => Term::Call,
-        _ => Term::NoTerm,
+        TokenKind::Eof => Err(present(tokens, at, Reason::OtherKind, Some(want))),
+        _ => Err(taken(tokens, at, Reason::NoTerm, None)),
     }
 }
 
-fn term_at(tokens: &[u32], at: usize) -> Term
-    requires { Ready tokens.now at }
-    ensures { result ≡ term_at tokens.now at }
-{
-    term_of(
-        kind(tokens, at),
-        detail(tokens, at),
-        text_start(tokens, at),
-        text_len(tokens, at),
-    )
-}
-
-// The kind that closes terms, at the token at `at`, which begins none: Eof there is 35, another kind 34.
-fn closes(tokens: &[u32], at: usize, m: usize, want: u32) -> Got
-    requires { Ready tokens.now at × (want ≤ 16) }
-    ensures { ClosesPost tokens.now at m want result }
-{
-    let k = kind(tokens, at);
-    if k == want {
-        return Got::At(at + 6, m);
-    }
-    if k == token::EOF {
-        return present(tokens, at, 35, want);
-    }
-    taken(tokens, at, 34, 0)
-}
-
-// Terms from the cursor on, up to a token that begins none.
+// Terms from the place on, up to a token that begins none.
 #[cycle(bracket_call_terms_until)]
-fn terms(tokens: &[u32], rows: &mut [u32], cursor: Cursor) -> Got
-    requires { Ready tokens.now cursor.at × Few cursor.row cursor.at 2 }
-    ensures { TermsPost tokens.now rows.old rows.new cursor.at cursor.row cursor.left result }
+fn terms(tokens: &[u32], rows: &mut [u32], start: Place, left: usize) -> Result<Place, SyntaxError>
+    requires { Ready tokens.now start.at × Few start.row start.at 2 }
+    ensures { TermsPost tokens.now rows.old rows.new start.at start.row left (got_told result) }
 {
-    let at = cursor.at;
-    let n = cursor.row;
-    let left = cursor.left;
-    let mut i = at;
-    let mut m = n;
+    let mut place = start;
     loop {
-        let here = Cursor {
-            at: i,
-            row: m,
-            left,
-        };
-        let t = term_at(tokens, i);
-        match t {
-            Term::Symbol(s) => {
-                let from = span_from(tokens, i);
-                let to = span_to(tokens, i);
-                put_symbol(rows, m, s, from, to);
-                i += 6;
-                m += 1;
-            }
-            Term::Variable { kind, start, len } => {
-                let from = span_from(tokens, i);
-                let to = span_to(tokens, i);
-                put_variable(rows, m, kind, start, len, from, to);
-                i += 6;
-                m += 1;
-            }
-            Term::Bracket => {
-                let r = bracket(tokens, rows, here);
-                let Got::At(j, m2) = r else {
-                    return r;
+        let first = token(tokens, place.at);
+        match term_of(first) {
+            Ok(Some(Term::Symbol(symbol))) => {
+                let next = place.row + 1;
+                nodes::symbol(symbol, first.from, first.to, next).put(rows, place.row);
+                place = Place {
+                    at: place.at + WIDTH,
+                    row: next,
                 };
-                i = j;
-                m = m2;
             }
-            Term::Call => {
-                let r2 = call(tokens, rows, here);
-                let Got::At(j, m2) = r2 else {
-                    return r2;
+            Ok(Some(Term::Variable { kind, start, len })) => {
+                let next = place.row + 1;
+                nodes::variable(kind, start, len, first.from, first.to, next).put(rows, place.row);
+                place = Place {
+                    at: place.at + WIDTH,
+                    row: next,
                 };
-                i = j;
-                m = m2;
             }
-            Term::UnknownVariable => {
-                return taken(tokens, i, 36, 0);
-            }
-            Term::NoTerm => {
-                break;
-            }
+            Ok(Some(Term::Bracket)) => place = bracket(tokens, rows, place, left)?,
+            Ok(Some(Term::Call)) => place = call(tokens, rows, place, left)?,
+            Ok(None) => return Ok(place),
+            Err(_) => return Err(taken(tokens, place.at, Reason::VariableLetter, None)),
         }
     }
-    Got::At(i, m)
 }
 
 // Terms and the kind that closes them.
 #[cycle(bracket_call_terms_until)]
-fn until(tokens: &[u32], rows: &mut [u32], cursor: Cursor, want: u32) -> Got
-    requires { Ready tokens.now cursor.at × Few cursor.row cursor.at 2 × (want ≤ 16) }
-    ensures { UntilPost tokens.now rows.old rows.new cursor.at cursor.row cursor.left want result }
+fn until(
+    tokens: &[u32],
+    rows: &mut [u32],
+    place: Place,
+    left: usize,
+    want: TokenKind,
+) -> Result<Place, SyntaxError>
+    requires { Ready tokens.now place.at × Few place.row place.at 2 × (token_code want ≤ 16) }
+    ensures { UntilPost tokens.now rows.old rows.new place.at place.row left (token_code want) (got_told result) }
 {
-    let r = terms(tokens, rows, cursor);
-    let Got::At(j, m) = r else {
-        return r;
-    };
-    closes(tokens, j, m, want)
+    let end = terms(tokens, rows, place, left)?;
+    closes(tokens, end, want)
 }
 
-// The bracket that opens at the cursor; its row is the next one.
+// The bracket that opens at the place.
 #[cycle(bracket_call_terms_until)]
-fn bracket(tokens: &[u32], rows: &mut [u32], cursor: Cursor) -> Got
-    requires { Ready tokens.now cursor.at × Few cursor.row cursor.at 2 × (term_at tokens.now cursor.at ≡ Bracket) }
-    ensures { TermPost tokens.now rows.old rows.new cursor.at cursor.row cursor.left result }
+fn bracket(
+    tokens: &[u32],
+    rows: &mut [u32],
+    place: Place,
+    left: usize,
+) -> Result<Place, SyntaxError>
+    requires { Ready tokens.now place.at × Few place.row place.at 2 × (term_at tokens.now place.at ≡ Bracket) }
+    ensures { TermPost tokens.now rows.old rows.new place.at place.row left (got_told result) }
 {
-    let at = cursor.at;
-    let n = cursor.row;
-    let left = cursor.left;
+    let Place { at, row } = place;
     if left == 0 {
-        return present(tokens, at, 37, 0);
+        return Err(present(tokens, at, Reason::TooDeep, None));
     }
-    let body = at + 6;
-    let first = n + 1;
-    let under = left - 1;
-    let inside = Cursor {
-        at: body,
-        row: first,
-        left: under,
+    let body = Place {
+        at: at + WIDTH,
+        row: row + 1,
     };
-    let r = until(tokens, rows, inside, token::RPAREN);
-    let Got::At(j, m) = r else {
-        return r;
-    };
-    let from = span_from(tokens, at);
-    let to = end_before(tokens, j);
-    put_span(rows, n, node::BRACKET, from, to, m);
-    Got::At(j, m)
+    let end = until(tokens, rows, body, left - 1, TokenKind::RParen)?;
+    let from = token(tokens, at).from;
+    let to = end_before(tokens, end.at);
+    nodes::spanned(NodeKind::Bracket, from, to, end.row).put(rows, row);
+    Ok(end)
 }
 
-// The call that opens at the cursor; its row is the next one.
+// The call that opens at the place.
 #[cycle(bracket_call_terms_until)]
-fn call(tokens: &[u32], rows: &mut [u32], cursor: Cursor) -> Got
-    requires { Ready tokens.now cursor.at × Few cursor.row cursor.at 2 × (term_at tokens.now cursor.at ≡ Call) }
-    ensures { TermPost tokens.now rows.old rows.new cursor.at cursor.row cursor.left result }
+fn call(tokens: &[u32], rows: &mut [u32], place: Place, left: usize) -> Result<Place, SyntaxError>
+    requires { Ready tokens.now place.at × Few place.row place.at 2 × (term_at tokens.now place.at ≡ Call) }
+    ensures { TermPost tokens.now rows.old rows.new place.at place.row left (got_told result) }
 {
-    let at = cursor.at;
-    let n = cursor.row;
-    let left = cursor.left;
+    let Place { at, row } = place;
     if left == 0 {
-        return present(tokens, at, 37, 0);
+        return Err(present(tokens, at, Reason::TooDeep, None));
     }
-    let name = at + 6;
-    if kind(tokens, name) != token::IDENTIFIER {
-        return taken(tokens, name, 33, token::IDENTIFIER);
-    }
-    let body = name + 6;
-    let first = n + 1;
-    let under = left - 1;
-    let inside = Cursor {
-        at: body,
-        row: first,
-        left: under,
+    let name_at = at + WIDTH;
+    let name = token(tokens, name_at);
+    let TokenKind::Identifier = name.kind else {
+        let expected = Some(TokenKind::Identifier);
+        return Err(taken(tokens, name_at, Reason::CallName, expected));
     };
-    let r = until(tokens, rows, inside, token::RANGLE);
-    let Got::At(j, m) = r else {
-        return r;
+    let body = Place {
+        at: name_at + WIDTH,
+        row: row + 1,
     };
-    let start = text_start(tokens, name);
-    let len = text_len(tokens, name);
-    let from = span_from(tokens, at);
-    let to = end_before(tokens, j);
-    put_node(rows, n, node::CALL, 0, start, len, from, to, m);
-    Got::At(j, m)
+    let end = until(tokens, rows, body, left - 1, TokenKind::RAngle)?;
+    let from = token(tokens, at).from;
+    let to = end_before(tokens, end.at);
+    nodes::named(NodeKind::Call, name.start, name.len, from, to, end.row).put(rows, row);
+    Ok(end)
 }
 
 // An argument: a Terms row, its terms and their `:`.
-pub fn argument(tokens: &[u32], rows: &mut [u32], cursor: Cursor) -> Got
-    requires { Ready tokens.now cursor.at × Few cursor.row cursor.at 1 }
-    ensures { ArgumentPost tokens.now rows.old rows.new cursor.at cursor.row cursor.left result }
+pub fn argument(
+    tokens: &[u32],
+    rows: &mut [u32],
+    place: Place,
+    left: usize,
+) -> Result<Place, SyntaxError>
+    requires { Ready tokens.now place.at × Few place.row place.at 1 }
+    ensures { ArgumentPost tokens.now rows.old rows.new place.at place.row left (got_told result) }
 {
-    let at = cursor.at;
-    let n = cursor.row;
-    let left = cursor.left;
-    let row = n + 1;
-    let r = until(tokens, rows, Cursor { at, row, left }, token::COLON);
-    let Got::At(j, m) = r else {
-        return r;
-    };
-    put_terms(rows, n, m);
-    Got::At(j, m)
+    let Place { at, row } = place;
+    let first = Place { at, row: row + 1 };
+    let end = until(tokens, rows, first, left, TokenKind::Colon)?;
+    nodes::spanned(NodeKind::Terms, 0, 0, end.row).put(rows, row);
+    Ok(end)
 }
 
 // After terms, or after a block: one of two kinds, which is left to the caller. After terms Eof is 35 and another kind 34; after a
 // block another kind is 35.
-pub fn follows(tokens: &[u32], at: usize, m: usize, terms: bool, also: u32, want: u32) -> Got
-    requires { Ready tokens.now at }
-    ensures { FollowsPost tokens.now at m terms also want result }
+pub fn follows(
+    tokens: &[u32],
+    place: Place,
+    terms: bool,
+    also: TokenKind,
+    want: TokenKind,
+) -> Result<Place, SyntaxError>
+    requires { Ready tokens.now place.at }
+    ensures { FollowsPost tokens.now place.at place.row terms (token_code also) (token_code want) (got_told result) }
 {
-    let k = kind(tokens, at);
-    if k == also {
-        return Got::At(at, m);
+    let kind = token(tokens, place.at).kind;
+    if kind == also || kind == want {
+        return Ok(place);
     }
-    if k == want {
-        return Got::At(at, m);
+    if terms && kind != TokenKind::Eof {
+        return Err(taken(tokens, place.at, Reason::NoTerm, None));
     }
-    if !terms {
-        return present(tokens, at, 35, want);
-    }
-    if k == token::EOF {
-        return present(tokens, at, 35, want);
-    }
-    taken(tokens, at, 34, 0)
+    Err(present(tokens, place.at, Reason::OtherKind, Some(want)))
 }
 
 // A Terms row and its terms, up to one of two kinds.
-pub fn clause(tokens: &[u32], rows: &mut [u32], cursor: Cursor, also: u32, want: u32) -> Got
-    requires { Ready tokens.now cursor.at × Few cursor.row cursor.at 1 }
-    ensures { ClausePost tokens.now rows.old rows.new cursor.at cursor.row cursor.left also want result }
+pub fn clause(
+    tokens: &[u32],
+    rows: &mut [u32],
+    place: Place,
+    left: usize,
+    also: TokenKind,
+    want: TokenKind,
+) -> Result<Place, SyntaxError>
+    requires { Ready tokens.now place.at × Few place.row place.at 1 }
+    ensures { ClausePost tokens.now rows.old rows.new place.at place.row left (token_code also) (token_code want) (got_told result) }
 {
-    let at = cursor.at;
-    let n = cursor.row;
-    let left = cursor.left;
-    let row = n + 1;
-    let r = terms(tokens, rows, Cursor { at, row, left });
-    let Got::At(j, m) = r else {
-        return r;
-    };
-    put_terms(rows, n, m);
-    follows(tokens, j, m, true, also, want)
+    let Place { at, row } = place;
+    let first = Place { at, row: row + 1 };
+    let end = terms(tokens, rows, first, left)?;
+    nodes::spanned(NodeKind::Terms, 0, 0, end.row).put(rows, row);
+    follows(tokens, end, true, also, want)
 }

@@ -4,25 +4,25 @@ use Rattle.refal_parser.specs.PostBlock.{CondsInv, BlockInv}
 use Rattle.refal_parser.proofs.block.+block_condition_ending_sentence.Given as goal
 
 abbrev pub decreases-block : goal.decreases-block
-decreases-block l = l.cursor.left + (length l.tokens.now - l.cursor.at) + (l.cursor.left + (length l.tokens.now - l.cursor.at))
+decreases-block l = l.left + (length l.tokens.now - l.brace.at) + (l.left + (length l.tokens.now - l.brace.at))
 
 abbrev pub decreases-condition : goal.decreases-condition
-decreases-condition l = l.cursor.left + (length l.tokens.now - l.cursor.at) + (l.cursor.left + (length l.tokens.now - l.cursor.at))
+decreases-condition l = l.left + (length l.tokens.now - l.place.at) + (l.left + (length l.tokens.now - l.place.at))
 
 abbrev pub decreases-ending : goal.decreases-ending
-decreases-ending l = l.cursor.left + (length l.tokens.now - l.cursor.at) + (l.cursor.left + (length l.tokens.now - l.cursor.at))
+decreases-ending l = l.left + (length l.tokens.now - l.place.at) + (l.left + (length l.tokens.now - l.place.at))
 
 abbrev pub decreases-sentence : goal.decreases-sentence
-decreases-sentence l = l.cursor.left + (length l.tokens.now - l.cursor.at) + (l.cursor.left + (length l.tokens.now - l.cursor.at)) + 1
+decreases-sentence l = l.left + (length l.tokens.now - l.start.at) + (l.left + (length l.tokens.now - l.start.at)) + 1
 
-abbrev pub invariant-block-loop-at : goal.invariant-block-loop-at
-invariant-block-loop-at l = BlockInv l.tokens l.initial.rows l.rows l.at l.n l.left l.i l.m
+abbrev pub invariant-block-loop-expected : goal.invariant-block-loop-expected
+invariant-block-loop-expected l = BlockInv l.tokens l.initial.rows l.rows l.at l.row l.left l.place.at l.place.row
 
-abbrev pub decreases-block-loop-at : goal.decreases-block-loop-at
-decreases-block-loop-at l = length l.tokens - l.i
+abbrev pub decreases-block-loop-expected : goal.decreases-block-loop-expected
+decreases-block-loop-expected l = length l.tokens - l.place.at
 
-abbrev pub invariant-sentence-loop-here : goal.invariant-sentence-loop-here
-invariant-sentence-loop-here l = CondsInv l.tokens l.initial.rows l.rows l.j l.m l.left l.i l.k
+abbrev pub invariant-sentence-loop-rows : goal.invariant-sentence-loop-rows
+invariant-sentence-loop-rows l = CondsInv l.tokens l.initial.rows l.rows l.initial.place.at l.initial.place.row l.left l.place.at l.place.row
 
-abbrev pub decreases-sentence-loop-here : goal.decreases-sentence-loop-here
-decreases-sentence-loop-here l = length l.tokens - l.i
+abbrev pub decreases-sentence-loop-rows : goal.decreases-sentence-loop-rows
+decreases-sentence-loop-rows l = length l.tokens - l.place.at

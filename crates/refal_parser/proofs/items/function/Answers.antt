@@ -1,83 +1,54 @@
 -- `refal_parser::items::function` meets its contract: a name, then a body in braces.
-use Rattle.std.proofs.Common.{◌≡◌, refl, sym, ◌∙◌, ◌+◌, arith, get_or}
-use Rattle.refal_parser.proofs.TokenLaws.{ready_next}
+use Rattle.std.proofs.Common.{refl, sym, ◌∙◌, arith}
+use Rattle.refal_parser.proofs.TokenLaws.{ready_next, is_kind, not_kind}
 use Rattle.refal_parser.specs.Machine.{body}
-use Rattle.refal_parser.proofs.Steps.{is_at, is_no, other, head_open, head_none}
+use Rattle.refal_parser.proofs.Steps.{is_at, is_no, passed, put_as, other, head_open, head_none}
 use Rattle.refal_parser.specs.PostItems.{heading}
 use Rattle.refal_parser.proofs.Rows.{whole_function}
 use Rattle.refal_parser.proofs.items.function.Goals as goal
 
-pub overflow_add-open : goal.overflow_add-open
-overflow_add-open c = let pre₀ = c.requires in
-    let R = pre₀.1 in omega arith
-
-pub kind-requires : goal.kind-requires
-kind-requires c = let pre₀ = c.requires in
-    (ready_next _ _ pre₀.1 (other _ _ _ pre₀.3 refl))
+pub token-requires : goal.token-requires
+token-requires c = ready_next _ _ c.requires.1 (other _ _ _ c.requires.3 refl)
 
 pub present-requires : goal.present-requires
-present-requires c = let pre₀ = c.requires in
-    (ready_next _ _ pre₀.1 (other _ _ _ pre₀.3 refl))
-
-pub returns-then-kind-ne-LBRACE : goal.returns-then-kind-ne-LBRACE
-returns-then-kind-ne-LBRACE c = let w = c.args.tokens.now in
-    let at₀ = c.args.at in
-    let name₀ = c.args.name in
-    let pre₀ = c.requires in
-    is_no c.present.ensures (λ x. head_none _ _ (ready_next _ _ pre₀.1 (other _ _ _ pre₀.3 refl)) (heading w at₀ name₀ x) (λ e. c.if-kind-ne-LBRACE.true (c.kind.ensures
-    ∙ e)))
-
-pub overflow_add-first : goal.overflow_add-first
-overflow_add-first c = let pre₀ = c.requires in
-    let R = pre₀.1 in let h = pre₀.2 in omega arith
-
-pub block-r-requires : goal.block-r-requires
-block-r-requires c = let w = c.args.tokens.now in
-    let name₀ = c.args.name in
-    let pre₀ = c.requires in
-    let k₇ : get_or w (name₀ + 6) 0 ≡ 7 = sym c.kind.ensures ∙ c.if-kind-ne-LBRACE.false in
-    let h = pre₀.2 in ((ready_next _ _ pre₀.1 (other _ _ _ pre₀.3 refl)), omega arith, k₇)
+present-requires c = ready_next _ _ c.requires.1 (other _ _ _ c.requires.3 refl)
 
 pub returns-in_default : goal.returns-in_default
-returns-in_default c = let w = c.args.tokens.now in
-    let at₀ = c.args.at in
+returns-in_default c = let R = ready_next _ _ c.requires.1 (other _ _ _ c.requires.3 refl) in
+    is_no c.present.ensures (λ x. head_none _ _ R (heading c.args.tokens.now c.args.place.at c.args.name x) (not_kind c.token.ensures c.in_default.not-LBrace))
+
+pub block-requires : goal.block-requires
+block-requires c = let R = ready_next _ _ c.requires.1 (other _ _ _ c.requires.3 refl) in
+    let h = c.requires.2 in (R, omega arith, is_kind c.token.ensures c.in-LBrace.is)
+
+pub returns-in_err-end : goal.returns-in_err-end
+returns-in_err-end c = let w = c.args.tokens.now in
+    let at₀ = c.args.place.at in
     let name₀ = c.args.name in
-    let pre₀ = c.requires in
-    let k₇ : get_or w (name₀ + 6) 0 ≡ 7 = sym c.kind.ensures ∙ c.if-kind-ne-LBRACE.false in
-    is_no c.in_default.is (λ x p. head_open _ _ (ready_next _ _ pre₀.1 (other _ _ _ pre₀.3 refl)) (heading w at₀ name₀ x) k₇ p
-    ∙ c.block-r.ensures.no _ _ _ _ _ c.in_default.is (body (heading w at₀ name₀ x)) p)
-
-pub text_start-start-requires : goal.text_start-start-requires
-text_start-start-requires c = let pre₀ = c.requires in
-    pre₀.1
-
-pub text_len-len-requires : goal.text_len-len-requires
-text_len-len-requires c = let pre₀ = c.requires in
-    pre₀.1
+    let R = ready_next _ _ c.requires.1 (other _ _ _ c.requires.3 refl) in
+    passed _ _ c.from_residual.ensures.1 (λ x p. head_open _ _ R (heading w at₀ name₀ x) (is_kind c.token.ensures c.in-LBrace.is) p
+    ∙ c.in_err-end.ensures.no _ _ _ _ _ refl (body (heading w at₀ name₀ x)) p)
 
 pub end_before-to-requires : goal.end_before-to-requires
-end_before-to-requires c = let B = c.block-r.ensures.at _ _ c.in-At.is in let q = B.on in (B.ready, omega arith)
+end_before-to-requires c = let B = c.in_ok-end.ensures.at _ _ refl in let q = B.on in (B.ready, omega arith)
 
-pub put_node-requires : goal.put_node-requires
-put_node-requires c = let pre₀ = c.requires in
-    let B = c.block-r.ensures.at _ _ c.in-At.is in
-    let R = B.ready in let v = B.few in let h = pre₀.2 in let g = pre₀.1 in (omega arith, omega arith)
+pub function-requires : goal.function-requires
+function-requires c = let B = c.in_ok-end.ensures.at _ _ refl in let R = B.ready in let v = B.few in omega arith
 
 pub returns : goal.returns
 returns c = let w = c.args.tokens.now in
-    let at₀ = c.args.at in
+    let at₀ = c.args.place.at in
     let name₀ = c.args.name in
-    let pre₀ = c.requires in
-    let B = c.block-r.ensures.at _ _ c.in-At.is in
-    let k₇ : get_or w (name₀ + 6) 0 ≡ 7 = sym c.kind.ensures ∙ c.if-kind-ne-LBRACE.false in
+    let R = ready_next _ _ c.requires.1 (other _ _ _ c.requires.3 refl) in
+    let B = c.in_ok-end.ensures.at _ _ refl in
+    let T = c.token-text.ensures in
     is_at refl (record {
       v = B.v;
       e = B.e;
       ready = B.ready;
       on = let q = B.on in omega arith;
       few = B.few;
-      rows = whole_function _ _ _ _ B.v B.rows c.text_start-start.ensures c.text_len-len.ensures c.span_from-from.ensures (c.end_before-to.ensures ∙ sym B.last) c.put_node.ensures;
+      rows = whole_function _ _ _ _ B.v B.rows T.start T.len c.token-from.ensures.from (c.end_before-to.ensures ∙ sym B.last) (put_as _ _ _ c.put.ensures c.function.ensures);
       count = B.count;
-      means = λ x p. head_open _ _ (ready_next _ _ pre₀.1 (other _ _ _ pre₀.3 refl)) (heading w at₀ name₀ x) k₇ p
-          ∙ B.means (body (heading w at₀ name₀ x)) p;
+      means = λ x p. head_open _ _ R (heading w at₀ name₀ x) (is_kind c.token.ensures c.in-LBrace.is) p ∙ B.means (body (heading w at₀ name₀ x)) p;
     })

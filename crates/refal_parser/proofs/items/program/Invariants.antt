@@ -3,8 +3,8 @@ use Rattle.std.proofs.Common.{◌-◌, length}
 use Rattle.refal_parser.specs.PostItems.{ProgramInv}
 use Rattle.refal_parser.proofs.items.program.Given as goal
 
-abbrev pub invariant-loop-i : goal.invariant-loop-i
-invariant-loop-i l = ProgramInv l.tokens l.initial.rows l.rows l.i l.m
+abbrev pub invariant-loop-place : goal.invariant-loop-place
+invariant-loop-place l = ProgramInv l.tokens l.initial.rows l.rows l.place.at l.place.row
 
-abbrev pub decreases-loop-i : goal.decreases-loop-i
-decreases-loop-i l = length l.tokens - l.i
+abbrev pub decreases-loop-place : goal.decreases-loop-place
+decreases-loop-place l = length l.tokens - l.place.at

@@ -4,19 +4,19 @@ use Rattle.refal_parser.specs.PostTerms.{TermsInv}
 use Rattle.refal_parser.proofs.terms.+bracket_call_terms_until.Given as goal
 
 abbrev pub decreases-bracket : goal.decreases-bracket
-decreases-bracket l = l.cursor.left + l.cursor.left + l.cursor.left
+decreases-bracket l = l.left + l.left + l.left
 
 abbrev pub decreases-call : goal.decreases-call
-decreases-call l = l.cursor.left + l.cursor.left + l.cursor.left
+decreases-call l = l.left + l.left + l.left
 
 abbrev pub decreases-terms : goal.decreases-terms
-decreases-terms l = l.cursor.left + l.cursor.left + l.cursor.left + 1
+decreases-terms l = l.left + l.left + l.left + 1
 
 abbrev pub decreases-until : goal.decreases-until
-decreases-until l = l.cursor.left + l.cursor.left + l.cursor.left + 2
+decreases-until l = l.left + l.left + l.left + 2
 
-abbrev pub invariant-terms-loop-s : goal.invariant-terms-loop-s
-invariant-terms-loop-s l = TermsInv l.tokens l.initial.rows l.rows l.at l.n l.left l.i l.m
+abbrev pub invariant-terms-loop-symbol : goal.invariant-terms-loop-symbol
+invariant-terms-loop-symbol l = TermsInv l.tokens l.initial.rows l.rows l.fn.start.at l.fn.start.row l.left l.place.at l.place.row
 
-abbrev pub decreases-terms-loop-s : goal.decreases-terms-loop-s
-decreases-terms-loop-s l = length l.tokens - l.i
+abbrev pub decreases-terms-loop-symbol : goal.decreases-terms-loop-symbol
+decreases-terms-loop-symbol l = length l.tokens - l.place.at

@@ -2,33 +2,23 @@
 use Rattle.std.proofs.Common.{refl, ℕ, arith}
 use Rattle.refal_ast.specs.Tree.{Terms}
 use Rattle.refal_parser.specs.Machine.{asked}
-use Rattle.refal_parser.proofs.Steps.{is_at, is_no}
+use Rattle.refal_parser.proofs.Steps.{is_at, passed, put_as}
 use Rattle.refal_parser.proofs.terms.argument.Goals as goal
 
-pub overflow_add-row : goal.overflow_add-row
-overflow_add-row c = let pre₀ = c.requires in
-    let R = pre₀.0 in let h = pre₀.1 in omega arith
+pub returns-in_err-end : goal.returns-in_err-end
+returns-in_err-end c = passed _ _ c.from_residual.ensures.1 (λ x st asks p. c.in_err-end.ensures.no _ _ _ _ _ refl x (λ (f : Terms) (a e : ℕ). st (asked f a e)) asks p)
 
-pub until-r-requires : goal.until-r-requires
-until-r-requires c = let pre₀ = c.requires in
-    let h = pre₀.1 in (pre₀.0, omega arith, omega arith)
-
-pub returns-in_default : goal.returns-in_default
-returns-in_default c = is_no c.in_default.is (λ x st asks p. c.until-r.ensures.no _ _ _ _ _ c.in_default.is x (λ (f : Terms) (a e : ℕ). st (asked f a e)) asks p)
-
-pub put_terms-requires : goal.put_terms-requires
-put_terms-requires c = let pre₀ = c.requires in
-    let U = c.until-r.ensures.at _ _ c.in-At.is in
-    let R = U.closed.ready in let f = U.few in let h = pre₀.1 in let g = pre₀.0 in (omega arith, omega arith)
+pub spanned-requires : goal.spanned-requires
+spanned-requires c = let U = c.in_ok-end.ensures.at _ _ refl in let R = U.closed.ready in let f = U.few in omega arith
 
 pub returns : goal.returns
-returns c = let U = c.until-r.ensures.at _ _ c.in-At.is in
+returns c = let U = c.in_ok-end.ensures.at _ _ refl in
     is_at refl (record {
       g = asked U.g U.closed.a U.closed.e;
       ready = U.closed.ready;
       on = U.closed.on;
       few = U.few;
-      rows = let h = U.rows in let k = U.count in cc;
+      rows = let p = put_as _ _ _ c.put.ensures c.spanned.ensures in let h = U.rows in let k = U.count in cc;
       count = U.count;
       first = U.closed.first;
       last = U.closed.last;

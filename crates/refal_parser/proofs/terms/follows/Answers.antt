@@ -1,37 +1,41 @@
 -- `refal_parser::terms::follows` meets its contract: one of two kinds, Eof, or another kind, after terms and after a block.
-use Rattle.std.proofs.Common.{refl, sym, ◌∙◌, true≢false}
+use Rattle.std.proofs.Common.{◌≡◌, refl, sym, ◌∙◌, true, true≢false, get_or}
+use Rattle.refal_ast.specs.KindCodes.{token_code}
+use Rattle.refal_ast.specs.declared.kinds.TokenKind.TheVariants as kind
+use Rattle.refal_parser.specs.Post.{Joint}
+use Rattle.refal_parser.proofs.TokenLaws.{is_kind, not_kind, same_kind, other_kind, alike_kind, unlike_kind}
 use Rattle.refal_parser.proofs.Steps.{is_at, is_no, two_eof, two_none, two_other}
+use Rattle.refal_parser.proofs.terms.follows.Goals.{then-eq-via-then-eq, then-eq-via-else-eq+then-eq-2, else-terms-via-then-terms+else-ne, else-terms-via-else-terms}
 use Rattle.refal_parser.proofs.terms.follows.Goals as goal
 
-pub returns-then-k-also : goal.returns-then-k-also
-returns-then-k-also c = let pre₀ = c.requires in
-    let k = sym c.kind-k.ensures ∙ c.if-k-also.true in
-    is_at refl (record { ready = pre₀; stays = refl; rows = refl; joint = λ n. absurd (n k) })
+pub returns-then-eq : goal.returns-then-eq
+returns-then-eq c = let a = c.args in
+    let T = c.token-kind.ensures in
+    let j : Joint a.tokens.now a.place.at (token_code a.also) (token_code a.want) = elim c.then-eq.branch [
+      | then-eq-via-then-eq w ↦ λ n. absurd (n (is_kind T (same_kind w.if-eq.ensures)))
+      | then-eq-via-else-eq+then-eq-2 w ↦ λ n. is_kind T (same_kind w.if-eq-2.ensures)
+    ] in
+    is_at refl (record { ready = c.requires; stays = refl; rows = refl; joint = j })
 
-pub returns-then-k-want : goal.returns-then-k-want
-returns-then-k-want c = let pre₀ = c.requires in
-    let k = sym c.kind-k.ensures ∙ c.if-k-want.true in
-    is_at refl (record { ready = pre₀; stays = refl; rows = refl; joint = λ n. k })
-
-pub returns-then-not-terms : goal.returns-then-not-terms
-returns-then-not-terms c = let a = c.args in
-    let f = c.if-not-terms.true in
-    is_no c.present.ensures (record {
-      of_terms = λ h. absurd (true≢false (sym h ∙ f));
-      of_block = λ h u v. two_other a.tokens.now a.at a.also a.want u v (λ e. c.if-k-also.false (c.kind-k.ensures ∙ e)) (λ e. c.if-k-want.false (c.kind-k.ensures ∙ e));
-    })
-
-pub returns-then-k-eq-EOF : goal.returns-then-k-eq-EOF
-returns-then-k-eq-EOF c = let a = c.args in
-    is_no c.present-then-k-eq-EOF.ensures (record {
-      of_terms = λ h u v. two_eof a.tokens.now a.at a.also a.want u v (λ e. c.if-k-also.false (c.kind-k.ensures ∙ e)) (λ e. c.if-k-want.false (c.kind-k.ensures ∙ e)) (sym c.kind-k.ensures ∙ c.if-k-eq-EOF.true);
-      of_block = λ h u v. two_other a.tokens.now a.at a.also a.want u v (λ e. c.if-k-also.false (c.kind-k.ensures ∙ e)) (λ e. c.if-k-want.false (c.kind-k.ensures ∙ e));
+pub returns-then-ne : goal.returns-then-ne
+returns-then-ne c = let a = c.args in
+    let T = c.token-kind.ensures in
+    is_no c.taken.ensures (record {
+      of_terms = λ h u v. two_none a.tokens.now a.place.at (token_code a.also) (token_code a.want) u v (not_kind T (other_kind c.if-eq.ensures)) (not_kind T (other_kind c.if-eq-2.ensures)) (not_kind {k = kind.Eof} T (unlike_kind c.if-ne.ensures));
+      of_block = λ h. absurd (true≢false (sym c.if-terms.true ∙ h));
     })
 
 pub returns : goal.returns
 returns c = let a = c.args in
-    let t = c.if-not-terms.false in
-    is_no c.taken.ensures (record {
-      of_terms = λ h u v. two_none a.tokens.now a.at a.also a.want u v (λ e. c.if-k-also.false (c.kind-k.ensures ∙ e)) (λ e. c.if-k-want.false (c.kind-k.ensures ∙ e)) (λ e. c.if-k-eq-EOF.false (c.kind-k.ensures ∙ e));
-      of_block = λ h. absurd (true≢false (sym t ∙ h));
-    })
+    let w₀ = a.tokens.now in
+    let at₀ = a.place.at in
+    let also₀ = token_code a.also in
+    let want₀ = token_code a.want in
+    let T = c.token-kind.ensures in
+    let n₁ = not_kind T (other_kind c.if-eq.ensures) in
+    let n₂ = not_kind T (other_kind c.if-eq-2.ensures) in
+    let eof : a.terms ≡ true → get_or a.tokens.now a.place.at 0 ≡ 17 = elim c.else-terms.branch [
+      | else-terms-via-then-terms+else-ne w ↦ λ h. is_kind {k = kind.Eof} T (alike_kind w.if-ne.ensures)
+      | else-terms-via-else-terms w ↦ λ h. absurd (true≢false (sym h ∙ w.if-terms.false))
+    ] in
+    is_no c.present.ensures (record { of_terms = λ h u v. two_eof w₀ at₀ also₀ want₀ u v n₁ n₂ (eof h); of_block = λ h u v. two_other w₀ at₀ also₀ want₀ u v n₁ n₂ })
