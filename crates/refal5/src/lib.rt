@@ -89,7 +89,7 @@ pub fn refal5_parse(tokens: &[u32], rows: &mut [u32], answer: &mut [u64; 7])
     ensures told { answer.new ≡ answer_words (parse_answer tokens.now rows.old) }
     ensures left { rows.new ≡ parse_rows tokens.now rows.old }
 {
-    *answer = words(refal_parser::parse(tokens, rows));
+    *answer = words_of(refal_parser::parse(tokens, rows));
 }
 
 // Writing: the text of the tree's tokens, each as spelled in its source, then one space.

@@ -15,7 +15,7 @@ use Rattle.refal_ast.specs.Flatten.{Flat, flat_token, mark, name_of, flat_of, fl
 use Rattle.refal_ast.specs.Flatten.{Loose, loose_semicolon, loose_item}
 use Rattle.refal_ast.specs.declared.tree.VariableKind.{VariableKind}
 use Rattle.refal_ast.specs.declared.tree.VariableKind.TheVariants.{Symbol as kind_s, Term as kind_t, Expression as kind_e}
-use Rattle.refal_ast.specs.declared.tree.Term.{Term}
+use Rattle.refal_parser.specs.Begins.{Term}
 use Rattle.refal_parser.specs.Machine.{pick_term, Begun, Block, body, in_condition, in_ending, Place, pattern, argument, matching, result, ending, in_bracket, in_call}
 use Rattle.refal_parser.specs.Machine.{State, outside, wants_name, wants_more, named, entered, headed, between, within, calling, matched, conditioned, equated, blocked, ended}
 use Rattle.refal_parser.specs.Machine.{tree, refuse, Step, go, made, over, stop, pick_step, on_kind, opens, among, closing, only, begun, with_condition, to_terms, left_off, function_of, last_end}

@@ -50,8 +50,8 @@ fn put_rows(rt: &impl Print, rows: &[u32]) -> io::Result<()> {
 fn put_tree(rt: &impl Print, tokens: &[u32]) -> io::Result<()> {
     let mut rows = [0u32; 14336];
     match refal_parser::parse(tokens, &mut rows) {
-        Answer::Refused(refusal) => put_refusal(rt, refusal),
-        Answer::Done(n) => {
+        Err(refusal) => println!(rt; "{refusal}"),
+        Ok(n) => {
             if n <= 2048 {
                 let end = nodes::WIDTH * n;
                 put_rows(rt, &rows[..end])
