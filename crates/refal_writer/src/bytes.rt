@@ -50,7 +50,7 @@ impl<'a, const N: usize> Put for &'a [u8; N] {
     }
 }
 
-// Nothing.
+// The text of no tokens.
 impl Put for () {
     ghost use Rattle.refal_spelling.specs.Spell.{text};
 

@@ -58,13 +58,16 @@ fn put_quoted<const N: usize>(bytes: &[u8; N], out: &mut [u8]) -> usize
     (b"'", (bytes, b"' ")).put(out)
 }
 
-// A character in apostrophes: an apostrophe twice, any other in UTF-8. The contract is for every number, and `char` leaves some out.
+const APOSTROPHE: u32 = b'\'' as u32;
+
+// A character in apostrophes: an apostrophe twice, any other in UTF-8. `char::encode_utf8` would ask each caller for a scalar value;
+// the contract is for every number.
 #[tactic(auto, unfolding(refal_spelling::specs::Spell::text, refal_spelling::specs::Spell::spelling, refal_spelling::specs::Spell::body))]
 pub fn put_char(x: u32, out: &mut [u8]) -> usize
     ensures { Puts (token_text (spelled tok_char x [])) result out.old out.new × (result ≤ 8) }
 {
     match x {
-        39 => put_quoted(b"''", out),
+        APOSTROPHE => put_quoted(b"''", out),
         0..=127 => put_quoted(&[x as u8], out),
         128..=2047 => put_quoted(&[(192 + x / 64) as u8, (128 + x % 64) as u8], out),
         2048..=65535 => put_quoted(
