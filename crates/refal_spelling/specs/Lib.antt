@@ -1,6 +1,6 @@
 -- Definitions: Spell (spellings), Spells (the test of 41), Good (the spellings that reading gives), Places (of tokens in a text), Sound.
 -- Laws of words: Runs, NumberWords, ScanWords, CharWords, Sees, SpellsLaws. Of reading: ReadsGood, Answered, Few, Passes.
--- The test for refusal 41: Spellings; its laws: WordLaws, SpellingLaws. A row's text: TextAt.
+-- The test for refusal 41: Spellings; its laws: WordLaws, SpellingLaws.
 -- Laws of texts: TextReads, TextViews, TextWell. The theorems: RoundTrip; that the test of 41 is exact: Given; telling cases of that test: ExponentCases.
 pub mod Spell
 pub mod Spells
@@ -26,4 +26,3 @@ pub mod Given
 pub mod ExponentCases
 pub mod WordLaws
 pub mod SpellingLaws
-pub mod TextAt

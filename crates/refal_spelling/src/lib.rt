@@ -14,7 +14,6 @@ use crate::words::{is_identifier, is_index, is_number};
 use refal_ast::kinds::NodeKind;
 use refal_ast::nodes::Node;
 use refal_ast::{limits, nodes};
-use refal_rows::least;
 
 // Neither newline nor outside the scalar values.
 fn is_char(x: u32) -> bool
@@ -46,27 +45,30 @@ fn text_spelled(node: Node, src: &[u8]) -> bool
     }
 }
 
-// The text of a node, as a part of the source; what lies outside the source is not there.
+// The bytes of the source from `start` on, `len` of them; what lies outside the source is not there.
+fn part<'a>(src: &'a [u8], start: u32, len: u32) -> &'a [u8]
+    ensures text { result.now ≡ text_at src.now start len }
+    ensures short { length result.now ≤ 4294967295 }
+{
+    let from = (start as usize).min(src.len());
+    let n = (len as usize).min(src.len() - from);
+    &src[from..from + n]
+}
+
+// The text of a node, as a part of the source.
 pub fn text_of<'a>(node: Node, src: &'a [u8]) -> &'a [u8]
     ensures text { result.now ≡ text_at src.now node.start node.len }
     ensures short { length result.now ≤ 4294967295 }
 {
-    let from = (node.start as usize).min(src.len());
-    let n = (node.len as usize).min(src.len() - from);
-    &src[from..from + n]
+    part(src, node.start, node.len)
 }
 
-// The text of row i, as a part of the source; what lies outside the source is not there.
+// The text of row i, whatever its kind, as a part of the source.
 pub fn text<'a>(tree: &[u32], src: &'a [u8], i: usize) -> &'a [u8]
     requires { HasRow tree.now i }
     ensures { (result.now ≡ text_at src.now (word_at tree.now i col_start) (word_at tree.now i col_len)) × (length result.now ≤ 4294967295) }
 {
-    let start = nodes::text_start(tree, i) as usize;
-    let len = nodes::text_len(tree, i) as usize;
-    let from = least(start, src.len());
-    let n = least(len, src.len() - from);
-    let end = from + n;
-    &src[from..end]
+    part(src, nodes::text_start(tree, i), nodes::text_len(tree, i))
 }
 
 // One node.

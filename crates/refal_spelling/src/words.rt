@@ -30,6 +30,7 @@ pub fn is_identifier(word: &[u8]) -> bool
 }
 
 // An index: one to 15 bytes of names.
+#[tactic(auto, using(crate::specs::WordLaws::index_in, crate::specs::WordLaws::index_out))]
 pub fn is_index(word: &[u8]) -> bool
     ensures { result ≡ spells_index word.now }
 {

@@ -35,7 +35,11 @@ pick_same : (b : Bool) (x : ℕ) → pick_state b x x ≡ x
 pick_same true x = refl
 pick_same false x = refl
 
+-- it is not that of a kind
+pub not_kind : (k : ℕ) → (1 ≤ k → node_call < k) → (m : ℕ) → 1 ≤ m → m ≤ node_call → eqb k m ≡ false
+not_kind k h m lo hi = ne_eqb k m (λ e. omega arith)
+
 pub no_kind : (st k : ℕ) → (1 ≤ k → node_call < k) → may_stand st k ≡ false
 no_kind st k h =
-    let n : (m : ℕ) → 1 ≤ m → m ≤ node_call → eqb k m ≡ false = λ m lo hi. ne_eqb k m (λ e. omega arith) in
+    let n : (m : ℕ) → 1 ≤ m → m ≤ node_call → eqb k m ≡ false = not_kind k h in
     simp (n 1 (lit≤ tt) (lit≤ tt), n 2 (lit≤ tt) (lit≤ tt), n 3 (lit≤ tt) (lit≤ tt), n 4 (lit≤ tt) (lit≤ tt), n 5 (lit≤ tt) (lit≤ tt), n 6 (lit≤ tt) (lit≤ tt), n 7 (lit≤ tt) (lit≤ tt), n 8 (lit≤ tt) (lit≤ tt), n 9 (lit≤ tt) (lit≤ tt), n 10 (lit≤ tt) (lit≤ tt), n 11 (lit≤ tt) (lit≤ tt), n 12 (lit≤ tt) (lit≤ tt), n 13 (lit≤ tt) (lit≤ tt), n 14 (lit≤ tt) (lit≤ tt), pick_same)
