@@ -34,10 +34,7 @@ pub fn is_identifier(word: &[u8]) -> bool
 pub fn is_index(word: &[u8]) -> bool
     ensures { result ≡ spells_index word.now }
 {
-    match word.len() {
-        1..=15 => is_name(word),
-        _ => false,
-    }
+    matches!(word.len(), 1..=15) && is_name(word)
 }
 
 // A number whose digits start at `from`: behind a sign where that is 1. Its parts are those that reading scans.

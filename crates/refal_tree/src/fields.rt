@@ -5,6 +5,7 @@ ghost use Rattle.refal_tree.specs.Rules.{detail_ok, text_ok, span_ok};
 
 use refal_ast::kinds::NodeKind;
 use refal_ast::nodes::Node;
+use refal_ast::tree::VariableKind;
 
 // A function's and a sentence's detail is 0 or 1, a variable's its letter.
 pub fn detail_ok(node: Node) -> bool
@@ -13,7 +14,7 @@ pub fn detail_ok(node: Node) -> bool
     match node.kind {
         NodeKind::Function | NodeKind::Sentence => node.detail <= 1,
         NodeKind::Char => true,
-        NodeKind::Variable => matches!(u8::try_from(node.detail), Ok(b's' | b't' | b'e')),
+        NodeKind::Variable => VariableKind::try_from(node.detail).is_ok(),
         _ => node.detail == 0,
     }
 }
