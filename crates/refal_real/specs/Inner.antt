@@ -1,6 +1,11 @@
--- What the inner functions answer: where a real's parts stand, and by how much its exponent moves the power.
+-- What the laws of the inner functions speak of: where a real's parts stand, and by how much its exponent moves the power.
 use Rattle.std.specs.Prelude.{ℕ, Bool}
-use Rattle.refal_real.specs.declared.places.Places.{Places}
+
+-- its whole digits from `from` up to `whole`, its fraction's, behind the point, up to `to`, and its exponent up to its end
+pub record Places : Type 0 where
+  pub from : ℕ
+  pub whole : ℕ
+  pub to : ℕ
 
 pub data Spelled : Type 0 where
   Real : Places → Spelled

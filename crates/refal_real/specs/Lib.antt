@@ -1,6 +1,5 @@
 -- Definitions: Parts (of a real's text), Value, Form, Real (what is answered), Written (a form written out). What is proved of them: Statements; the
--- proof: Theorems. Inner and Found: what the inner functions answer. Told: what the code's
--- values tell.
+-- proof: Theorems. What the code's values tell: Told. Where the lexer's scans find the parts: Inner, Found.
 -- Laws of digits as numbers: Tens; of values and forms: Same. Of the loops: Kept, Loops. Of the lexer's scans and the parts: PlacesLaws, PartLaws.
 -- Of the answers: FoundLaws, AnswerLaws. Of reading: Alone. Telling cases: Cases.
 pub mod Parts

@@ -1,5 +1,5 @@
 // An exponent: its sign and its value.
-ghost use Rattle.std.specs.Prelude.{◌≡◌, ◌≤◌, length, drop};
+ghost use Rattle.std.specs.Prelude.{◌≡◌, ◌≤◌, length};
 ghost use Rattle.refal_lexer.specs.Numbers.{exponent_at};
 ghost use Rattle.refal_real.specs.Parts.{down_at, exponent_digits};
 ghost use Rattle.refal_real.specs.Value.{num};
@@ -25,17 +25,16 @@ fn number(digits: &[u8]) -> u32
     value
 }
 
-// What stands at `at`, an exponent that goes to the text's end, or nothing; none where its digits are too many.
-pub fn exponent_at(text: &[u8], at: usize) -> Option<i64>
-    requires { (at ≤ length text.now) × ((exponent_at at text.now).end ≡ length text.now) }
-    ensures { result ≡ exponent_of (scale_of (down_at (drop at text.now)) (exponent_digits (drop at text.now))) }
+// The value of what stands behind a real's digits, an exponent or nothing; none where its digits are too many.
+pub fn value(exponent: &[u8]) -> Option<i64>
+    requires { (exponent_at 0 exponent.now).end ≡ length exponent.now }
+    ensures { result ≡ exponent_of (scale_of (down_at exponent.now) (exponent_digits exponent.now)) }
 {
-    if at == text.len() {
+    if exponent.is_empty() {
         return Some(0);
     }
-    let mark = at + 1;
-    let sign = refal_text::byte(text, mark);
-    let digits = trim_start(&text[mark + usize::from(class::is_sign(sign))..]);
+    let sign = refal_text::byte(exponent, 1);
+    let digits = trim_start(&exponent[1 + usize::from(class::is_sign(sign))..]);
     if digits.len() > MOST_DIGITS {
         return None;
     }

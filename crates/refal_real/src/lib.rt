@@ -3,16 +3,18 @@
 
 mod digits;
 mod exponent;
-mod places;
+mod parts;
 
-ghost use Rattle.std.specs.Prelude.{◌≡◌, ◌<◌, length, pos, int_lt, unsigned_abs};
+ghost use Rattle.std.specs.Prelude.{◌≡◌, ◌<◌, ◌≤◌, length};
+ghost use Rattle.refal_ast.specs.Limits.{most_bytes};
 ghost use Rattle.refal_ast.specs.Told.{told};
+ghost use Rattle.refal_real.specs.Value.{num};
+ghost use Rattle.refal_real.specs.Form.{normal};
 ghost use Rattle.refal_real.specs.Real.{outcome, real_answer, real_digits, real_form, reals_equal};
-ghost use Rattle.refal_real.specs.Found.{Located, form_by};
-ghost use Rattle.refal_real.specs.Told.{form_told, outcome_told, Fits};
+ghost use Rattle.refal_real.specs.Told.{parts_told, signed_power, form_told, outcome_told, Fits};
 
 use crate::digits::Digits;
-use crate::places::Places;
+use crate::parts::Parts;
 use refal_ast::answers::{Reason, Refusal};
 
 // A form: its sign, its power of ten and its digits.
@@ -23,30 +25,32 @@ struct Form<'a> {
     digits: Digits<'a>,
 }
 
-// The form of a real whose parts stand at p. Zero has plus and power 0.
-fn found(text: &[u8], p: Places, exponent: i64) -> Form<'_>
-    requires { Located text.now p × (unsigned_abs exponent < 1000000000) }
-    ensures { form_told result ≡ form_by text.now p (int_lt exponent (pos 0)) (unsigned_abs exponent) }
-{
-    let all = Digits {
-        whole: &text[p.from..p.whole],
-        fraction: &text[(p.whole + 1).min(p.to)..p.to],
-    };
-    let trimmed = all.trim_end();
-    let digits = trimmed.trim_start();
-    if digits.is_empty() {
-        return Form {
-            minus: false,
-            power: 0,
+impl<'a> Form<'a> {
+    // The form of a real by its parts and the value of its exponent. Zero has plus and power 0.
+    fn new(parts: Parts<'a>, exponent: i64) -> Form<'a>
+        requires value { exponent ≡ signed_power (parts_told parts).down (num (parts_told parts).exponent) }
+        requires small { num (parts_told parts).exponent < 1000000000 }
+        requires whole { length parts.digits.whole.now ≤ most_bytes }
+        requires fraction { length parts.digits.fraction.now ≤ most_bytes }
+        ensures { form_told result ≡ normal (parts_told parts.entry) }
+    {
+        let all = parts.digits;
+        let trimmed = all.trim_end();
+        let digits = trimmed.trim_start();
+        if digits.is_empty() {
+            return Form {
+                minus: false,
+                power: 0,
+                digits,
+            };
+        }
+        let zeros = all.len() - trimmed.len();
+        let power = exponent + zeros as i64 - all.fraction.len() as i64;
+        Form {
+            minus: parts.minus,
+            power,
             digits,
-        };
-    }
-    let zeros = all.len() - trimmed.len();
-    let power = exponent + zeros as i64 - all.fraction.len() as i64;
-    Form {
-        minus: refal_text::byte(text, 0) == b'-',
-        power,
-        digits,
+        }
     }
 }
 
@@ -54,9 +58,9 @@ fn found(text: &[u8], p: Places, exponent: i64) -> Form<'_>
 fn parse(text: &[u8]) -> Result<Form<'_>, Reason>
     ensures { outcome_told result ≡ outcome text.now }
 {
-    let p = places::locate(text).ok_or(Reason::NoReal)?;
-    let exponent = exponent::exponent_at(text, p.to).ok_or(Reason::ExponentTooLong)?;
-    Ok(found(text, p, exponent))
+    let parts = parts::split(text).ok_or(Reason::NoReal)?;
+    let exponent = exponent::value(parts.exponent).ok_or(Reason::ExponentTooLong)?;
+    Ok(Form::new(parts, exponent))
 }
 
 // A text's form, if its digits fit into so many bytes.
