@@ -63,7 +63,7 @@ pub fn text_of<'a>(node: Node, src: &'a [u8]) -> &'a [u8]
     part(src, node.start, node.len)
 }
 
-// The text of row i, whatever its kind, as a part of the source.
+// The text of row i, as a part of the source. It asks nothing of the row, whose kind may be unknown.
 pub fn text<'a>(tree: &[u32], src: &'a [u8], i: usize) -> &'a [u8]
     requires { HasRow tree.now i }
     ensures { (result.now ≡ text_at src.now (word_at tree.now i col_start) (word_at tree.now i col_len)) × (length result.now ≤ 4294967295) }

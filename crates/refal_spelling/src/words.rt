@@ -9,6 +9,7 @@ ghost use Rattle.refal_spelling.specs.Spells.{token_to, spells, spells_index};
 use refal_lexer::class::is_sign;
 use refal_lexer::number;
 
+// By the byte alone: the lexer's test goes by a table of classes that its caller lends.
 fn is_name_byte(b: u8) -> bool
     ensures { result ≡ name_byte b }
 {
@@ -22,7 +23,7 @@ fn is_name(word: &[u8]) -> bool
     word.iter().all(|b| is_name_byte(*b))
 }
 
-// An Identifier: A to Z, then bytes of names, 15 in all at most. What an index may be, A to Z in front.
+// An Identifier: A to Z, then bytes of names, 15 in all at most. So an index that A to Z begins.
 pub fn is_identifier(word: &[u8]) -> bool
     ensures { result ≡ spells tok_identifier word.now }
 {

@@ -19,7 +19,7 @@ use refal_ast::nodes::Node;
 use refal_ast::{limits, nodes};
 
 // The state after a row that keeps the rules, None where it may not stand where so many levels are left.
-fn row_ok(node: Node, state: State, left: usize) -> Option<State>
+fn after_row(node: Node, state: State, left: usize) -> Option<State>
     ensures { Stands (state_code state) left (own (node_told node)) result }
 {
     let fields = fields::detail_ok(node) && fields::text_ok(node) && fields::span_ok(node);
@@ -31,7 +31,7 @@ fn row_ok(node: Node, state: State, left: usize) -> Option<State>
 }
 
 // Whether the rows from .. to are children that keep the rules, from the state `start` on: each row, and below it the
-// same check of its children.
+// same check of its children. A row tells where the next child stands, so no iterator gives the children.
 fn check(tree: &[u32], from: usize, to: usize, start: State, left: usize) -> bool
     requires { (from ≤ to) × (node_width * to ≤ length tree.now) }
     ensures { result ≡ ok_at tree.now from to (state_code start) left }
@@ -42,7 +42,7 @@ fn check(tree: &[u32], from: usize, to: usize, start: State, left: usize) -> boo
         let Ok(node) = Node::read(tree, i) else {
             return false;
         };
-        let Some(after) = row_ok(node, state, left) else {
+        let Some(after) = after_row(node, state, left) else {
             return false;
         };
         let end = node.next as usize;

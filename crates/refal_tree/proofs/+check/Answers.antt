@@ -11,9 +11,9 @@ returns-in_default t c = let a = c.args in
     sym (c.loop-i.invariant.2
     ∙ stop_row a.tree.now c.loop-i.i a.to _ a.left (node_at a.tree.now c.loop-i.i) refl c.requires.1 c.loop-i-test.true (rw (no_kind _ _ c.in_default.ensures.1)))
 
-pub returns-in_default-row_ok : goal.returns-in_default-row_ok
-returns-in_default-row_ok t c = let a = c.args in
-    sym (c.loop-i.invariant.2 ∙ stop_row a.tree.now c.loop-i.i a.to _ a.left (node_told c.in-Ok.node) c.in-Ok.ensures c.requires.1 c.loop-i-test.true c.in_default-row_ok.ensures)
+pub returns-in_default-after_row : goal.returns-in_default-after_row
+returns-in_default-after_row t c = let a = c.args in
+    sym (c.loop-i.invariant.2 ∙ stop_row a.tree.now c.loop-i.i a.to _ a.left (node_told c.in-Ok.node) c.in-Ok.ensures c.requires.1 c.loop-i-test.true c.in_default-after_row.ensures)
 
 pub returns-then-end-i : goal.returns-then-end-i
 returns-then-end-i t c = let a = c.args in
