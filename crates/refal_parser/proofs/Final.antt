@@ -16,7 +16,6 @@ use Rattle.refal_ast.specs.Check.{well_formed}
 use Rattle.refal_ast.specs.Tree.{Program, p0, size_p}
 use Rattle.refal_ast.specs.Encode.{enc_p}
 use Rattle.refal_ast.specs.declared.Refusal.{Refusal}
-use Rattle.refal_ast.specs.declared.Answer.{Answer}
 use Rattle.refal_ast.specs.declared.Answer.TheVariants.{Done, Refused}
 use Rattle.refal_ast.specs.Limits.{most_levels}
 use Rattle.refal_parser.specs.Machine.{outside, Outcome, tree, refuse, run}

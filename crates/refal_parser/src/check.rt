@@ -1,58 +1,51 @@
 // Check 30: whether the words are the rows of tokens that parsing takes.
-ghost use Rattle.std.specs.Prelude.{◌≡◌, ◌+◌, ◌≤◌, length};
-ghost use Rattle.refal_ast.specs.Check.{good_eof, good_fields, good_token, pick_bool, scalar, uses_detail, uses_text, well_formed};
-ghost use Rattle.refal_parser.specs.Ready.{tok};
+ghost use Rattle.std.specs.Prelude.{◌≡◌, ◌≤◌, length, get_or};
+ghost use Rattle.refal_ast.specs.Check.{good_fields, uses_detail, uses_text, well_formed};
 
-use refal_ast::kinds::token;
+use refal_ast::kinds::TokenKind;
+use refal_ast::limits;
+use refal_ast::tokens::WIDTH;
 
-fn scalar(x: u32) -> bool
-    ensures { result ≡ scalar x }
-{
-    (x <= 1114111) & !((55296 <= x) & (x <= 57343))
-}
+// A token for each byte of the longest source, and Eof.
+const MOST_WORDS: usize = WIDTH * (limits::MOST_BYTES + 1);
+
+const ENTRY: u32 = TokenKind::Entry as u32;
+
+const IDENTIFIER: u32 = TokenKind::Identifier as u32;
+
+const VARIABLE: u32 = TokenKind::Variable as u32;
+
+const NUMBER: u32 = TokenKind::Number as u32;
+
+const CHAR: u32 = TokenKind::Char as u32;
+
+const SEMICOLON: u32 = TokenKind::Semicolon as u32;
+
+const EOF: u32 = TokenKind::Eof as u32;
 
 fn uses_text(kind: u32) -> bool
     ensures { result ≡ uses_text kind }
 {
-    (kind == token::IDENTIFIER) | (kind == token::VARIABLE) | (kind == token::NUMBER)
+    matches!(kind, IDENTIFIER | VARIABLE | NUMBER)
 }
 
 fn uses_detail(kind: u32) -> bool
     ensures { result ≡ uses_detail kind }
 {
-    (kind == token::VARIABLE) | (kind == token::CHAR)
+    matches!(kind, VARIABLE | CHAR)
 }
 
-fn pick(t: bool, a: bool, b: bool) -> bool
-    ensures { result ≡ pick_bool t a b }
+// Whether the unused fields of a row are 0, and a Variable's or Char's detail is a scalar value.
+fn good_fields(row: &[u32]) -> bool
+    requires { 6 ≤ length row.now }
+    ensures { result ≡ good_fields (get_or row.now 0 0) (get_or row.now 1 0) (get_or row.now 2 0) (get_or row.now 3 0) }
 {
-    if t { a } else { b }
-}
-
-// Unused fields are 0, and a Variable's or Char's detail is a scalar value.
-fn good_fields(kind: u32, detail: u32, start: u32, len: u32) -> bool
-    ensures { result ≡ good_fields kind detail start len }
-{
-    let d = pick(uses_detail(kind), scalar(detail), detail == 0);
-    d & (uses_text(kind) | ((start == 0) & (len == 0)))
-}
-
-fn good_token(tokens: &[u32], at: usize) -> bool
-    requires { at + 6 ≤ length tokens.now }
-    ensures { result ≡ good_token (tok tokens.now at) }
-{
-    let kind = tokens[at];
-    let good = good_fields(kind, tokens[at + 1], tokens[at + 2], tokens[at + 3]);
-    (token::ENTRY <= kind) & (kind <= token::SEMICOLON) & good
-}
-
-fn good_eof(tokens: &[u32], at: usize) -> bool
-    requires { at + 6 ≤ length tokens.now }
-    ensures { result ≡ good_eof (tok tokens.now at) }
-{
-    let kind = tokens[at];
-    let good = good_fields(kind, tokens[at + 1], tokens[at + 2], tokens[at + 3]);
-    (kind == token::EOF) & good
+    let detail = if uses_detail(row[0]) {
+        char::from_u32(row[1]).is_some()
+    } else {
+        row[1] == 0
+    };
+    detail & (uses_text(row[0]) | ((row[2] == 0) & (row[3] == 0)))
 }
 
 // Whole rows, at most 16,777,217 of them; kinds 1 to 17, Eof exactly once and last; fields as their kinds use them. The loop
@@ -61,20 +54,13 @@ pub fn check(tokens: &[u32]) -> bool
     ensures { result ≡ well_formed tokens.now }
 {
     let n = tokens.len();
-    if n % 6 != 0 {
+    if n % WIDTH != 0 || n > MOST_WORDS || n == 0 {
         return false;
     }
-    if n > 100663302 {
-        return false;
-    }
-    let mut i = 0;
+    let (before, last) = tokens.split_at(n - WIDTH);
     let mut good = true;
-    while i + 6 < n {
-        good = good & good_token(tokens, i);
-        i += 6;
+    for row in before.chunks_exact(WIDTH) {
+        good &= (ENTRY <= row[0]) & (row[0] <= SEMICOLON) & good_fields(row);
     }
-    if i + 6 == n {
-        return good & good_eof(tokens, i);
-    }
-    false
+    good & (last[0] == EOF) & good_fields(last)
 }

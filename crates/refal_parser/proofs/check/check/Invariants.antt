@@ -1,11 +1,13 @@
--- `refal_parser::check::check` meets its contract: one pass over the rows, each token good, an Eof last.
-use Rattle.std.proofs.Common.{◌-◌, ◌≤◌, ◌%◌, ◌≡◌, ◌&&◌, length}
+-- `refal_parser::check::check`: the tests of the rows so far, and of those that are left with the last.
+use Rattle.std.proofs.Common.{◌≡◌, ◌%◌, ◌&&◌, ◌++◌, length}
+use Rattle.std.specs.Slice.Iter.{chunks_exact_rest, chunks_exact_size}
+use Rattle.refal_ast.specs.Tokens.{tokens_of}
 use Rattle.refal_ast.specs.Check.{ok_tokens}
-use Rattle.refal_parser.specs.Ready.{rest}
 use Rattle.refal_parser.proofs.check.check.Given as goal
 
-abbrev pub invariant-loop-i : goal.invariant-loop-i
-invariant-loop-i l = (l.i ≤ length l.tokens) × ((length l.tokens - l.i) % 6 ≡ 0) × (ok_tokens (rest l.tokens 0) ≡ l.good && ok_tokens (rest l.tokens l.i))
-
-abbrev pub decreases-loop-i : goal.decreases-loop-i
-decreases-loop-i l = length l.tokens - l.i
+abbrev pub invariant-loop-row : goal.invariant-loop-row
+invariant-loop-row l = record {
+  size : chunks_exact_size l.row-iterator ≡ 6;
+  whole : length (chunks_exact_rest l.row-iterator) % 6 ≡ 0;
+  good : ok_tokens (tokens_of l.tokens) ≡ l.good && ok_tokens (tokens_of (chunks_exact_rest l.row-iterator ++ l.last));
+}

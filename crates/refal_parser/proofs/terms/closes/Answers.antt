@@ -1,5 +1,5 @@
 -- `refal_parser::terms::closes` meets its contract: the closing kind, Eof, or another.
-use Rattle.std.proofs.Common.{refl, sym, arith, rules}
+use Rattle.std.proofs.Common.{refl, arith}
 use Rattle.refal_parser.proofs.TokenLaws.{ready_next, end_before_lem, is_kind, same_kind}
 use Rattle.refal_parser.proofs.Steps.{is_at, closes_here}
 use Rattle.refal_parser.proofs.terms.closes.Goals as goal
