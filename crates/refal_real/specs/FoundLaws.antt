@@ -1,10 +1,8 @@
 -- Laws of what the inner functions answer.
-use Rattle.std.specs.Prelude.{ℕ, zero, suc, ◌+◌, ◌-◌, ◌≤◌, ◌<◌, ltb, ℤ, pos, negsuc, ◌+ℤ◌, ◌-ℤ◌, int_lt, unsigned_abs, Bool, true, false, List, [], ◌∷◌, ◌≡◌, refl, eqb, leb, length, drop, get_or, Some, None}
-use Rattle.std.proofs.Common.{ap, ap₂, sym, ◌∙◌, arith, lt-ltb, le-ltb, leb-true, length-drop}
+use Rattle.std.specs.Prelude.{ℕ, zero, suc, ◌+◌, ◌-◌, ◌<◌, ltb, ℤ, pos, negsuc, ◌+ℤ◌, ◌-ℤ◌, int_lt, unsigned_abs, Bool, true, false, List, [], ◌∷◌, ◌≡◌, refl, eqb, leb, length, drop, get_or, Some, None}
+use Rattle.std.proofs.Common.{ap, ap₂, sym, ◌∙◌, arith, lt-ltb, le-ltb, leb-true}
 use Rattle.std.proofs.lemmas.Int.{ints}
 use Rattle.refal_text.specs.Pick.{pick}
-use Rattle.refal_lexer.specs.Numbers.{sign_bytes, digits_at, ends, part, exponent_at}
-use Rattle.refal_lexer.specs.declared.number.Part.{Part}
 use Rattle.refal_real.specs.Parts.{Parts, parts, run, past, unsigned, fraction_at, past_fraction, down_at, exponent_digits}
 use Rattle.refal_real.specs.Value.{num, all}
 use Rattle.refal_real.specs.Form.{less, trim, form, normal}
@@ -48,21 +46,6 @@ module _ (t : List ℕ) (p : Places) (e : P.Real p ≡ spelled_of t) where
   pub split_parts : (m : Bool) (w f x : List ℕ) → m ≡ eqb (get_or t 0 0) 45 → w ≡ whole_at t p → f ≡ fraction_in t p → x ≡ drop p.to t
       → parts t ≡ record { minus = m; whole = w; fraction = f; down = down_at x; exponent = exponent_digits x }
   split_parts m w f x em ew ef ex = parts_are ∙ rw (em, ew, ef, ex) refl
-
--- where an exponent ends, from where it begins
-part_from : (i : ℕ) (s : List ℕ) → (part 69 true i s).end ≡ i + (part 69 true 0 s).end
-part_from i [] = omega arith
-part_from i (b ∷ s) = go (eqb b 69)
-  where
-    at : Bool → ℕ → Part
-    at x i = pick x (digits_at (i + 1 + sign_bytes true s) (drop (sign_bytes true s) s)) (ends i false)
-
-    go : (x : Bool) → (at x i).end ≡ i + (at x 0).end
-    go true = omega arith
-    go false = omega arith
-
-pub split_end : (t x : List ℕ) (to : ℕ) → to ≤ length t → x ≡ drop to t → (exponent_at to t).end ≡ length t → (exponent_at 0 x).end ≡ length x
-split_end t x to l ex e = rw ex (omega (arith, part_from to (drop to t), length-drop to t))
 
 -- ---- an exponent's value
 none_over : (down : Bool) (x : List ℕ) → None ≡ exponent_of (scale_of down x) → leb (length (less x)) 9 ≡ false

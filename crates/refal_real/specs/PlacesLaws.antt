@@ -1,21 +1,17 @@
 -- Laws of the places of a real's parts: by the lexer's scans, what is a real, and what its parts are.
-use Rattle.std.specs.Prelude.{ℕ, zero, suc, ◌+◌, ◌≤◌, ◌<◌, Bool, true, false, ◌&&◌, ◌||◌, List, [], ◌∷◌, ◌≡◌, refl, eqb, leb, length, drop, get_or, Some, None, Result, Ok, Err}
-use Rattle.std.specs.Result.{result_ok}
+use Rattle.std.specs.Prelude.{ℕ, zero, suc, ◌+◌, ◌≤◌, ◌<◌, Bool, true, false, ◌&&◌, ◌||◌, List, [], ◌∷◌, ◌≡◌, refl, eqb, leb, length, drop, get_or}
 use Rattle.std.proofs.Math.Bool.{and-false}
 use Rattle.std.proofs.Common.{ap, sym, ◌∙◌, arith, zero-add, add-zero, eqb-true, eq-eqb, ne_eqb, le-leb, leb-true, get_or-drop}
 use Rattle.std.proofs.lemmas.Bool.{eqb-false}
-use mir.Val.{bool_byte}
 use Rattle.refal_rows.specs.Tests.{and_left, and_right}
 use Rattle.refal_text.specs.Pick.{pick}
 use Rattle.refal_text.specs.Span.{span}
 use Rattle.refal_ast.specs.Kinds.{tok_number}
 use Rattle.refal_ast.specs.Limits.{most_bytes}
-use Rattle.refal_lexer.specs.Classes.{digit, sign}
-use Rattle.refal_lexer.specs.Numbers.{sign_bytes, ends, part, point_at, exponent_at, digits_end, whole_scan, number_scan}
+use Rattle.refal_lexer.specs.Classes.{digit}
+use Rattle.refal_lexer.specs.Numbers.{sign_bytes, part, point_at, exponent_at, digits_end, whole_scan, number_scan}
 use Rattle.refal_lexer.specs.BlankLaws.{nonzero_in}
-use Rattle.refal_lexer.specs.NumberLaws.{worth, sign_here, sign_none, number_point, number_e, number_whole, number_real}
-use Rattle.refal_lexer.specs.Told.{part_told}
-use Rattle.refal_lexer.specs.declared.number.Bare.{Bare}
+use Rattle.refal_lexer.specs.NumberLaws.{worth, number_point, number_e, number_whole, number_real}
 use Rattle.refal_lexer.specs.declared.number.Part.{Part}
 use Rattle.refal_lexer.specs.declared.Scan.{Scan}
 use Rattle.refal_lexer.specs.declared.Scan.TheVariants.{Bad}
@@ -26,20 +22,6 @@ use Rattle.refal_real.specs.Parts.{first}
 use Rattle.refal_real.specs.Real.{marked, is_real}
 use Rattle.refal_real.specs.Found.{from_of, whole_of, to_of, spelled_of}
 use Rattle.refal_real.specs.Inner as P
-
--- how many bytes the sign at i has, by the byte there
-pub sign_long : (t : List ℕ) (i b n : ℕ) (r : Bool) → b ≡ get_or t i 0 → r ≡ sign b → n ≡ bool_byte r → n ≡ sign_bytes true (drop i t)
-sign_long t i b n true e q h = omega (arith, (sign_here true t i b e (sym q)).1)
-sign_long t i b n false e q h = omega (arith, sign_none true t i b e (sym q))
-
--- ---- a part that the lexer scans
-pub part_ok : (r : Result ℕ Bare) (x : ℕ) → result_ok r ≡ Some x → part_told r ≡ ends x false
-part_ok (Ok y) x e = let h : y ≡ x = cc in ap (λ (i : ℕ). ends i false) h
-part_ok (Err b) x e = let z : ◌≡◌ {A = ℕ} 0 1 = cc in absurd (omega arith)
-
-pub part_err : (r : Result ℕ Bare) → result_ok r ≡ None → (part_told r).bare ≡ true
-part_err (Ok y) e = let z : ◌≡◌ {A = ℕ} 0 1 = cc in absurd (omega arith)
-part_err (Err b) e = refl
 
 -- ---- what the answer turns on
 other : (t : List ℕ) → is_real t ≡ false → P.Other ≡ spelled_of t

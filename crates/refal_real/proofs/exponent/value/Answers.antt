@@ -9,7 +9,7 @@ use Rattle.refal_lexer.specs.Numbers.{exponent_at}
 use Rattle.refal_real.specs.Parts.{down_at, exponent_digits}
 use Rattle.refal_real.specs.Form.{less}
 use Rattle.refal_real.specs.Told.{exponent_of}
-use Rattle.refal_real.specs.PlacesLaws.{sign_long}
+use Rattle.refal_real.specs.SplitLaws.{sign_long}
 use Rattle.refal_real.specs.PartLaws.{scale_none, exponent_is, scale_over, scale_by, scale_digits}
 use Rattle.refal_real.proofs.exponent.value.Goals as goal
 
