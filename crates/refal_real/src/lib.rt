@@ -75,7 +75,8 @@ fn fitting(text: &[u8], room: usize) -> Result<Form<'_>, Refusal>
     Ok(form)
 }
 
-// The normal form of a real's text: its digits into the bytes lent, and its sign, its power's sign and magnitude.
+// The normal form of a real's text: its digits into the bytes lent, and its sign, its power's sign and magnitude. C lends both, so
+// the form goes out in words.
 pub fn normal_form(text: &[u8], digits: &mut [u8], form: &mut [u64; 3]) -> Result<usize, Refusal>
     ensures answer { told result ≡ real_answer text.now (length digits.old) }
     ensures left { digits.new ≡ real_digits text.now digits.old }
