@@ -58,7 +58,7 @@ pub fn refal5_canonical_name(name: &[u8], out: &mut [u8], answer: &mut [u64; 7])
     ensures told { answer.new ≡ answer_words (form_answer (canonical_name name.now) out.old) }
     ensures left { out.new ≡ form_bytes (canonical_name name.now) out.old }
 {
-    *answer = words(refal_ast::names::canonical_identifier(name, out));
+    *answer = words_of(refal_ast::names::canonical_identifier(name, out));
 }
 
 // The canonical form of a variable's index.
@@ -66,7 +66,7 @@ pub fn refal5_canonical_index(name: &[u8], out: &mut [u8], answer: &mut [u64; 7]
     ensures told { answer.new ≡ answer_words (form_answer (canonical_index name.now) out.old) }
     ensures left { out.new ≡ form_bytes (canonical_index name.now) out.old }
 {
-    *answer = words(refal_ast::names::canonical_variable_index(name, out));
+    *answer = words_of(refal_ast::names::canonical_variable_index(name, out));
 }
 
 // Whether two names are equal.

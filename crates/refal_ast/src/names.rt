@@ -1,79 +1,82 @@
 // Names: canonical forms and equality. Case folds; in names `-` and `_` are equivalent too.
-ghost use Rattle.std.specs.Prelude.{◌≡◌, true, false};
-ghost use Rattle.refal_ast.specs.Names.{canonical_name, canonical_index, names_equal, form_answer, form_bytes};
-ghost use Rattle.refal_ast.specs.NamesCode.{form_byte, form};
+ghost use Rattle.std.specs.Prelude.{◌≡◌, ℕ, map};
+ghost use Rattle.refal_ast.specs.Names.{upper_byte, name_byte, canonical_name, canonical_index, names_equal, form_answer, form_bytes};
+ghost use Rattle.refal_ast.specs.Told.{told};
+ghost use Rattle.refal_ast.specs.NamesCode.{form_byte};
 
-use crate::{Answer, Refusal};
+use crate::answers::{Reason, Refusal};
 
 // An executable program starts from the function named `Go`.
-pub const PROGRAM_ENTRY_POINT: [u8; 2] = [71, 111];
+pub const PROGRAM_ENTRY_POINT: [u8; 2] = *b"Go";
+
+// The canonical form of a byte of an index: letters fold.
+fn index_byte(b: u8) -> u8
+    ensures { result ≡ upper_byte b }
+{
+    b.to_ascii_uppercase()
+}
+
+// The canonical form of a byte of a name: `_` folds too.
+pub fn name_byte(b: u8) -> u8
+    ensures { result ≡ name_byte b }
+{
+    match b {
+        b'_' => b'-',
+        _ => index_byte(b),
+    }
+}
 
 // A byte's canonical form: in an index (hyphens false) only letters fold.
 pub fn canonical_byte(b: u8, hyphens: bool) -> u8
     ensures { result ≡ form_byte hyphens b }
 {
-    let line = hyphens & (b == 95);
-    if line {
-        return 45;
-    }
-    let small = (97 <= b) & (b <= 122);
-    if small { b - 32 } else { b }
+    if hyphens { name_byte(b) } else { index_byte(b) }
 }
 
-fn canonical(name: &[u8], out: &mut [u8], hyphens: bool) -> Answer
-    ensures answer { result ≡ form_answer (form hyphens name.now) out.old }
-    ensures left { out.new ≡ form_bytes (form hyphens name.now) out.old }
+// The form f of each byte, where the output has room.
+#[tactic(auto, using(crate::specs::NamesCode::map_turn))]
+fn canonical<F: Fn(u8) -> u8>(name: &[u8], out: &mut [u8], form: F) -> Result<usize, Refusal>
+    ghost f: { ℕ → ℕ }
+    requires callable { F.IsAlwaysCallable form }
+    requires forms { (x y : ℕ) → F.post form x y → y ≡ f x }
+    ensures answer { told result ≡ form_answer (map f name.now) out.old }
+    ensures left { out.new ≡ form_bytes (map f name.now) out.old }
 {
-    let n = name.len();
-    if out.len() < n {
-        refal_rows::clear_bytes(out);
-        return Answer::Refused(Refusal {
-            number: 50,
-            expected: 0,
-            found: 0,
-            start: 0,
-            end: 0,
-            need: 0,
-        });
+    if out.len() < name.len() {
+        out.fill(0);
+        return Err(Refusal::from(Reason::OutputShort));
     }
-    let mut i = 0;
-    while i < n {
-        out[i] = canonical_byte(name[i], hyphens);
-        i += 1;
+    for (i, b) in name.iter().enumerate() {
+        out[i] = form(*b);
     }
-    Answer::Done(n)
+    Ok(name.len())
 }
 
 // The canonical form of an identifier or function name: a to z become A to Z, `_` becomes `-`.
-pub fn canonical_identifier(name: &[u8], out: &mut [u8]) -> Answer
-    ensures answer { result ≡ form_answer (canonical_name name.now) out.old }
+#[tactic(auto, unfolding(crate::specs::Names::canonical_name))]
+pub fn canonical_identifier(name: &[u8], out: &mut [u8]) -> Result<usize, Refusal>
+    ensures answer { told result ≡ form_answer (canonical_name name.now) out.old }
     ensures left { out.new ≡ form_bytes (canonical_name name.now) out.old }
 {
-    canonical(name, out, true)
+    canonical(name, out, name_byte)
 }
 
 // The canonical form of a variable's index: only letters fold.
-pub fn canonical_variable_index(index: &[u8], out: &mut [u8]) -> Answer
-    ensures answer { result ≡ form_answer (canonical_index index.now) out.old }
+#[tactic(auto, unfolding(crate::specs::Names::canonical_index))]
+pub fn canonical_variable_index(index: &[u8], out: &mut [u8]) -> Result<usize, Refusal>
+    ensures answer { told result ≡ form_answer (canonical_index index.now) out.old }
     ensures left { out.new ≡ form_bytes (canonical_index index.now) out.old }
 {
-    canonical(index, out, false)
+    canonical(index, out, index_byte)
 }
 
 // Whether two names are equal, in one pass and with no buffer.
 pub fn identifiers_equal(left: &[u8], right: &[u8]) -> bool
     ensures { result ≡ names_equal left.now right.now }
 {
-    let n = left.len();
-    if n != right.len() {
-        return false;
-    }
-    let mut i = 0;
-    while i < n {
-        if canonical_byte(left[i], true) != canonical_byte(right[i], true) {
-            return false;
-        }
-        i += 1;
-    }
-    true
+    left.len() == right.len()
+        && left
+            .iter()
+            .zip(right)
+            .all(|(l, r)| name_byte(*l) == name_byte(*r))
 }

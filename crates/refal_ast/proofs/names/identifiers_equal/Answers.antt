@@ -1,19 +1,21 @@
--- `refal_ast::names::identifiers_equal` meets its contract.
-use Rattle.std.proofs.Common.{arith, refl, sym, ◌∙◌}
-use Rattle.refal_ast.specs.NamesCode.{equal_step, equal_stop, equal_end, equal_long}
+-- `refal_ast::names::identifiers_equal` meets its contract: the bytes are compared pair by pair.
+use Rattle.std.proofs.Common.{rules, tests, ◌≡◌, ◌∙◌, sym, ne_eqb, ℕ, eqb, zip}
+use Rattle.std.specs.List.{list_all}
+use Rattle.std.proofs.lemmas.Iterator.{YieldsList-from_slice, YieldsList-from_zip}
+use Rattle.std.proofs.lemmas.Iterator.Consumers.{YieldsList-at}
+use Rattle.std.proofs.lemmas.Iterator.Search.{all_from_yields_List}
+use Rattle.refal_ast.specs.Names.{name_byte}
+use Rattle.refal_ast.specs.NamesCode.{all_equal, equal_long}
 use Rattle.refal_ast.proofs.names.identifiers_equal.Goals as goal
 
-pub returns-then-n-right : goal.returns-then-n-right
-returns-then-n-right c = sym (equal_long c.args.left.now c.args.right.now c.if-n-right.true)
+pub returns-then-left-right : goal.returns-then-left-right
+returns-then-left-right c =
+    let a = c.args.left.now in
+    let b = c.args.right.now in
+    let pairs = YieldsList-from_zip (YieldsList-at c.zip.ensures.first (YieldsList-from_slice a c.iter.ensures.rest)) (YieldsList-from_slice b c.zip.ensures.second.0) in
+    let e : c.all.result ≡ list_all (λ (p : ℕ × ℕ). eqb (name_byte p.0) (name_byte p.1)) (zip a b) =
+    all_from_yields_List (λ (p : ℕ × ℕ). eqb (name_byte p.0) (name_byte p.1)) c.all.new.self _ c.all.result c.all.ensures.ran pairs (λ x t q k. search (rules, tests)) in
+    e ∙ all_equal a b c.if-left-right.true
 
-pub loop-i-init : goal.loop-i-init
-loop-i-init c = (omega arith, c.if-n-right.false, refl)
-
-pub returns-then-canonical_byte : goal.returns-then-canonical_byte
-returns-then-canonical_byte c = sym (equal_stop c.args.left.now c.args.right.now c.loop-i.i (omega arith) c.loop-i.invariant.1 (λ e. c.if-canonical_byte.true (c.canonical_byte.ensures ∙ e ∙ sym c.canonical_byte-in-loop-i.ensures))) ∙ c.loop-i.invariant.2
-
-pub loop-i-preserved : goal.loop-i-preserved
-loop-i-preserved c = (omega arith, c.loop-i.invariant.1, equal_step c.args.left.now c.args.right.now c.loop-i.i (omega arith) c.loop-i.invariant.1 (sym c.canonical_byte.ensures ∙ c.if-canonical_byte.false ∙ c.canonical_byte-in-loop-i.ensures) ∙ c.loop-i.invariant.2)
-
-pub returns : goal.returns
-returns c = sym (equal_end c.args.left.now c.args.right.now c.loop-i.i (omega arith) c.loop-i.invariant.1) ∙ c.loop-i.invariant.2
+pub returns-else-left-right : goal.returns-else-left-right
+returns-else-left-right c = ne_eqb _ _ c.if-left-right.false ∙ sym (equal_long _ _ c.if-left-right.false)
