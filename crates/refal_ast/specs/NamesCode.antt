@@ -4,11 +4,7 @@ use Rattle.std.specs.List.{zip, list_all}
 use Rattle.std.proofs.Common.{ap, sym, ◌∙◌, arith}
 use Rattle.std.proofs.lemmas.List.{length-map, get_or-map}
 use Rattle.refal_rows.specs.Tests.{copy_turn}
-use Rattle.refal_ast.specs.Names.{pick_byte, upper_byte, name_byte, canonical_name, same_list, names_equal}
-
--- the canonical form of a byte, by whether hyphens fold too
-abbrev pub form_byte : Bool → ℕ → ℕ
-form_byte hyphens b = pick_byte (hyphens && eqb b 95) 45 (upper_byte b)
+use Rattle.refal_ast.specs.Names.{name_byte, canonical_name, same_list, names_equal}
 
 -- the first i forms stand before what the output had
 pub map_turn : (f : ℕ → ℕ) (l l₀ s : List ℕ) (i x : ℕ) → l ≡ take i (map f s) ++ drop i l₀ → i < length s → length s ≤ length l₀ → x ≡ f (get_or s i 0)

@@ -2,7 +2,6 @@
 ghost use Rattle.std.specs.Prelude.{◌≡◌, ℕ, map};
 ghost use Rattle.refal_ast.specs.Names.{upper_byte, name_byte, canonical_name, canonical_index, names_equal, form_answer, form_bytes};
 ghost use Rattle.refal_ast.specs.Told.{told};
-ghost use Rattle.refal_ast.specs.NamesCode.{form_byte};
 
 use crate::answers::{Reason, Refusal};
 
@@ -24,13 +23,6 @@ pub fn name_byte(b: u8) -> u8
         b'_' => b'-',
         _ => index_byte(b),
     }
-}
-
-// A byte's canonical form: in an index (hyphens false) only letters fold.
-pub fn canonical_byte(b: u8, hyphens: bool) -> u8
-    ensures { result ≡ form_byte hyphens b }
-{
-    if hyphens { name_byte(b) } else { index_byte(b) }
 }
 
 // The form f of each byte, where the output has room.

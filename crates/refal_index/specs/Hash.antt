@@ -1,8 +1,7 @@
 -- A name's bucket: of names with equal canonical forms it is one and the same. Nothing else is promised of it.
 use Rattle.std.specs.Prelude.{ℕ, ◌+◌, ◌*◌, ◌%◌, ◌/◌, ◌≤◌, ◌<◌, true, List, [], ◌∷◌, ◌≡◌, refl, length, drop, get_or}
 use Rattle.std.proofs.Common.{ap, sym, arith, mul-lt-mul_of_pos_right, mul-le-mul_right, div-lt_iff_lt-mul, mod-lt, add-one, drop_of_length-le, drop-cons}
-use Rattle.refal_ast.specs.Names.{canonical_name, names_equal, names_equal_lem}
-use Rattle.refal_ast.specs.NamesCode.{form_byte}
+use Rattle.refal_ast.specs.Names.{name_byte, canonical_name, names_equal, names_equal_lem}
 
 -- the bytes of the canonical form go into a number of 32 bits, the first byte first
 abbrev pub mix : ℕ → ℕ → ℕ
@@ -25,7 +24,7 @@ unfolding bucket_of
 equal_buckets b key name e = ap (λ (s : List ℕ). hash_from 2166136261 s * 2654435769 % 4294967296 * b / 4294967296) (sym (names_equal_lem key name e))
 
 -- the hashing loop: what is left from i on goes into the number
-pub hash_step : (s : List ℕ) (i x : ℕ) → i < length s → hash_from (mix x (form_byte true (get_or s i 0))) (canonical_name (drop (i + 1) s)) ≡ hash_from x (canonical_name (drop i s))
+pub hash_step : (s : List ℕ) (i x : ℕ) → i < length s → hash_from (mix x (name_byte (get_or s i 0))) (canonical_name (drop (i + 1) s)) ≡ hash_from x (canonical_name (drop i s))
 unfolding hash_from canonical_name
 hash_step s i x l = rw (drop-cons s i 0 l, add-one i) refl
 

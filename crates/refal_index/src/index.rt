@@ -3,7 +3,7 @@ ghost use Rattle.std.specs.Prelude.{◌≡◌, ◌+◌, ◌≤◌, ◌<◌, leng
 ghost use Rattle.refal_index.specs.Hash.{hash_of, bucket_of};
 
 use crate::Bearers;
-use refal_ast::names::canonical_byte;
+use refal_ast::names::name_byte;
 use refal_files::Files;
 
 // The lent words: a link for each row, then the heads of buckets. 0 ends a chain, g + 1 goes on at row g.
@@ -85,7 +85,7 @@ fn hash(name: &[u8]) -> u32
     for b in name {
         x = x
             .wrapping_mul(16777619)
-            .wrapping_add(u32::from(canonical_byte(*b, true)));
+            .wrapping_add(u32::from(name_byte(*b)));
     }
     x
 }

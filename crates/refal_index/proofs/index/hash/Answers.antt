@@ -10,7 +10,7 @@ loop-b-preserved c =
     let s = c.args.name.now in
     let b = c.from.result in
     ap (λ (x : ℕ). hash_from x (canonical_name (drop (c.loop-b.b-index + 1) s))) (mod-add-mod (c.loop-b.x * 16777619) 4294967296 b)
-    ∙ rw (c.from.ensures, c.canonical_byte.ensures) (hash_step s c.loop-b.b-index c.loop-b.x (omega arith))
+    ∙ rw (c.from.ensures, c.name_byte.ensures) (hash_step s c.loop-b.b-index c.loop-b.x (omega arith))
     ∙ c.loop-b.invariant
 
 pub returns : goal.returns
