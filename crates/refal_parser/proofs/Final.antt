@@ -2,7 +2,10 @@
 use mathlib.Core.Path.{◌≡◌, refl, sym, ap, ◌∙◌}
 use Prim.Native.Nat.{ℕ, ◌*◌, ◌≤◌, ◌<◌}
 use mathlib.Core.List.{List, ◌++◌}
-use mathlib.Core.Bool.{Bool, true, false}
+use mathlib.Core.Bool.{Bool, true, false, true≢false}
+use Rattle.std.specs.Prelude.{Result, Ok, Err, IsErr}
+use Rattle.refal_ast.specs.Told.{told, refusal_told}
+use Rattle.refal_ast.specs.declared.answers.Refusal.{Refusal as Told}
 use native.Mathlib.Omega.{arith}
 use lib.ListN.{length, drop, replicate}
 use lib.Dec.{leb}
@@ -36,8 +39,7 @@ parsed_good w e = ap (λ (b : Bool). pick_outcome b (run most_levels (tokens_of 
 pub answered : (w B : List ℕ) {o : Outcome} → parsed w ≡ o → answer_of o B ≡ parse_answer w B
 answered w B h = sym (ap (λ (o : Outcome). answer_of o B) h)
 
--- a refusal leaves every word 0
-pub left_refused : (w B : List ℕ) (r : Refusal) → Refused r ≡ parse_answer w B → parse_rows w B ≡ replicate (length B) 0
+left_refused : (w B : List ℕ) (r : Refusal) → Refused r ≡ parse_answer w B → parse_rows w B ≡ replicate (length B) 0
 left_refused w B r e = by (parsed w) e
   where
     fit : (t : Program) (x : Bool) → Refused r ≡ pick_answer x (Done (size_p t)) (Refused (refusal 38 0 0 0 0 (size_p t))) →
@@ -48,6 +50,11 @@ left_refused w B r e = by (parsed w) e
     by : (o : Outcome) → Refused r ≡ answer_of o B → rows_left o B ≡ replicate (length B) 0
     by (refuse a b c d x) e = refl
     by (tree t) e = fit t (fits t B) e
+
+-- a refusal leaves every word 0
+pub refused_rows : (w B : List ℕ) (r : Result ℕ Told) → IsErr r → told r ≡ parse_answer w B → parse_rows w B ≡ replicate (length B) 0
+refused_rows w B (Ok n) e a = absurd (true≢false (sym e))
+refused_rows w B (Err x) e a = left_refused w B (refusal_told x) a
 
 -- the answer and the rows for a tree, by whether it fits
 fitted : (B : List ℕ) (t : Program) (b : Bool) → leb (node_width * size_p t) (length B) ≡ b →

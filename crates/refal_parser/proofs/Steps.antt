@@ -22,7 +22,7 @@ use Rattle.refal_ast.specs.declared.nodes.Node.{Node as TheNode}
 use Rattle.refal_ast.specs.Tree.{Terms, t0, End, Sentences, s0, b_all, Names, n_one, n_more, declaration, Program, p_more}
 use Rattle.refal_parser.specs.Begins.{Term, Symbol as the_symbol, Variable, Bracket, Call, UnknownVariable, NoTerm}
 use Rattle.refal_ast.specs.Limits.{most_levels}
-use Rattle.refal_parser.specs.Machine.{term_of, variable_of, Heading, Begun, Argument, Block, body, in_condition, in_ending, Place, pattern, argument, matching, result, ending, in_bracket, in_call}
+use Rattle.refal_parser.specs.Machine.{term_of, Heading, Begun, Argument, Block, body, in_condition, in_ending, Place, pattern, argument, matching, result, ending, in_bracket, in_call}
 use Rattle.refal_parser.specs.Machine.{State, outside, wants_name, wants_more, named, entered, headed, between, within, calling, matched, conditioned, equated, blocked, ended}
 use Rattle.refal_parser.specs.Machine.{tree, refuse, Step, go, opens, expected, wants, among, closing, either, in_terms, at_terms, finished, left_off, leave, step, run}
 use Rattle.refal_parser.specs.Ready.{tok, term_at, after_from, after_to, Ready}
@@ -61,13 +61,6 @@ pub put_as : (B : List ℕ) {B' : List ℕ} (m : ℕ) (x : TheNode) {row : List 
 put_as B m x e f = e ∙ ap (λ (r : List ℕ). put_node B m r) f
 
 -- ---- what a token begins
-pub variable_none : (x s l : ℕ) → (x ≡ 115 → ⊥) → (x ≡ 116 → ⊥) → (x ≡ 101 → ⊥) → UnknownVariable ≡ variable_of x s l
-variable_none x s l n₁ n₂ n₃ = rw (ne_eqb x 115 n₁, ne_eqb x 116 n₂, ne_eqb x 101 n₃) refl
-
-pub term_none : (k d s l : ℕ) → (k ≡ 3 → ⊥) → (k ≡ 4 → ⊥) → (k ≡ 5 → ⊥) → (k ≡ 6 → ⊥) → (k ≡ 9 → ⊥) → (k ≡ 11 → ⊥) → NoTerm ≡ term_of k d s l
-term_none k d s l n₃ n₄ n₅ n₆ n₉ n₁₁ =
-    rw (ne_eqb k 3 n₃, ne_eqb k 4 n₄, ne_eqb k 5 n₅, ne_eqb k 6 n₆, ne_eqb k 9 n₉, ne_eqb k 11 n₁₁) refl
-
 abbrev pub begins : Term → ℕ
 begins (the_symbol z) = 1
 begins (Variable v s l) = 1
@@ -119,14 +112,6 @@ module _ (w : List ℕ) (at : ℕ) where
   -- ---- the kind that closes terms
   pub closes_here : (want : ℕ) (st : State) (p : Program) → get_or w at 0 ≡ want → Closing w at want st p ≡ runs w (at + 6) p st
   closes_here want st p e = rw (eq-eqb (get_or w at 0) want e) refl
-
-  pub closes_eof : (want : ℕ) (st : State) (p : Program) → (get_or w at 0 ≡ want → ⊥) → get_or w at 0 ≡ tok_eof →
-      Closing w at want st p ≡ refuse 35 want (get_or w at 0) (get_or w (at + 4) 0) (get_or w (at + 5) 0)
-  closes_eof want st p n e = rw (ne_eqb (get_or w at 0) want n, eq-eqb (get_or w at 0) tok_eof e) refl
-
-  pub closes_none : (want : ℕ) (st : State) (p : Program) → (get_or w at 0 ≡ want → ⊥) → (get_or w at 0 ≡ tok_eof → ⊥) →
-      Closing w at want st p ≡ refuse 34 0 (get_or w at 0) (after_from w at) (after_to w at)
-  closes_none want st p n n' = rw (ne_eqb (get_or w at 0) want n, ne_eqb (get_or w at 0) tok_eof n') refl
 
   -- ---- one of two kinds: neither
   module _ (also want : ℕ) (u v : Step) where

@@ -12,7 +12,8 @@ use refal_ast::answers::{Found, Reason, Refusal, Span};
 use refal_ast::kinds::TokenKind;
 use refal_ast::tokens::{Token, WIDTH};
 
-// The word where a token begins, and a row: where a part begins, and where it ends.
+// The word where a token begins, and a row: where a part begins, and where it ends. That a token stands at the word, and that the
+// rows are few, are clauses and no ghost fields: the tokens don't stand in the place, and lent words can't stand in an answer.
 #[derive(Clone, Copy)]
 pub struct Place {
     pub at: usize,
@@ -57,9 +58,9 @@ fn after(tokens: &[u32], at: usize) -> Token
     ensures from { result.from ≡ after_from tokens.now at }
     ensures to { result.to ≡ after_to tokens.now at }
 {
-    let token_taken = token(tokens, at);
-    match token_taken.kind {
-        TokenKind::Eof => token_taken,
+    let present = token(tokens, at);
+    match present.kind {
+        TokenKind::Eof => present,
         _ => token(tokens, at + WIDTH),
     }
 }

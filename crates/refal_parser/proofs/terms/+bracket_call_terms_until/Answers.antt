@@ -89,6 +89,14 @@ terms-loop-symbol-preserved-in-Ok-Some-Variable t c = let T = c.token-first.ensu
     let k : term_at c.args.tokens.now c.loop-symbol.place.at ≡ Variable v.kind v.start v.len = search rules in
     one_leaf_lem (variable v.kind v.start v.len) k T.from T.to c.put-in-Ok-Some-Variable.auto.rows (put_as _ _ _ c.put-in-Ok-Some-Variable.ensures c.variable.ensures) c.loop-symbol.invariant
 
+pub terms-returns-in_err-place-in-Ok-Some-Bracket : goal.terms-returns-in_err-place-in-Ok-Some-Bracket
+terms-returns-in_err-place-in-Ok-Some-Bracket t c = let I = c.loop-symbol.invariant in
+    passed _ _ c.from_residual.ensures.1 (λ x p. I.means x p ∙ c.in_err-place-in-Ok-Some-Bracket.ensures.no _ _ _ _ _ refl x I.g p)
+
+pub terms-returns-in_err-place-in-Ok-Some-Call : goal.terms-returns-in_err-place-in-Ok-Some-Call
+terms-returns-in_err-place-in-Ok-Some-Call t c = let I = c.loop-symbol.invariant in
+    passed _ _ c.from_residual-in_err-place-in-Ok-Some-Call.ensures.1 (λ x p. I.means x p ∙ c.in_err-place-in-Ok-Some-Call.ensures.no _ _ _ _ _ refl x I.g p)
+
 pub terms-loop-symbol-smaller-in-Ok-Some-Bracket : goal.terms-loop-symbol-smaller-in-Ok-Some-Bracket
 terms-loop-symbol-smaller-in-Ok-Some-Bracket t c = let L = c.loop-symbol.invariant in let o = L.on in let b = c.in_ok-place-in-Ok-Some-Bracket.ensures.at _ _ refl in let R = b.ready in let h = b.on in omega arith
 

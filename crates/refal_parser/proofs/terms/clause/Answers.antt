@@ -1,8 +1,11 @@
 -- `refal_parser::terms::clause` meets its contract: terms up to one of two kinds, with their row.
 use Rattle.std.proofs.Common.{refl, arith}
-use Rattle.refal_parser.proofs.Steps.{put_as}
+use Rattle.refal_parser.proofs.Steps.{passed, put_as}
 use Rattle.refal_parser.proofs.TermLaws.{clause_of_terms, clause_no}
 use Rattle.refal_parser.proofs.terms.clause.Goals as goal
+
+pub returns-in_err-end : goal.returns-in_err-end
+returns-in_err-end c = passed _ _ c.from_residual.ensures.1 (λ q st h. c.in_err-end.ensures.no _ _ _ _ _ refl q)
 
 pub spanned-requires : goal.spanned-requires
 spanned-requires c = let T = c.in_ok-end.ensures.at _ _ refl in let R = T.ready in let f = T.few in omega arith
