@@ -55,6 +55,9 @@ fn is_second(a: u8, b: u8) -> bool
     (low..=high).contains(&b)
 }
 
+// Two, three and four bytes stay apart, a function for each row of the table: one over any number of bytes would need a loop, with a bound
+// for its sum, where these need no proof.
+
 // The character of two bytes, a and b.
 #[inline(always)]
 pub fn two(a: u8, b: u8) -> Option<Char>
@@ -71,6 +74,7 @@ pub fn two(a: u8, b: u8) -> Option<Char>
     })
 }
 
+// Of three, where a leads three.
 #[inline(always)]
 fn three(a: u8, b: u8, c: u8) -> Option<Char>
     requires { 224 ≤ a }
@@ -86,6 +90,7 @@ fn three(a: u8, b: u8, c: u8) -> Option<Char>
     })
 }
 
+// Of four, where a leads four or none.
 #[inline(always)]
 fn four(a: u8, b: u8, c: u8, d: u8) -> Option<Char>
     requires { 240 ≤ a }
@@ -154,6 +159,7 @@ pub fn ill_formed(src: &[u8]) -> Option<usize>
     None
 }
 
+// The same three for callers that take a character of length 0, or the end, for none.
 const NONE: Char = Char { code: 0, len: 0 };
 
 pub fn char_at(src: &[u8], at: usize) -> Char
