@@ -66,8 +66,7 @@ impl<'w> Index<'w> {
     {
         let at = self.rows + bucket(name, self.buckets);
         let mut next = self.words[at] as usize;
-        while 0 < next {
-            let g = next - 1;
+        while let Some(g) = next.checked_sub(1) {
             if bearers.bear(files, g, name) {
                 return true;
             }

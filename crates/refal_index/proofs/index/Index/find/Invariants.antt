@@ -5,8 +5,8 @@ use Rattle.refal_index.specs.Named.{row_bucket, answers_to}
 use Rattle.refal_index.specs.View.{only_functions}
 use Rattle.refal_index.proofs.index.Index.find.Given as goal
 
-abbrev pub invariant-loop-next : goal.invariant-loop-next
-invariant-loop-next l = Walk l.self.words.now l.self.rows l.self.buckets (row_bucket (row_of l.files) l.self.buckets) (λ i. answers_to (only_functions l.bearers) l.name (row_of l.files i)) l.next
+abbrev pub invariant-loop-g : goal.invariant-loop-g
+invariant-loop-g l = Walk l.self.words.now l.self.rows l.self.buckets (row_bucket (row_of l.files) l.self.buckets) (λ i. answers_to (only_functions l.bearers) l.name (row_of l.files i)) l.next
 
-abbrev pub decreases-loop-next : goal.decreases-loop-next
-decreases-loop-next l = l.next
+abbrev pub decreases-loop-g : goal.decreases-loop-g
+decreases-loop-g l = l.next
