@@ -64,7 +64,7 @@ impl<'a> Files<'a> {
         }
     }
 
-    // The text of row g, as a part of whichever source holds it.
+    // The text of row g, as a part of whichever source holds it. It is that of a row of an unknown kind too, which is no Node.
     pub fn text(&self, g: usize) -> &'a [u8]
         requires { g < rows_of self.now }
         ensures { result.now ≡ text_of (row_of self.now g) }
