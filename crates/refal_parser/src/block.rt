@@ -93,14 +93,10 @@ fn put_sentence(
     ensures put { rows.new ≡ sentence_put tokens.now rows.old at end row next }
 {
     let from = token(tokens, at).from;
-    if let TokenKind::RBrace = token(tokens, end).kind {
-        let to = end_before(tokens, end);
-        nodes::sentence(true, from, to, next).put(rows, row);
-        return end;
-    }
-    let after = end + WIDTH;
+    let left_off = token(tokens, end).kind == TokenKind::RBrace;
+    let after = if left_off { end } else { end + WIDTH };
     let to = end_before(tokens, after);
-    nodes::sentence(false, from, to, next).put(rows, row);
+    nodes::sentence(left_off, from, to, next).put(rows, row);
     after
 }
 

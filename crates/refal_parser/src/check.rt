@@ -9,6 +9,7 @@ use refal_ast::tokens::WIDTH;
 // A token for each byte of the longest source, and Eof.
 const MOST_WORDS: usize = WIDTH * (limits::MOST_BYTES + 1);
 
+// The kinds' numbers: the words are not yet known to be any.
 const ENTRY: u32 = TokenKind::Entry as u32;
 
 const IDENTIFIER: u32 = TokenKind::Identifier as u32;
@@ -35,7 +36,8 @@ fn uses_detail(kind: u32) -> bool
     matches!(kind, VARIABLE | CHAR)
 }
 
-// Whether the unused fields of a row are 0, and a Variable's or Char's detail is a scalar value.
+// Whether the unused fields of a row are 0, and a Variable's or Char's detail is a scalar value. By `&` and `|`, so that nothing
+// branches.
 fn good_fields(row: &[u32]) -> bool
     requires { 6 ≤ length row.now }
     ensures { result ≡ good_fields (get_or row.now 0 0) (get_or row.now 1 0) (get_or row.now 2 0) (get_or row.now 3 0) }
