@@ -118,11 +118,8 @@ fn sentence(
     while let TokenKind::Comma = token(tokens, place.at).kind {
         place = condition(tokens, rows, place, left)?;
     }
-    let right = Place {
-        at: place.at + WIDTH,
-        row: place.row,
-    };
-    let end = ending(tokens, rows, right, left)?;
+    place.at += WIDTH;
+    let end = ending(tokens, rows, place, left)?;
     let after = put_sentence(tokens, rows, at, end.at, row, end.row);
     Ok(Place {
         at: after,
@@ -152,10 +149,8 @@ pub fn block(
     loop {
         match token(tokens, place.at).kind {
             TokenKind::RBrace => {
-                return Ok(Place {
-                    at: place.at + WIDTH,
-                    row: place.row,
-                });
+                place.at += WIDTH;
+                return Ok(place);
             }
             TokenKind::Eof => {
                 let expected = Some(TokenKind::RBrace);

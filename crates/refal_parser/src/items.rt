@@ -49,11 +49,8 @@ fn declaration(tokens: &[u32], rows: &mut [u32], start: Place) -> Result<Place, 
     };
     let mut place = name(tokens, rows, first)?;
     while let TokenKind::Comma = token(tokens, place.at).kind {
-        let more = Place {
-            at: place.at + WIDTH,
-            row: place.row,
-        };
-        place = name(tokens, rows, more)?;
+        place.at += WIDTH;
+        place = name(tokens, rows, place)?;
     }
     let last = token(tokens, place.at);
     let TokenKind::Semicolon = last.kind else {
@@ -62,10 +59,8 @@ fn declaration(tokens: &[u32], rows: &mut [u32], start: Place) -> Result<Place, 
     };
     let from = token(tokens, at).from;
     nodes::spanned(NodeKind::Declaration, from, last.to, place.row).put(rows, row);
-    Ok(Place {
-        at: place.at + WIDTH,
-        row: place.row,
-    })
+    place.at += WIDTH;
+    Ok(place)
 }
 
 // The function that begins at the place, whose name is at `name`.

@@ -71,18 +71,14 @@ fn terms(tokens: &[u32], rows: &mut [u32], start: Place, left: usize) -> Result<
             Ok(Some(Term::Symbol(symbol))) => {
                 let next = place.row + 1;
                 nodes::symbol(symbol, first.from, first.to, next).put(rows, place.row);
-                place = Place {
-                    at: place.at + WIDTH,
-                    row: next,
-                };
+                place.at += WIDTH;
+                place.row = next;
             }
             Ok(Some(Term::Variable { kind, start, len })) => {
                 let next = place.row + 1;
                 nodes::variable(kind, start, len, first.from, first.to, next).put(rows, place.row);
-                place = Place {
-                    at: place.at + WIDTH,
-                    row: next,
-                };
+                place.at += WIDTH;
+                place.row = next;
             }
             Ok(Some(Term::Bracket)) => place = bracket(tokens, rows, place, left)?,
             Ok(Some(Term::Call)) => place = call(tokens, rows, place, left)?,

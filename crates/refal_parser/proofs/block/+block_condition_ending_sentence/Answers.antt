@@ -13,38 +13,38 @@ block-returns-then-left-eq0 t c = let w = c.args.tokens.now in
     let at₀ = c.args.brace.at in
     is_no c.present.ensures (λ b. open_none w at₀ c.args.left (λ (d : ℕ). between d b s0) c.if-left-eq0.true)
 
-pub block-loop-expected-init : goal.block-loop-expected-init
+pub block-loop-place-init : goal.block-loop-place-init
 unfolding size_s w_s
-block-loop-expected-init t c = let w = c.args.tokens.now in
+block-loop-place-init t c = let w = c.args.tokens.now in
     let at₀ = c.args.brace.at in
     let pre₀ = c.requires in
     record { v = b_all s0; ready = ready_next _ _ pre₀.0 (other _ _ _ pre₀.2 refl); on = omega arith; stops = omega arith; same = refl; rows = refl; count = omega arith; means = λ b. open_some w at₀ c.args.left (λ (d : ℕ). between d b s0) c.if-left-eq0.false }
 
 pub block-returns-in-RBrace : goal.block-returns-in-RBrace
-block-returns-in-RBrace t c = is_at refl (block_of_sentences c.loop-expected.invariant.ready (is_kind c.token.ensures c.in-RBrace.is) c.if-left-eq0.false c.loop-expected.invariant)
+block-returns-in-RBrace t c = is_at refl (block_of_sentences c.loop-place.invariant.ready (is_kind c.token.ensures c.in-RBrace.is) c.if-left-eq0.false c.loop-place.invariant)
 
 pub block-returns-in-Eof : goal.block-returns-in-Eof
 block-returns-in-Eof t c = let k₁₇ = is_kind c.token.ensures c.in-Eof.is in
-    is_no c.present-in-Eof.ensures (block_unclosed c.loop-expected.invariant (other _ _ _ k₁₇ refl) k₁₇)
+    is_no c.present-in-Eof.ensures (block_unclosed c.loop-place.invariant (other _ _ _ k₁₇ refl) k₁₇)
 
 pub block-sentence-requires : goal.block-sentence-requires
 block-sentence-requires t c = let K = c.token.ensures in
     let pre₀ = c.requires in
-    let I = c.loop-expected.invariant in
+    let I = c.loop-place.invariant in
     let S = sofar_all I (not_kind K c.in_default.not-RBrace) (not_kind K c.in_default.not-Eof) in
     let R = I.ready in let o = I.on in let n = c.if-left-eq0.false in let g = pre₀.0 in (omega arith, (I.ready, S.few))
 
 pub block-returns-in_err-place-in_default : goal.block-returns-in_err-place-in_default
 block-returns-in_err-place-in_default t c = let K = c.token.ensures in
-    passed _ _ c.from_residual.ensures.1 (sentence_no c.loop-expected.invariant (not_kind K c.in_default.not-RBrace) (not_kind K c.in_default.not-Eof)
+    passed _ _ c.from_residual.ensures.1 (sentence_no c.loop-place.invariant (not_kind K c.in_default.not-RBrace) (not_kind K c.in_default.not-Eof)
     (c.in_err-place-in_default.ensures.no _ _ _ _ _ refl))
 
-pub block-loop-expected-smaller : goal.block-loop-expected-smaller
-block-loop-expected-smaller t c = let S = c.in_ok-place-in_default.ensures.at _ _ refl in let R = S.ready in let q = S.on in omega arith
+pub block-loop-place-smaller : goal.block-loop-place-smaller
+block-loop-place-smaller t c = let S = c.in_ok-place-in_default.ensures.at _ _ refl in let R = S.ready in let q = S.on in omega arith
 
-pub block-loop-expected-preserved : goal.block-loop-expected-preserved
-block-loop-expected-preserved t c = let K = c.token.ensures in
-    one_sentence c.loop-expected.invariant (not_kind K c.in_default.not-RBrace) (not_kind K c.in_default.not-Eof) c.sentence.auto.rows (c.in_ok-place-in_default.ensures.at _ _ refl)
+pub block-loop-place-preserved : goal.block-loop-place-preserved
+block-loop-place-preserved t c = let K = c.token.ensures in
+    one_sentence c.loop-place.invariant (not_kind K c.in_default.not-RBrace) (not_kind K c.in_default.not-Eof) c.sentence.auto.rows (c.in_ok-place-in_default.ensures.at _ _ refl)
 
 pub condition-token-from-requires : goal.condition-token-from-requires
 condition-token-from-requires t c = let pre₀ = c.requires in

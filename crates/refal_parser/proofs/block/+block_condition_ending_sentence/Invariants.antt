@@ -15,11 +15,11 @@ decreases-ending l = l.left + (length l.tokens.now - l.place.at) + (l.left + (le
 abbrev pub decreases-sentence : goal.decreases-sentence
 decreases-sentence l = l.left + (length l.tokens.now - l.start.at) + (l.left + (length l.tokens.now - l.start.at)) + 1
 
-abbrev pub invariant-block-loop-expected : goal.invariant-block-loop-expected
-invariant-block-loop-expected l = BlockInv l.tokens l.initial.rows l.rows l.at l.row l.left l.place.at l.place.row
+abbrev pub invariant-block-loop-place : goal.invariant-block-loop-place
+invariant-block-loop-place l = BlockInv l.tokens l.initial.rows l.rows l.at l.row l.left l.place.at l.place.row
 
-abbrev pub decreases-block-loop-expected : goal.decreases-block-loop-expected
-decreases-block-loop-expected l = length l.tokens - l.place.at
+abbrev pub decreases-block-loop-place : goal.decreases-block-loop-place
+decreases-block-loop-place l = length l.tokens - l.place.at
 
 abbrev pub invariant-sentence-loop-rows : goal.invariant-sentence-loop-rows
 invariant-sentence-loop-rows l = CondsInv l.tokens l.initial.rows l.rows l.initial.place.at l.initial.place.row l.left l.place.at l.place.row

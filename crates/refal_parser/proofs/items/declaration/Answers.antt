@@ -17,9 +17,9 @@ returns-in_err-place c = let w = c.args.tokens.now in
     passed _ _ c.from_residual.ensures.1 (λ p. items_extern _ _ pre₀.0 pre₀.2 p
     ∙ (c.in_err-place.ensures.no _ _ _ _ _ refl).first (get_or w (at₀ + 4) 0) p)
 
-pub loop-more-init : goal.loop-more-init
+pub loop-place-init : goal.loop-place-init
 unfolding size_n w_n
-loop-more-init c = let w = c.args.tokens.now in
+loop-place-init c = let w = c.args.tokens.now in
     let at₀ = c.args.start.at in
     let pre₀ = c.requires in
     let F = c.in_ok-place.ensures.at _ _ refl in
@@ -35,25 +35,25 @@ loop-more-init c = let w = c.args.tokens.now in
     }
 
 pub name-requires-in-Comma : goal.name-requires-in-Comma
-name-requires-in-Comma c = let I = c.loop-more.invariant in
+name-requires-in-Comma c = let I = c.loop-place.invariant in
     let v = I.few in (ready_next _ _ I.ready (other _ _ _ (is_kind c.token.ensures c.in-Comma.is) refl), omega arith)
 
 pub returns-in_err-place-2 : goal.returns-in_err-place-2
 returns-in_err-place-2 c = let a = get_or c.args.tokens.now (c.args.start.at + 4) 0 in
-    let I = c.loop-more.invariant in
+    let I = c.loop-place.invariant in
     let k₁₃ = is_kind c.token.ensures c.in-Comma.is in
     passed _ _ c.from_residual-in_err-place-2.ensures.1 (λ p. I.means p ∙ named_comma _ _ I.ready a I.ns k₁₃ p
     ∙ (c.in_err-place-2.ensures.no _ _ _ _ _ refl).more a I.ns p)
 
-pub loop-more-smaller : goal.loop-more-smaller
-loop-more-smaller c = let X = c.in_ok-place-2.ensures.at _ _ refl in let R = X.ready in let q = X.next in omega arith
+pub loop-place-smaller : goal.loop-place-smaller
+loop-place-smaller c = let X = c.in_ok-place-2.ensures.at _ _ refl in let R = X.ready in let q = X.next in omega arith
 
-pub loop-more-preserved : goal.loop-more-preserved
+pub loop-place-preserved : goal.loop-place-preserved
 unfolding size_n w_n
-loop-more-preserved c = let w = c.args.tokens.now in
+loop-place-preserved c = let w = c.args.tokens.now in
     let a₀ = get_or w (c.args.start.at + 4) 0 in
-    let i₀ = c.loop-more.place.at in
-    let I = c.loop-more.invariant in
+    let i₀ = c.loop-place.place.at in
+    let I = c.loop-place.invariant in
     let X = c.in_ok-place-2.ensures.at _ _ refl in
     let k₁₃ = is_kind c.token.ensures c.in-Comma.is in
     record {
@@ -68,7 +68,7 @@ loop-more-preserved c = let w = c.args.tokens.now in
     }
 
 pub returns-in_default-kind : goal.returns-in_default-kind
-returns-in_default-kind c = let I = c.loop-more.invariant in
+returns-in_default-kind c = let I = c.loop-place.invariant in
     is_no c.present.ensures (λ p. I.means p
     ∙ named_none _ _ I.ready _ I.ns (not_kind c.token.ensures c.in_default.not-Comma) (not_kind c.token-last.ensures c.in_default-kind.not-Semicolon) p)
 
@@ -76,8 +76,8 @@ pub returns : goal.returns
 returns c = let w = c.args.tokens.now in
     let b₀ = c.args.rows.now in
     let at₀ = c.args.start.at in
-    let i₀ = c.loop-more.place.at in
-    let I = c.loop-more.invariant in
+    let i₀ = c.loop-place.place.at in
+    let I = c.loop-place.invariant in
     let F = c.in_ok-place.ensures.at _ _ refl in
     let L = c.token-last.ensures in
     let k₁₆ = is_kind L c.in-Semicolon.is in
