@@ -21,10 +21,7 @@ use Rattle.refal_lexer.specs.ClassLaws.{blank_white}
 use Rattle.refal_lexer.specs.Carried.{line_after, place, whites, stop_at, go_on, blanks_from}
 use Rattle.refal_lexer.specs.LineLaws.{white_in}
 use Rattle.refal_lexer.specs.declared.blank.Place.{Place}
-use Rattle.refal_lexer.specs.declared.blank.Comment.{Comment}
-use Rattle.refal_lexer.specs.declared.blank.Comment.TheVariants.{Long, Bare}
-use Rattle.refal_lexer.specs.declared.blank.Blank.{Blank}
-use Rattle.refal_lexer.specs.declared.blank.Blank.TheVariants.{Past, Open}
+use Rattle.refal_lexer.specs.Scans.{Comment, Long, Bare, Blank, Past, Open}
 
 -- a byte that is not 0 is there
 pub nonzero_in : (s : List ℕ) (i : ℕ) → (get_or s i 0 ≡ 0 → ⊥) → i < length s

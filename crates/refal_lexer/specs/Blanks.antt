@@ -5,8 +5,7 @@ use Rattle.refal_text.specs.Span.{span}
 use Rattle.refal_text.specs.Utf8.{decode}
 use Rattle.refal_text.specs.White.{white_space}
 use Rattle.refal_lexer.specs.Classes.{not_newline}
-use Rattle.refal_lexer.specs.declared.blank.Comment.{Comment}
-use Rattle.refal_lexer.specs.declared.blank.Comment.TheVariants.{Long, Bare}
+use Rattle.refal_lexer.specs.Scans.{Comment, Long, Bare}
 
 -- how many bytes the white-space character at the front of s has, and 0 where none is there
 abbrev pub white_len : List ℕ → ℕ

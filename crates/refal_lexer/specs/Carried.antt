@@ -3,11 +3,8 @@ use Rattle.std.specs.Prelude.{ℕ, ◌+◌, zero, suc, ◌-◌, Bool, false, not
 use Rattle.refal_text.specs.Pick.{pick}
 use Rattle.refal_lexer.specs.Blanks.{white_len, comment_at, on_white}
 use Rattle.refal_lexer.specs.Lex.{Out, eof_at}
-use Rattle.refal_lexer.specs.declared.blank.Comment.{Comment}
-use Rattle.refal_lexer.specs.declared.blank.Comment.TheVariants.{Long, Bare}
+use Rattle.refal_lexer.specs.Scans.{Comment, Long, Bare, Blank, Past, Open}
 use Rattle.refal_lexer.specs.declared.blank.Place.{Place}
-use Rattle.refal_lexer.specs.declared.blank.Blank.{Blank}
-use Rattle.refal_lexer.specs.declared.blank.Blank.TheVariants.{Past, Open}
 use Rattle.refal_lexer.specs.Source.{turn}
 
 -- `line` after a white-space character at `at` whose first byte is b: a newline starts a line; other white space leaves `line` as it is, but at offset 0

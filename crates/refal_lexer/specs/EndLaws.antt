@@ -16,8 +16,7 @@ use Rattle.refal_text.specs.Utf8.{cont, decode, well_to}
 use Rattle.refal_text.specs.Utf8Laws.{decode_ascii}
 use Rattle.refal_text.specs.declared.Char.{Char}
 use Rattle.refal_lexer.specs.Classes.{upper, digit, sign, letter, name_byte, not_newline, class_of, c_minus, c_quote}
-use Rattle.refal_lexer.specs.declared.Scan.{Scan}
-use Rattle.refal_lexer.specs.declared.Scan.TheVariants.{Token, Bad}
+use Rattle.refal_lexer.specs.Scans.{Scan, Token, Bad, Comment, Long, Bare}
 use Rattle.refal_lexer.specs.Tokens.{wide_scan, sign_scan, class_scan, Found, found, refused, one, literal_of, token_at}
 use Rattle.refal_lexer.specs.Words.{name_of, other_scan, index_of, variable_scan, entry_word, extern_word, directive_of}
 use Rattle.refal_lexer.specs.Numbers.{value, sign_bytes, part, number_of, number_scan, point_at, exponent_at, digits_end}
@@ -29,8 +28,6 @@ use Rattle.refal_text.specs.SpanLaws.{span_le}
 use Rattle.refal_lexer.specs.Blanks.{white_len, close_to, comment_at}
 use Rattle.refal_ast.specs.Tokens.{Token as Tok, token}
 use Rattle.refal_lexer.specs.LineLaws.{white_len_lem}
-use Rattle.refal_lexer.specs.declared.blank.Comment.{Comment}
-use Rattle.refal_lexer.specs.declared.blank.Comment.TheVariants.{Long, Bare}
 use Rattle.refal_lexer.specs.declared.number.Part.{Part}
 use Rattle.refal_lexer.specs.PlaceLaws.{part_within}
 

@@ -1,4 +1,4 @@
--- Definitions: Classes, Stars, Blanks, Words, Numbers, Literals, Tokens, Lex, Source, Read.
+-- Definitions: Classes, Stars, Scans, Blanks, Words, Numbers, Literals, Tokens, Lex, Source, Read.
 -- The form that the code follows, with a flag carried along, and what its functions answer: Carried, Steps, Puts, Told.
 -- Laws of each scan: ClassLaws, BlankLaws, SpaceLaws, WordLaws, NumberLaws, LiteralLaws, ScanLaws, PlaceLaws. Laws of reading: TurnCases, LexLaws, TurnLaws, ReadLaws.
 -- That the flag is 01's rule for stars: LineLaws, StarLaws. Telling cases of that rule: StarCases.
@@ -6,6 +6,7 @@
 -- What tokens are: ShapeLaws, TokenLaws. Where they stand: OrderLaws; on character boundaries: Boundaries, BoundaryLaws, EndLaws, ReadBoundaries.
 pub mod Classes
 pub mod Stars
+pub mod Scans
 pub mod Blanks
 pub mod Words
 pub mod Numbers

@@ -1,11 +1,13 @@
 -- Laws of literals: the ways out of their loops.
-use Rattle.std.specs.Prelude.{ℕ, zero, suc, ◌+◌, ◌<◌, ◌≤◌, List, [], ◌∷◌, Bool, true, false, ◌≡◌, refl, ltb, eqb, length, drop, get_or}
+use Rattle.std.specs.Prelude.{ℕ, zero, suc, ◌+◌, ◌<◌, ◌≤◌, List, [], ◌∷◌, Bool, true, false, ◌≡◌, refl, ltb, eqb, length, drop, get_or, Option, Some, None, IfSome, unwrap_or}
 use Rattle.std.proofs.Common.{eq-eqb, ne_eqb, lt-ltb, eqb-true, add-one, arith, ap, ◌∙◌, subst, drop_of_length-le, length-drop, drop-cons, drop-drop}
 use Rattle.std.proofs.lemmas.Bool.{eqb-false}
 use Rattle.std.proofs.Math.Nat.{add-zero}
 use Rattle.std.proofs.Math.Path.{sym}
 use Rattle.std.proofs.Math.Seq.{get_or-drop}
+use Rattle.std.specs.Bool.{then_some}
 use Rattle.refal_text.specs.Pick.{pick}
+use Rattle.refal_text.specs.Told.{char_told}
 use Rattle.refal_text.specs.Utf8.{decode, char, ill}
 use Rattle.refal_text.specs.Utf8Laws.{decode_in, decode_ascii}
 use Rattle.refal_text.specs.declared.Char.{Char}
@@ -16,7 +18,7 @@ use Rattle.refal_lexer.specs.Puts.{put_tokens}
 use Rattle.refal_rows.specs.Rows.{put_row}
 use Rattle.refal_lexer.specs.Tokens.{found, refused, literal_of}
 use Rattle.refal_lexer.specs.declared.Cursor.{Cursor}
-use Rattle.refal_lexer.specs.declared.Step.TheVariants.{On, Stop}
+use Rattle.refal_lexer.specs.Scans.{On, Stop}
 use Rattle.refal_lexer.specs.Steps.{cursor, step_of, rows_of, end_of}
 
 -- ---- the character at a place
@@ -58,6 +60,19 @@ module _ (q : ℕ) (s : List ℕ) (i : ℕ) (h : i < length s) where
   -- a byte below 128 is the character
   pub char_low : (get_or s i 0 ≡ q → ⊥) → get_or s i 0 < 128 → (w : ℕ) → w ≡ get_or s i 0 → (char w 1 ≡ lit_char q (drop i s)) × (i + 1 ≤ length s)
   char_low e l w v = let f : char w 1 ≡ decode (drop i s) = ap (λ (x : ℕ). char x 1) v ∙ sym (decode_low s i h l) in char_whole e (char w 1) f (λ z. omega arith)
+
+  -- a quote: doubled it is a character, alone it is none
+  pub char_quote : get_or s i 0 ≡ q → (w x : ℕ) → w ≡ get_or s i 0 → x ≡ get_or s (i + 1) 0 → char_told (then_some (eqb x q) (char w 2)) ≡ lit_char q (drop i s)
+  char_quote e w x v f = go (eqb x q) refl
+    where
+      go : (t : Bool) → eqb x q ≡ t → char_told (then_some t (char w 2)) ≡ lit_char q (drop i s)
+      go true g = ap (λ (a : ℕ). char a 2) (v ∙ e) ∙ sym (char_is ∙ simp (eq-eqb _ _ e, ← f, g))
+      go false g = sym (char_is ∙ simp (eq-eqb _ _ e, ← f, g))
+
+  -- another byte: the character there, or a byte that is none
+  pub char_other : (get_or s i 0 ≡ q → ⊥) → (o : Option Char) → char_told o ≡ decode (drop i s) → IfSome o (λ c. 1 ≤ c.len) → unwrap_or o (char 0 1) ≡ lit_char q (drop i s)
+  char_other e None f h = (char_byte e ill f refl).0
+  char_other e (Some c) f h = (char_whole e c f (λ z. omega arith)).0
 
 pub lit_skip : (q k i n : ℕ) (s : List ℕ) → k ≤ length s → lit_from q k i n s ≡ lit_from q 0 (i + k) n (drop k s)
 unfolding lit_from

@@ -10,8 +10,7 @@ use Rattle.refal_lexer.specs.Classes.{digit, sign}
 use Rattle.refal_lexer.specs.Numbers.{value, macrodigit, ends, digits_at, sign_bytes, part, point_at, exponent_at, whole_scan, number_of, digits_end, number_scan}
 use Rattle.refal_lexer.specs.BlankLaws.{nonzero_in}
 use Rattle.refal_lexer.specs.declared.number.Part.{Part}
-use Rattle.refal_lexer.specs.declared.Scan.{Scan}
-use Rattle.refal_lexer.specs.declared.Scan.TheVariants.{Token, Bad}
+use Rattle.refal_lexer.specs.Scans.{Scan, Token, Bad}
 
 -- what the code counts: past 4294967295 it stays where it is
 abbrev pub digit_step : ℕ → ℕ → ℕ

@@ -5,8 +5,7 @@ use Rattle.refal_text.specs.Pick.{pick}
 use Rattle.refal_text.specs.Span.{span}
 use Rattle.refal_ast.specs.Kinds.{tok_number}
 use Rattle.refal_lexer.specs.Classes.{digit, sign}
-use Rattle.refal_lexer.specs.declared.Scan.{Scan}
-use Rattle.refal_lexer.specs.declared.Scan.TheVariants.{Token, Bad}
+use Rattle.refal_lexer.specs.Scans.{Scan, Token, Bad}
 use Rattle.refal_lexer.specs.declared.number.Part.{Part}
 
 -- what the digits at the front of s are worth, after digits that are worth v

@@ -3,8 +3,7 @@ use Rattle.std.specs.Prelude.{ℕ, zero, suc, ◌+◌, ◌-◌, ◌≤◌, List,
 use Rattle.std.proofs.Common.{zero-add, arith, subst, sym}
 use Rattle.refal_text.specs.Pick.{split}
 use Rattle.refal_lexer.specs.Classes.{class_of, c_quote}
-use Rattle.refal_lexer.specs.declared.Scan.{Scan}
-use Rattle.refal_lexer.specs.declared.Scan.TheVariants.{Token, Bad}
+use Rattle.refal_lexer.specs.Scans.{Scan, Token, Bad}
 use Rattle.refal_ast.specs.Tokens.{Token as Tok, token}
 use Rattle.refal_lexer.specs.Tokens.{class_scan, Found, found, refused, one, literal_of, token_at}
 use Rattle.refal_lexer.specs.Literals.{lit_char, lit_from, char_step, char_tokens, Lit, closed, newline, unclosed}

@@ -7,8 +7,7 @@ use Rattle.refal_text.specs.SpanLaws.{span_le, span_some}
 use Rattle.refal_text.specs.Utf8.{decode}
 use Rattle.refal_text.specs.Utf8Laws.{decode_in}
 use Rattle.refal_lexer.specs.Classes.{upper, digit, letter, name_byte, class_of, c_minus, c_quote}
-use Rattle.refal_lexer.specs.declared.Scan.{Scan}
-use Rattle.refal_lexer.specs.declared.Scan.TheVariants.{Token, Bad}
+use Rattle.refal_lexer.specs.Scans.{Scan, Token, Bad}
 use Rattle.refal_lexer.specs.Tokens.{wide_scan, sign_scan, class_scan, Found, found, refused, one, literal_of, token_at}
 use Rattle.refal_lexer.specs.Words.{name_of, other_scan, index_of, variable_scan, entry_word, extern_word, directive_of}
 use Rattle.refal_lexer.specs.Numbers.{value, sign_bytes, part, number_of, number_scan, point_at, exponent_at, digits_end}

@@ -4,8 +4,7 @@ use Rattle.std.proofs.Common.{eq-eqb, ne_eqb, ap, ◌∙◌, sym}
 use Rattle.refal_lexer.specs.Classes.{digit, single_kind}
 use Rattle.refal_lexer.specs.Words.{other_scan}
 use Rattle.refal_lexer.specs.Numbers.{number_scan}
-use Rattle.refal_lexer.specs.declared.Scan.{Scan}
-use Rattle.refal_lexer.specs.declared.Scan.TheVariants.{Token, Bad}
+use Rattle.refal_lexer.specs.Scans.{Scan, Token, Bad}
 use Rattle.refal_text.specs.Utf8.{decode}
 use Rattle.refal_text.specs.declared.Char.{Char}
 use Rattle.refal_lexer.specs.Tokens.{sign_scan, wide_scan, rare_scan, class_scan}

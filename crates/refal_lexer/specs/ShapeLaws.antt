@@ -5,8 +5,7 @@ use Rattle.refal_text.specs.Span.{span}
 use Rattle.refal_text.specs.Utf8.{decode}
 use Rattle.refal_text.specs.declared.Char.{Char}
 use Rattle.refal_lexer.specs.Classes.{upper, digit, letter, name_byte, variable, c_minus}
-use Rattle.refal_lexer.specs.declared.Scan.{Scan}
-use Rattle.refal_lexer.specs.declared.Scan.TheVariants.{Token, Bad}
+use Rattle.refal_lexer.specs.Scans.{Scan, Token, Bad}
 use Rattle.refal_text.specs.Encode.{Scalar}
 use Rattle.refal_lexer.specs.Tokens.{wide_scan, sign_scan, class_scan}
 use Rattle.refal_lexer.specs.Words.{name_of, index_of, variable_scan, entry_word, extern_word, directive_of}

@@ -10,7 +10,7 @@ use Rattle.refal_lexer.specs.Classes.{blank, class_of, c_white, c_star, c_slash,
 use Rattle.refal_lexer.specs.Blanks.{white_len}
 use Rattle.refal_lexer.specs.Carried.{line_after, blanks_from}
 use Rattle.refal_lexer.specs.BlankLaws.{ascii_white, ascii_none}
-use Rattle.refal_lexer.specs.declared.blank.Blank.TheVariants.{Past}
+use Rattle.refal_lexer.specs.Scans.{Past}
 
 -- whether white space or a comment can begin with a byte of class k
 abbrev pub begins_blank : ℕ → Bool

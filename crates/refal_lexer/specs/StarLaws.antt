@@ -27,11 +27,8 @@ use Rattle.refal_lexer.specs.Lex.{Out, more_all, stop_bad}
 use Rattle.refal_lexer.specs.EndLaws.{At, Low, either, range_low, digit_low, letter_low, name_low}
 use Rattle.refal_lexer.specs.Stars.{newline_in, line_start}
 use Rattle.refal_lexer.specs.LineLaws.{Ink, white_in, line_ink, line_white}
-use Rattle.refal_lexer.specs.declared.blank.Comment.{Comment}
-use Rattle.refal_lexer.specs.declared.blank.Comment.TheVariants.{Long, Bare}
+use Rattle.refal_lexer.specs.Scans.{Comment, Long, Bare, Scan, Token, Bad}
 use Rattle.refal_lexer.specs.declared.number.Part.{Part}
-use Rattle.refal_lexer.specs.declared.Scan.{Scan}
-use Rattle.refal_lexer.specs.declared.Scan.TheVariants.{Token, Bad}
 use Rattle.refal_lexer.specs.Tokens.{sign_scan, wide_scan, class_scan, Found, found, refused, one, literal_of, token_at}
 use Rattle.refal_lexer.specs.Source.{on_found, turn, lex01, source}
 use Rattle.refal_lexer.specs.BlankLaws.{comment_in}

@@ -5,14 +5,10 @@ use Rattle.refal_ast.specs.declared.Answer.{Answer}
 use Rattle.refal_ast.specs.declared.Answer.TheVariants.{Done, Refused}
 use Rattle.refal_lexer.specs.Puts.{put_tokens}
 use Rattle.refal_lexer.specs.declared.Cursor.{Cursor}
-use Rattle.refal_lexer.specs.declared.blank.Blank.{Blank}
-use Rattle.refal_lexer.specs.declared.blank.Blank.TheVariants.{Past, Open}
-use Rattle.refal_lexer.specs.declared.Step.{Step}
-use Rattle.refal_lexer.specs.declared.Step.TheVariants.{On, Stop}
+use Rattle.refal_lexer.specs.Scans.{Blank, Past, Open, Step, On, Stop, Scan}
 use Rattle.refal_text.specs.Pick.{pick}
 use Rattle.refal_lexer.specs.Literals.{Lit, closed, newline, unclosed}
 use Rattle.refal_lexer.specs.Tokens.{Found, found, refused, one}
-use Rattle.refal_lexer.specs.declared.Scan.{Scan}
 
 abbrev pub cursor : ℕ → ℕ → Bool → Cursor
 cursor at row line = record { at = at; row = row; line = line }

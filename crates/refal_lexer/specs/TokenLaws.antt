@@ -11,14 +11,13 @@ use Rattle.refal_text.specs.Encode.{Scalar}
 use Rattle.refal_text.specs.EncodeLaws.{Decoded, d_ill, d_ascii, d_wide, decode_view}
 use Rattle.refal_ast.specs.Tokens.{token, flat, tokens_flat, length_flat, Token as Tok}
 use Rattle.refal_ast.specs.Check.{scalar, good_token, ok_tokens, well_formed}
-use Rattle.refal_lexer.specs.declared.Scan.{Scan}
+use Rattle.refal_lexer.specs.Scans.{Scan, Token, Bad}
 use Rattle.refal_lexer.specs.Literals.{some, lit_char, lit_from, char_step, char_tokens, Lit, closed, newline, unclosed}
 use Rattle.refal_lexer.specs.Lex.{fine, Out, stop_bad}
 use Rattle.refal_lexer.specs.ShapeLaws.{sound_class, RowOk, row_entry, row_extern, row_name, row_variable, row_number, row_char, row_single, Sound}
 use Rattle.refal_lexer.specs.Tokens.{Found, found, class_scan, refused, one, literal_of, token_at}
 use Rattle.refal_lexer.specs.ClassLaws.{class_view, quote_class}
 use Rattle.refal_lexer.specs.Carried.{line_after, lex_by}
-use Rattle.refal_lexer.specs.declared.Scan.TheVariants.{Token, Bad}
 use Rattle.refal_lexer.specs.Source.{on_found}
 use Rattle.refal_lexer.specs.PlaceLaws.{FoundIn, found_in}
 use Rattle.refal_lexer.specs.TurnCases.{turn_cases}

@@ -8,8 +8,7 @@ use Rattle.refal_lexer.specs.Classes.{class_of, digit, c_quote, c_dollar, c_plus
 use Rattle.refal_lexer.specs.Literals.{char_tokens, Lit, closed, newline, unclosed, lit_from}
 use Rattle.refal_lexer.specs.Words.{name_scan, other_scan, variable_scan, directive_scan}
 use Rattle.refal_lexer.specs.Numbers.{number_scan}
-use Rattle.refal_lexer.specs.declared.Scan.{Scan}
-use Rattle.refal_lexer.specs.declared.Scan.TheVariants.{Token, Bad}
+use Rattle.refal_lexer.specs.Scans.{Scan, Token, Bad}
 
 -- a sign of class k starts a number before a digit; else `-` starts a name, and `+` nothing
 abbrev pub sign_scan : ℕ → ℕ → List ℕ → Scan

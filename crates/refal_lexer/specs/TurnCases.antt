@@ -9,12 +9,10 @@ use Rattle.refal_text.specs.Utf8Laws.{decode_ascii}
 use Rattle.refal_text.specs.White.{white_space}
 use Rattle.refal_text.specs.declared.Char.{Char}
 use Rattle.refal_lexer.specs.Classes.{class_of}
-use Rattle.refal_lexer.specs.declared.Scan.TheVariants.{Token, Bad}
+use Rattle.refal_lexer.specs.Scans.{Token, Bad, Comment, Long, Bare}
 use Rattle.refal_lexer.specs.Tokens.{class_scan, token_scan, one}
 use Rattle.refal_lexer.specs.Blanks.{white_len, comment_at, on_white, on_comment}
 use Rattle.refal_lexer.specs.Lex.{Out, stop_bad}
-use Rattle.refal_lexer.specs.declared.blank.Comment.{Comment}
-use Rattle.refal_lexer.specs.declared.blank.Comment.TheVariants.{Long, Bare}
 use Rattle.refal_lexer.specs.Tokens.{token_at}
 use Rattle.refal_lexer.specs.Source.{on_found, turn}
 

@@ -11,15 +11,8 @@ use Rattle.refal_lexer.specs.Lex.{Out, more_all, stop_bad, eof_at, stop_answer}
 use Rattle.refal_lexer.specs.LineLaws.{white_in}
 use Rattle.refal_lexer.specs.Puts.{put_tokens}
 use Rattle.refal_lexer.specs.LexLaws.{Leads, leads_rows, leads_bad}
-use Rattle.refal_lexer.specs.declared.blank.Comment.{Comment}
-use Rattle.refal_lexer.specs.declared.blank.Comment.TheVariants.{Long, Bare}
-use Rattle.refal_lexer.specs.declared.blank.Blank.{Blank}
-use Rattle.refal_lexer.specs.declared.blank.Blank.TheVariants.{Past, Open}
+use Rattle.refal_lexer.specs.Scans.{Comment, Long, Bare, Blank, Past, Open, Scan, Token, Bad, Step, On, Stop}
 use Rattle.refal_lexer.specs.declared.Cursor.{Cursor}
-use Rattle.refal_lexer.specs.declared.Scan.{Scan}
-use Rattle.refal_lexer.specs.declared.Scan.TheVariants.{Token, Bad}
-use Rattle.refal_lexer.specs.declared.Step.{Step}
-use Rattle.refal_lexer.specs.declared.Step.TheVariants.{On, Stop}
 use Rattle.refal_lexer.specs.Tokens.{class_scan, Found, found, refused, one, literal_at, token_at}
 use Rattle.refal_lexer.specs.Source.{on_found}
 use Rattle.refal_lexer.specs.Steps.{cursor, step_of, rows_of, answer_of, stop_of}

@@ -1,13 +1,14 @@
 -- Laws of names, variables and directives: the ways out of their scans.
-use Rattle.std.specs.Prelude.{ℕ, ◌+◌, ◌-◌, ◌<◌, ◌≤◌, List, Bool, true, false, ◌||◌, ◌≡◌, refl, eqb, length, drop, get_or}
-use Rattle.std.proofs.Common.{le-leb, eq-eqb, ne_eqb, add-one, arith, ap, ◌∙◌, sym, drop_of_length-le, drop-cons}
+use Rattle.std.specs.Prelude.{ℕ, zero, suc, ◌+◌, ◌-◌, ◌<◌, ◌≤◌, List, [], ◌∷◌, Bool, true, false, ◌&&◌, ◌||◌, ◌≡◌, refl, eqb, length, take, drop, get_or}
+use Rattle.std.proofs.Common.{le-leb, eq-eqb, ne_eqb, add-one, eqb-true, arith, ap, ◌∙◌, sym, drop_of_length-le, drop-cons, length-drop, length-take-le}
 use Rattle.std.proofs.lemmas.Bool.{lt-leb}
+use Rattle.refal_text.specs.Pick.{pick}
 use Rattle.refal_text.specs.Span.{span}
-use Rattle.refal_lexer.specs.Classes.{upper, digit, name_byte}
+use Rattle.refal_ast.specs.Kinds.{tok_entry, tok_extern}
+use Rattle.refal_lexer.specs.Classes.{upper, digit, letter, name_byte}
 use Rattle.refal_lexer.specs.BlankLaws.{nonzero_in}
-use Rattle.refal_lexer.specs.Words.{entry_word, extern_word, name_of, other_scan, index_of, variable_scan, directive_of, prefix}
-use Rattle.refal_lexer.specs.declared.Scan.{Scan}
-use Rattle.refal_lexer.specs.declared.Scan.TheVariants.{Token, Bad}
+use Rattle.refal_lexer.specs.Words.{entry_word, extern_word, name_of, other_scan, index_of, variable_scan, directive_scan, prefix, word_is}
+use Rattle.refal_lexer.specs.Scans.{Scan, Token, Bad}
 
 -- ---- names
 pub name_fits : (at n len : ℕ) → len ≡ n → len ≤ 15 → Token 3 0 at len at (at + len) ≡ name_of at n
@@ -61,16 +62,50 @@ prefix_step w s j i h l e = rw (drop-cons w j 0 h, drop-cons s i 0 l, e, add-one
 pub prefix_stop : (w s : List ℕ) (j i : ℕ) → j < length w → i < length s → eqb (get_or w j 0) (get_or s i 0) ≡ false → prefix (drop j w) (drop i s) ≡ false
 prefix_stop w s j i h l e = rw (drop-cons w j 0 h, drop-cons s i 0 l, e)
 
--- ---- a directive of m bytes
-module _ (at n m : ℕ) (s : List ℕ) (e : m ≡ 1 + n) where
-  letters : m - 1 ≡ n
-  letters = omega arith
+-- the kind that the first n bytes of s declare as a directive's word, 0 where they declare none
+abbrev pub word_kind : ℕ → List ℕ → ℕ
+word_kind n s = pick (entry_word n s) tok_entry (pick (extern_word n s) tok_extern 0)
 
-  pub directive_entry : (t : Bool) → t ≡ entry_word (m - 1) s → t ≡ true → Token 1 0 0 0 at (at + m) ≡ directive_of at n s
-  directive_entry t f z = rw e (sym (rw (← letters, ← f, z) refl))
+-- a word is told by its bytes alone
+prefix_cut : (w : List ℕ) (n : ℕ) (s : List ℕ) → length w ≤ n → prefix w (take n s) ≡ prefix w s
+prefix_cut [] n s h = refl
+prefix_cut (a ∷ w) zero s h = absurd (omega arith)
+prefix_cut (a ∷ w) (suc n) [] h = refl
+prefix_cut (a ∷ w) (suc n) (b ∷ s) h = ap (λ (t : Bool). eqb a b && t) (prefix_cut w n s (omega arith))
 
-  pub directive_extern : (t u : Bool) → t ≡ entry_word (m - 1) s → t ≡ false → u ≡ extern_word (m - 1) s → u ≡ true → Token 2 0 0 0 at (at + m) ≡ directive_of at n s
-  directive_extern t u f z g y = rw e (sym (rw (← letters, ← f, z, ← g, y) refl))
+word_cut : (w : List ℕ) (n : ℕ) (s : List ℕ) → word_is w n (take n s) ≡ word_is w n s
+word_cut w n s = go (eqb n (length w)) refl
+  where
+    go : (t : Bool) → eqb n (length w) ≡ t → t && prefix w (take n s) ≡ t && prefix w s
+    go true e = let z : n ≡ length w = eqb-true n (length w) e in prefix_cut w n s (omega arith)
+    go false e = refl
 
-  pub directive_bad : (t u : Bool) → t ≡ entry_word (m - 1) s → t ≡ false → u ≡ extern_word (m - 1) s → u ≡ false → Bad 11 at (at + m) ≡ directive_of at n s
-  directive_bad t u f z g y = rw e (sym (rw (← letters, ← f, z, ← g, y) refl))
+kind_cut : (n : ℕ) (s : List ℕ) → n ≤ length s → word_kind (length (take n s)) (take n s) ≡ word_kind n s
+kind_cut n s h = rw (length-take-le n s h) (rw (word_cut (69 ∷ 78 ∷ 84 ∷ 82 ∷ 89 ∷ []) n s, word_cut (69 ∷ 88 ∷ 84 ∷ 69 ∷ 82 ∷ 78 ∷ []) n s, word_cut (69 ∷ 88 ∷ 84 ∷ 82 ∷ 78 ∷ []) n s, word_cut (69 ∷ 88 ∷ 84 ∷ 69 ∷ 82 ∷ 78 ∷ 65 ∷ 76 ∷ []) n s) refl)
+
+-- ---- a directive of m bytes, whose word declares the kind k, which is 0 for none
+module _ (at m k : ℕ) (s : List ℕ) (e : m ≡ 1 + span letter (drop 1 s)) (h : m ≤ length s) (f : k ≡ word_kind (length (take (m - 1) (drop 1 s))) (take (m - 1) (drop 1 s))) where
+  abbrev n : ℕ
+  n = span letter (drop 1 s)
+
+  kind_is : k ≡ word_kind n (drop 1 s)
+  kind_is =
+      let d = length-drop 1 s in
+      let z : m - 1 ≡ n = omega arith in
+      f ∙ kind_cut (m - 1) (drop 1 s) (omega arith) ∙ ap (λ (j : ℕ). word_kind j (drop 1 s)) z
+
+  pub directive_some : 1 ≤ k → Token k 0 0 0 at (at + m) ≡ directive_scan at s
+  directive_some l = ap (λ (j : ℕ). Token k 0 0 0 at (at + j)) e ∙ go (entry_word n (drop 1 s)) (extern_word n (drop 1 s)) kind_is
+    where
+      go : (t u : Bool) → k ≡ pick t 1 (pick u 2 0) → Token k 0 0 0 at (at + (1 + n)) ≡ pick t (Token 1 0 0 0 at (at + (1 + n))) (pick u (Token 2 0 0 0 at (at + (1 + n))) (Bad 11 at (at + (1 + n))))
+      go true u g = ap (λ (j : ℕ). Token j 0 0 0 at (at + (1 + n))) g
+      go false true g = ap (λ (j : ℕ). Token j 0 0 0 at (at + (1 + n))) g
+      go false false g = absurd (omega arith)
+
+  pub directive_none : k ≡ 0 → Bad 11 at (at + m) ≡ directive_scan at s
+  directive_none z = ap (λ (j : ℕ). Bad 11 at (at + j)) e ∙ go (entry_word n (drop 1 s)) (extern_word n (drop 1 s)) kind_is
+    where
+      go : (t u : Bool) → k ≡ pick t 1 (pick u 2 0) → Bad 11 at (at + (1 + n)) ≡ pick t (Token 1 0 0 0 at (at + (1 + n))) (pick u (Token 2 0 0 0 at (at + (1 + n))) (Bad 11 at (at + (1 + n))))
+      go true u g = absurd (omega arith)
+      go false true g = absurd (omega arith)
+      go false false g = refl

@@ -4,8 +4,7 @@ use Rattle.refal_text.specs.Pick.{pick}
 use Rattle.refal_text.specs.Span.{span}
 use Rattle.refal_ast.specs.Kinds.{tok_entry, tok_extern, tok_identifier, tok_variable}
 use Rattle.refal_lexer.specs.Classes.{name_byte, upper, digit, letter}
-use Rattle.refal_lexer.specs.declared.Scan.{Scan}
-use Rattle.refal_lexer.specs.declared.Scan.TheVariants.{Token, Bad}
+use Rattle.refal_lexer.specs.Scans.{Scan, Token, Bad}
 
 -- s begins with w
 abbrev pub prefix : List ℕ → List ℕ → Bool

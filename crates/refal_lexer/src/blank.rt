@@ -1,60 +1,51 @@
 // White space and comments: each scan gets the bytes from its start on, that offset and the flag.
-ghost use Rattle.std.specs.Prelude.{◌≡◌, Bool, true, false, ◌+◌, ◌≤◌, ◌<◌, length, drop, get_or};
+ghost use Rattle.std.specs.Prelude.{◌≡◌, IfOk, IfErr, IfSome, false, ◌+◌, ◌≤◌, ◌<◌, length, drop};
 ghost use Rattle.refal_lexer.specs.Carried.{line_after};
-ghost use Rattle.refal_lexer.specs.Blanks.{white_len};
-ghost use Rattle.refal_lexer.specs.Blanks.{close_to, comment_at};
-ghost use Rattle.refal_lexer.specs.Carried.{whites, stop_at, blanks_from};
-ghost use Rattle.refal_lexer.specs.ClassLaws.{Table};
+ghost use Rattle.refal_lexer.specs.Blanks.{white_len, close_to, comment_at};
+ghost use Rattle.refal_lexer.specs.Carried.{whites, blanks_from};
 ghost use Rattle.refal_lexer.specs.SpaceLaws.{begins_blank, space_len, line_behind};
+ghost use Rattle.refal_lexer.specs.Classes.{class_of};
+ghost use Rattle.refal_lexer.specs.Told.{close_told, comment_told, blank_told};
+ghost use Rattle.refal_ast.specs.Told.{reason_code, refusal_told};
+ghost use Rattle.refal_ast.specs.Answers.{refusal};
 
-use crate::class;
+use crate::runs::run_end;
+use refal_ast::answers::{Reason, Refusal, Span};
 
 // A place of the source, and whether a star would start a comment there.
-#[derive(Clone, Copy)]
+#[derive(Clone, Copy, Debug, PartialEq, Eq)]
 pub struct Place {
     pub at: usize,
     pub line: bool,
 }
 
-// What comment stands there: one of so many bytes; or none, or one that is open, without an end.
-#[derive(Clone, Copy)]
-pub enum Comment {
-    Long(usize),
-    Bare(bool),
+// A block comment without an end.
+#[derive(Clone, Copy, Debug, PartialEq, Eq)]
+pub struct Unclosed(pub Span);
+
+impl From<Unclosed> for Refusal {
+    ghost from_gives = { λ comment r. refusal_told r ≡ refusal 24 0 0 comment.0.start comment.0.end 0 };
+
+    fn from(comment: Unclosed) -> Refusal {
+        Refusal::at(Reason::CommentUnclosed, comment.0)
+    }
 }
 
-// What stands before a token: its place, or a block comment without an end.
-#[derive(Clone, Copy)]
-pub enum Blank {
-    Past { at: usize, line: bool },
-    Open { start: usize, end: usize },
-}
-
+// Whether a star would start a comment behind a white-space character at `at`, whose first byte is b.
 fn line_after(b: u8, at: usize, line: bool) -> bool
     ensures { result ≡ line_after b at line }
 {
-    (b == 10) | (line & (at != 0))
+    b == b'\n' || line && at != 0
 }
 
-// How many bytes the white-space character at the front has.
+// How many bytes the white-space character at the front has, 0 where there is none.
 fn white_len(src: &[u8]) -> usize
     requires { 0 < length src.now }
     ensures { (result ≡ white_len src.now) × (result ≤ length src.now) }
 {
-    let b = src[0];
-    if b < 128 {
-        let blank = crate::class::is_blank(b);
-        if blank {
-            return 1;
-        }
-        return 0;
-    }
-    let c = refal_text::char_at(src, 0);
-    let white = refal_text::is_white(c.code);
-    if white {
-        return c.len;
-    }
-    0
+    refal_text::decode(src, 0)
+        .filter(|c| refal_text::is_white(c.code))
+        .map_or(0, |c| c.len)
 }
 
 // Past the white space at the front of src, whose offset is `at`.
@@ -63,136 +54,107 @@ fn white(src: &[u8], at: usize, line: bool) -> Place
     ensures { (result ≡ whites 0 at line src.now) × (at ≤ result.at) × (result.at ≤ at + length src.now) }
 {
     let mut i = 0;
-    let mut l = line;
+    let mut line = line;
     while i < src.len() {
-        let b = src[i];
-        let here = at + i;
         let n = white_len(&src[i..]);
         if n == 0 {
-            return Place { at: here, line: l };
+            break;
         }
-        l = line_after(b, here, l);
+        line = line_after(src[i], at + i, line);
         i += n;
     }
-    let end = at + i;
-    Place { at: end, line: l }
+    Place { at: at + i, line }
 }
 
-// The end of the block comment at the front.
-fn close(src: &[u8]) -> Comment
+// The end of the block comment at the front, if it has one.
+fn close(src: &[u8]) -> Option<usize>
     requires { 2 ≤ length src.now }
-    ensures { result ≡ close_to false 2 (drop 2 src.now) }
+    ensures told { close_told result ≡ close_to false 2 (drop 2 src.now) }
+    ensures within { IfSome result (λ n. (1 ≤ n) × (n ≤ length src.now)) }
 {
     let mut i = 2;
     let mut star = false;
     while i < src.len() {
         let b = src[i];
-        let end = i + 1;
-        let closes = star & (b == 47);
-        if closes {
-            return Comment::Long(end);
+        i += 1;
+        if star && b == b'/' {
+            return Some(i);
         }
-        star = b == 42;
-        i = end;
+        star = b == b'*';
     }
-    Comment::Bare(true)
+    None
 }
 
-// The comment at the front, where a star starts one if `line` says so.
-fn comment_at(src: &[u8], line: bool) -> Comment
-    requires { 0 < length src.now }
-    ensures { result ≡ comment_at line src.now }
+// How many bytes the comment at the front has, if one is there; a star starts one if `line` says so.
+fn comment(src: &[u8], at: usize, line: bool) -> Result<Option<usize>, Unclosed>
+    requires { (0 < length src.now) × (at + length src.now ≤ 16777216) }
+    ensures told { comment_told result ≡ comment_at line src.now }
+    ensures within { IfOk result (λ found. IfSome found (λ n. (1 ≤ n) × (n ≤ length src.now))) }
+    ensures open { IfErr result (λ comment. (comment.0.start ≡ at) × (comment.0.end ≡ at + length src.now)) }
 {
     let b = src[0];
-    let star = (b == 42) & line;
-    if star {
-        let n = crate::runs::line_end(src, 1);
-        return Comment::Long(n);
+    if b == b'*' && line {
+        return Ok(Some(run_end(src, 1, |b| b != b'\n')));
     }
-    let x = refal_text::byte(src, 1);
-    let slash = (b == 47) & (x == 42);
-    if slash {
-        return close(src);
+    if b == b'/' && refal_text::byte(src, 1) == b'*' {
+        return close(src).map(Some).ok_or(Unclosed(Span {
+            start: at,
+            end: at + src.len(),
+        }));
     }
-    Comment::Bare(false)
-}
-
-// What c, which has no length, leaves of the blanks at `at`.
-fn stop(c: Comment, at: usize, line: bool, end: usize) -> Blank
-    ensures { result ≡ stop_at c at line end }
-{
-    match c {
-        Comment::Long(n) => Blank::Past { at, line },
-        Comment::Bare(open) => {
-            if open {
-                return Blank::Open { start: at, end };
-            }
-            Blank::Past { at, line }
-        }
-    }
+    Ok(None)
 }
 
 // Repeat: white space, a star comment, a block comment.
-fn repeat(src: &[u8], at: usize, line: bool) -> Blank
+fn repeat(src: &[u8], at: usize, line: bool) -> Result<Place, Unclosed>
     requires { at + length src.now ≤ 16777216 }
-    ensures { result ≡ blanks_from 0 at line src.now }
+    ensures { blank_told result ≡ blanks_from 0 at line src.now }
 {
-    let p = white(src, at, line);
-    let mut i = p.at - at;
-    let mut l = p.line;
-    while i < src.len() {
-        let here = at + i;
-        let c = comment_at(&src[i..], l);
-        let Comment::Long(n) = c else {
-            let end = at + src.len();
-            return stop(c, here, l, end);
+    let mut place = white(src, at, line);
+    while place.at - at < src.len() {
+        let i = place.at - at;
+        let Some(n) = comment(&src[i..], place.at, place.line)? else {
+            break;
         };
-        let next = i + n;
-        let from = at + next;
-        let q = white(&src[next..], from, false);
-        i = q.at - at;
-        l = q.line;
+        place = white(&src[i + n..], place.at + n, false);
     }
-    let end = at + i;
-    Blank::Past { at: end, line: l }
+    Ok(place)
 }
 
 // One space, or none, at the front: how many bytes.
 fn space_len(src: &[u8]) -> usize
     ensures { (result ≡ space_len src.now) × (result ≤ length src.now) }
 {
-    let b = refal_text::byte(src, 0);
-    if b == b' ' { 1 } else { 0 }
+    usize::from(src.starts_with(b" "))
 }
 
 // The flag behind n spaces, one or none, at `at`.
 fn line_behind(n: usize, at: usize, line: bool) -> bool
     ensures { result ≡ line_behind n at line }
 {
-    line & ((n == 0) | (at != 0))
+    line && (n == 0 || at != 0)
 }
 
-// Whether white space or a comment can begin with a byte of class k.
-fn begins(k: u8) -> bool
-    ensures { result ≡ begins_blank k }
+// Whether white space or a comment can begin with the byte.
+fn begins(b: u8) -> bool
+    ensures { result ≡ begins_blank (class_of b) }
 {
-    ((k == class::WHITE) | (k == class::WIDE)) | ((k == class::STAR) | (k == class::SLASH))
+    matches!(b, b'\t'..=b'\r' | b' ' | b'*' | b'/' | 0x80..=0xFF)
 }
 
-// White space and comments. Most tokens have one space before them, or none: that costs no branch, and then the class of a byte tells that
+// White space and comments. Most tokens have one space before them, or none: that costs no branch, and then the next byte tells that
 // there are no more blanks.
-pub fn blanks(src: &[u8], at: usize, line: bool, table: &[u8]) -> Blank
-    requires { (at + length src.now ≤ 16777216) × Table table.now }
-    ensures { result ≡ blanks_from 0 at line src.now }
+pub fn blanks(src: &[u8], at: usize, line: bool) -> Result<Place, Unclosed>
+    requires { at + length src.now ≤ 16777216 }
+    ensures { blank_told result ≡ blanks_from 0 at line src.now }
 {
     let n = space_len(src);
-    let here = at + n;
-    let l = line_behind(n, at, line);
-    let b = refal_text::byte(src, n);
-    let k = class::class_of(b, table);
-    let more = begins(k);
-    if !more {
-        return Blank::Past { at: here, line: l };
+    let place = Place {
+        at: at + n,
+        line: line_behind(n, at, line),
+    };
+    if !begins(refal_text::byte(src, n)) {
+        return Ok(place);
     }
-    repeat(&src[n..], here, l)
+    repeat(&src[n..], place.at, place.line)
 }

@@ -1,17 +1,15 @@
 // The lexer: from the bytes of a source to the rows of its tokens.
 #![tactic(auto)]
 
-ghost use Rattle.std.specs.Prelude.{◌≡◌, true, false, ◌+◌, ◌≤◌, ◌<◌, length};
-ghost use Rattle.refal_lexer.specs.ClassLaws.{Table};
+ghost use Rattle.std.specs.Prelude.{◌≡◌, false, ◌+◌, ◌≤◌, ◌<◌, IfOk, length};
+ghost use Rattle.refal_ast.specs.Answers.{refusal};
+ghost use Rattle.refal_ast.specs.Told.{told, reason_code, refusal_told};
 ghost use Rattle.refal_lexer.specs.Lex.{stop_answer};
 ghost use Rattle.refal_lexer.specs.Puts.{put_tokens};
-ghost use Rattle.refal_ast.specs.Answers.{refusal};
-ghost use Rattle.refal_ast.specs.Tokens.{token, words};
-ghost use Rattle.refal_rows.specs.Rows.{put_row};
+ghost use Rattle.refal_lexer.specs.Scans.{Bad};
 ghost use Rattle.refal_lexer.specs.Tokens.{token_at};
-ghost use Rattle.refal_lexer.specs.Steps.{step_of, rows_of, answer_of, opened_of};
-ghost use Rattle.refal_lexer.specs.Steps.{cursor, stop_of};
-ghost use Rattle.refal_lexer.specs.Carried.{lex_by};
+ghost use Rattle.refal_lexer.specs.Told.{fault_told, step_told};
+ghost use Rattle.refal_lexer.specs.Steps.{cursor, step_of, rows_of};
 ghost use Rattle.refal_lexer.specs.Source.{source};
 ghost use Rattle.refal_lexer.specs.Read.{read_answer, read_rows};
 
@@ -23,189 +21,94 @@ mod runs;
 mod token;
 mod word;
 
-use crate::blank::Blank;
-use refal_ast::kinds::token as kind;
-use refal_ast::{Answer, Refusal};
+use crate::class::Class;
+use refal_ast::answers::{Reason, Refusal, Span};
+use refal_ast::kinds::TokenKind;
+use refal_ast::limits::MOST_BYTES;
+use refal_ast::tokens::WIDTH;
 
-// A token or a numbered refusal, with its span. A token's text starts at `text` and has `len` bytes.
-#[derive(Clone, Copy)]
-pub enum Scan {
-    Token {
-        kind: u32,
-        detail: u32,
-        text: usize,
-        len: usize,
-        start: usize,
-        end: usize,
-    },
-    Bad {
-        number: u32,
-        start: usize,
-        end: usize,
-    },
+// Why a token is refused, and where.
+#[derive(Clone, Copy, Debug, PartialEq, Eq)]
+pub struct Fault {
+    pub reason: Reason,
+    pub span: Span,
+}
+
+impl Fault {
+    // A fault whose span is the len bytes at `at`.
+    fn over(reason: Reason, at: usize, len: usize) -> Fault
+        requires { at + len ≤ 16777216 }
+        ensures { fault_told result ≡ Bad (reason_code reason) at (at + len) }
+    {
+        Fault {
+            reason,
+            span: Span {
+                start: at,
+                end: at + len,
+            },
+        }
+    }
+}
+
+impl From<Fault> for Refusal {
+    ghost from_gives = { λ fault r. refusal_told r ≡ refusal (reason_code fault.reason) 0 0 fault.span.start fault.span.end 0 };
+
+    fn from(fault: Fault) -> Refusal {
+        Refusal::at(fault.reason, fault.span)
+    }
 }
 
 // Where reading stands: the offset, the next row, and whether a star would start a comment there.
-#[derive(Clone, Copy)]
+#[derive(Clone, Copy, Debug, PartialEq, Eq)]
 pub struct Cursor {
     pub at: usize,
     pub row: usize,
     pub line: bool,
 }
 
-// What putting a token's rows gives: where reading goes on, or the refusal.
-#[derive(Clone, Copy)]
-pub enum Step {
-    On(Cursor),
-    Stop {
-        number: u32,
-        start: usize,
-        end: usize,
-    },
-}
-
-fn refused(number: u32, start: usize, end: usize, need: usize) -> Answer
-    ensures { result ≡ Answer.Refused (refusal number 0 0 start end need) }
-{
-    Answer::Refused(Refusal {
-        number,
-        expected: 0,
-        found: 0,
-        start,
-        end,
-        need,
-    })
-}
-
-// The refusal s.
-fn stop(s: Scan, row: usize) -> Step
-    requires { row ≤ 16777216 }
-    ensures { result ≡ stop_of s row }
-{
-    match s {
-        Scan::Token {
-            kind,
-            detail,
-            text,
-            len,
-            start,
-            end,
-        } => {
-            let next = row + 1;
-            Step::On(Cursor {
-                at: end,
-                row: next,
-                line: false,
-            })
+impl Cursor {
+    // Behind len bytes, which are no blanks, and n rows.
+    fn behind(self, len: usize, n: usize) -> Cursor
+        requires { (self.at + len ≤ 16777216) × (self.row + n ≤ 16777217) }
+        ensures { result ≡ cursor (self.at + len) (self.row + n) false }
+    {
+        Cursor {
+            at: self.at + len,
+            row: self.row + n,
+            line: false,
         }
-        Scan::Bad { number, start, end } => Step::Stop { number, start, end },
     }
 }
 
-// A token's row, and where reading goes on.
-fn put_row(
-    rows: &mut [u32],
-    row: usize,
-    kind: u32,
-    detail: u32,
-    text: usize,
-    len: usize,
-    start: usize,
-    end: usize,
-) -> Step
-    requires { (row ≤ 16777216) × (text ≤ 16777216) × (len ≤ 16777216) × (start ≤ 16777216) × (end ≤ 16777216) }
-    ensures value { result ≡ Step.On (cursor end (row + 1) false) }
-    ensures rows_after { rows.new ≡ put_row 6 rows.old row (words (token kind detail text len start end)) }
+// The token at the front of src, where c stands, puts its row or rows.
+fn put_next(src: &[u8], c: Cursor, rows: &mut [u32]) -> Result<Cursor, Fault>
+    requires { (0 < length src.now) × (c.at + length src.now ≤ 16777216) × (c.row ≤ c.at) }
+    ensures value { step_told result ≡ step_of (token_at c.at src.now) c.row }
+    ensures rows_after { rows.new ≡ rows_of (token_at c.at src.now) rows.old c.row }
 {
-    refal_rows::put6(
-        rows,
-        row,
-        kind,
-        detail,
-        text as u32,
-        len as u32,
-        start as u32,
-        end as u32,
-    );
-    let next = row + 1;
-    Step::On(Cursor {
-        at: end,
-        row: next,
+    let first = src[0];
+    let class = Class::of(first);
+    if class == Class::Quote {
+        return literal::literal(src, c, first, rows);
+    }
+    let scanned = token::scan(src, c.at, first, class);
+    let Ok(token) = scanned else {
+        // The fault as it is.
+        return scanned.map(|_| c);
+    };
+    token.put(rows, c.row);
+    Ok(Cursor {
+        at: token.to as usize,
+        row: c.row + 1,
         line: false,
     })
 }
 
-// The token at the front of src, where c stands, puts its row or rows.
-fn put_next(src: &[u8], c: Cursor, rows: &mut [u32], table: &[u8]) -> Step
-    requires { (0 < length src.now) × (c.at + length src.now ≤ 16777216) × (c.row ≤ c.at) × Table table.now }
-    ensures value { result ≡ step_of (token_at c.at src.now) c.row }
-    ensures rows_after { rows.new ≡ rows_of (token_at c.at src.now) rows.old c.row }
-{
-    let at = c.at;
-    let row = c.row;
-    let b = src[0];
-    let k = class::class_of(b, table);
-    if k == class::SINGLE {
-        let kind = class::single_kind(b);
-        let end = at + 1;
-        return put_row(rows, row, kind, 0, 0, 0, at, end);
-    }
-    if k == class::UPPER {
-        let s = word::name(src, at, table);
-        let Scan::Token {
-            kind,
-            detail,
-            text,
-            len,
-            start,
-            end,
-        } = s
-        else {
-            return stop(s, row);
-        };
-        return put_row(rows, row, kind, detail, text, len, start, end);
-    }
-    if k == class::QUOTE {
-        return literal::literal(src, c, b, rows);
-    }
-    let s = token::scan(src, at, b, k, table);
-    let Scan::Token {
-        kind,
-        detail,
-        text,
-        len,
-        start,
-        end,
-    } = s
-    else {
-        return stop(s, row);
-    };
-    put_row(rows, row, kind, detail, text, len, start, end)
-}
-
-fn answer(s: Step) -> Answer
-    ensures { result ≡ answer_of s }
-{
-    match s {
-        Step::On(c) => Answer::Done(c.row),
-        Step::Stop { number, start, end } => refused(number, start, end, 0),
-    }
-}
-
-fn opened(b: Blank) -> Answer
-    ensures { result ≡ opened_of b }
-{
-    match b {
-        Blank::Past { at, line } => Answer::Done(at),
-        Blank::Open { start, end } => refused(24, start, end, 0),
-    }
-}
-
-// Blanks, then a token, to the end. The table of classes is made once for all of them.
-fn lex_by(src: &[u8], rows: &mut [u32], table: &[u8]) -> Answer
-    requires { (length src.now ≤ 16777216) × Table table.now }
-    ensures value { result ≡ stop_answer (lex_by 0 0 true src.now) }
-    ensures rows_after { rows.new ≡ put_tokens rows.old 0 (lex_by 0 0 true src.now).tokens }
+// Blanks, then a token, to the end.
+fn lex(src: &[u8], rows: &mut [u32]) -> Result<usize, Refusal>
+    requires { length src.now ≤ 16777216 }
+    ensures value { told result ≡ stop_answer (source src.now) }
+    ensures rows_after { rows.new ≡ put_tokens rows.old 0 (source src.now).tokens }
 {
     let mut c = Cursor {
         at: 0,
@@ -213,62 +116,52 @@ fn lex_by(src: &[u8], rows: &mut [u32], table: &[u8]) -> Answer
         line: true,
     };
     loop {
-        let at = c.at;
-        let row = c.row;
-        let b = blank::blanks(&src[at..], at, c.line, table);
-        let Blank::Past { at: from, line } = b else {
-            return opened(b);
-        };
-        if from >= src.len() {
-            refal_rows::put6(rows, row, kind::EOF, 0, 0, 0, from as u32, from as u32);
-            let count = row + 1;
-            return Answer::Done(count);
+        let place = blank::blanks(&src[c.at..], c.at, c.line)?;
+        if place.at >= src.len() {
+            token::bare(TokenKind::Eof, place.at, 0).put(rows, c.row);
+            return Ok(c.row + 1);
         }
         let here = Cursor {
-            at: from,
-            row,
-            line,
+            at: place.at,
+            row: c.row,
+            line: place.line,
         };
-        let s = put_next(&src[from..], here, rows, table);
-        let Step::On(next) = s else {
-            return answer(s);
-        };
-        c = next;
+        c = put_next(&src[place.at..], here, rows)?;
     }
 }
 
-fn lex_all(src: &[u8], rows: &mut [u32]) -> Answer
-    requires { length src.now ≤ 16777216 }
-    ensures value { result ≡ stop_answer (source src.now) }
-    ensures rows_after { rows.new ≡ put_tokens rows.old 0 (source src.now).tokens }
+// The number of the source's tokens, whose rows are put as far as they fit, or the first refusal.
+fn lex_within(src: &[u8], rows: &mut [u32]) -> Result<usize, Refusal>
+    ensures value { told result ≡ read_answer src.now (length rows.old) }
+    ensures rows_after { IfOk result (λ n. rows.new ≡ read_rows src.now rows.old) }
 {
-    let table = class::CLASS;
-    lex_by(src, rows, &table)
+    if src.len() > MOST_BYTES {
+        return Err(Refusal::from(Reason::SourceTooLong));
+    }
+    if let Some(ill) = refal_text::ill_formed(src) {
+        return Err(Refusal::at(
+            Reason::IllFormed,
+            Span {
+                start: ill,
+                end: ill,
+            },
+        ));
+    }
+    let count = lex(src, rows)?;
+    if count > rows.len() / WIDTH {
+        return Err(Refusal::needing(Reason::TokenRowsShort, count));
+    }
+    Ok(count)
 }
 
 // The rows of the source's tokens, or the first refusal, with every word of `rows` zero.
-pub fn read(src: &[u8], rows: &mut [u32]) -> Answer
-    ensures value { result ≡ read_answer src.now (length rows.old) }
+pub fn read(src: &[u8], rows: &mut [u32]) -> Result<usize, Refusal>
+    ensures value { told result ≡ read_answer src.now (length rows.old) }
     ensures rows_after { rows.new ≡ read_rows src.now rows.old }
 {
-    if src.len() > 16777216 {
-        refal_rows::clear(rows);
-        return refused(1, 0, 0, 0);
+    let count = lex_within(src, rows);
+    if count.is_err() {
+        rows.fill(0);
     }
-    let ill = refal_text::first_ill(src);
-    if ill < src.len() {
-        refal_rows::clear(rows);
-        return refused(2, ill, ill, 0);
-    }
-    let room = rows.len() / 6;
-    let a = lex_all(src, rows);
-    let Answer::Done(n) = a else {
-        refal_rows::clear(rows);
-        return a;
-    };
-    if n <= room {
-        return Answer::Done(n);
-    }
-    refal_rows::clear(rows);
-    refused(25, 0, 0, n)
+    count
 }

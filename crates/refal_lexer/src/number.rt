@@ -3,11 +3,15 @@ ghost use Rattle.std.specs.Prelude.{◌≡◌, true, ◌+◌, ◌-◌, ◌*◌, 
 ghost use Rattle.refal_text.specs.Span.{span};
 ghost use Rattle.refal_lexer.specs.Classes.{digit};
 ghost use Rattle.refal_lexer.specs.NumberLaws.{worth, digit_step, fit};
-ghost use Rattle.refal_lexer.specs.Told.{part_told};
-ghost use Rattle.refal_lexer.specs.Numbers.{macrodigit, part, sign_bytes, point_at, exponent_at, whole_scan, number_scan};
+ghost use Rattle.refal_lexer.specs.Told.{part_told, scan_told};
+ghost use Rattle.refal_lexer.specs.Numbers.{macrodigit, part, sign_bytes, point_at, exponent_at, number_scan};
 
-use crate::Scan;
-use refal_ast::kinds::token as kind;
+use crate::Fault;
+use crate::runs::run_end;
+use crate::token::whole;
+use refal_ast::answers::Reason;
+use refal_ast::kinds::TokenKind;
+use refal_ast::tokens::Token;
 
 // Where a run of digits ends, and what it is worth: none where that is more than 4294967295.
 #[derive(Clone, Copy, Debug, PartialEq, Eq)]
@@ -119,7 +123,7 @@ fn marked(src: &[u8], at: usize, mark: u8, signed: bool) -> Result<usize, Bare>
         return Ok(at);
     }
     let first = past_sign(src, at + 1, signed);
-    let end = crate::runs::digits_end(src, first);
+    let end = run_end(src, first, |b| b.is_ascii_digit());
     if end == first {
         Err(Bare { end })
     } else {
@@ -170,72 +174,26 @@ pub fn exponent(src: &[u8], at: usize) -> Part
     as_part(power(src, at))
 }
 
-// A number with neither point nor E, of n bytes, whose digits start at `from`.
-fn macrodigit(at: usize, from: usize, n: usize, worth: u64) -> Scan
-    requires { at + n ≤ 16777216 }
-    ensures { result ≡ whole_scan at from n worth }
-{
-    let end = at + n;
-    if 0 < from {
-        return Scan::Bad {
-            number: 18,
-            start: at,
-            end,
-        };
-    }
-    if worth > 4294967295 {
-        return Scan::Bad {
-            number: 19,
-            start: at,
-            end,
-        };
-    }
-    Scan::Token {
-        kind: kind::NUMBER,
-        detail: 0,
-        text: at,
-        len: n,
-        start: at,
-        end,
-    }
-}
-
 // The number whose digits start at `from`: 1 behind a sign, else 0.
-pub fn number(src: &[u8], at: usize, from: usize) -> Scan
+pub fn number(src: &[u8], at: usize, from: usize) -> Result<Token, Fault>
     requires { (from ≤ length src.now) × (at + length src.now ≤ 16777216) }
-    ensures { result ≡ number_scan at from src.now }
+    ensures { scan_told result ≡ number_scan at from src.now }
 {
-    let d = whole_end(src, from);
-    let n = d.end;
-    let p = point(src, n);
-    let to = p.end;
-    if p.bare {
-        let stop = at + to;
-        return Scan::Bad {
-            number: 16,
-            start: at,
-            end: stop,
-        };
+    let digits = digits(src, from);
+    let to = fraction(src, digits.end).map_err(|bare| Fault::over(
+        Reason::FractionMissing,
+        at,
+        bare.end,
+    ))?;
+    let len = power(src, to).map_err(|bare| Fault::over(Reason::ExponentMissing, at, bare.end))?;
+    // With neither point nor E it has no sign, and is a macrodigit.
+    if len == digits.end {
+        if from > 0 {
+            return Err(Fault::over(Reason::SignedWhole, at, len));
+        }
+        if digits.worth.is_none() {
+            return Err(Fault::over(Reason::MacrodigitTooLarge, at, len));
+        }
     }
-    let e = exponent(src, to);
-    let len = e.end;
-    let end = at + len;
-    if e.bare {
-        return Scan::Bad {
-            number: 17,
-            start: at,
-            end,
-        };
-    }
-    if len == n {
-        return macrodigit(at, from, n, d.worth);
-    }
-    Scan::Token {
-        kind: kind::NUMBER,
-        detail: 0,
-        text: at,
-        len,
-        start: at,
-        end,
-    }
+    Ok(whole(TokenKind::Number, at, len))
 }

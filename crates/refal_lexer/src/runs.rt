@@ -1,61 +1,30 @@
-// Where a run of bytes of one class ends: one loop for each class.
-ghost use Rattle.std.specs.Prelude.{◌≡◌, ◌+◌, ◌<◌, ◌≤◌, length, drop};
+// Where a run of bytes that pass a test ends.
+ghost use Rattle.std.specs.Prelude.{◌≡◌, ℕ, Bool, ◌+◌, ◌≤◌, length, drop};
 ghost use Rattle.refal_text.specs.Span.{span};
-ghost use Rattle.refal_lexer.specs.Classes.{name_byte, letter, digit, not_newline};
-ghost use Rattle.refal_lexer.specs.ClassLaws.{Table};
+ghost use Rattle.refal_lexer.specs.Classes.{name_byte};
 
-pub fn name_end(src: &[u8], at: usize, table: &[u8]) -> usize
-    requires { (at ≤ length src.now) × Table table.now }
-    ensures { (result ≡ at + span name_byte (drop at src.now)) × (result ≤ length src.now) }
+use crate::class::is_name;
+
+pub fn run_end<F: Fn(u8) -> bool>(src: &[u8], at: usize, test: F) -> usize
+    ghost passes: { ℕ → Bool }
+    requires inside { at ≤ length src.now }
+    requires callable { F.IsAlwaysCallable test }
+    requires tests { (b : ℕ) (r : Bool) → F.post test b r → r ≡ passes b }
+    ensures run { result ≡ at + span passes (drop at src.now) }
+    ensures within { result ≤ length src.now }
 {
     let mut i = at;
-    while i < src.len() {
-        if !crate::class::is_name(src[i], table) {
-            return i;
-        }
+    while i < src.len() && test(src[i]) {
         i += 1;
     }
     i
 }
 
-pub fn letters_end(src: &[u8], at: usize) -> usize
+// Where the bytes of a name end.
+pub fn name_end(src: &[u8], at: usize) -> usize
     requires { at ≤ length src.now }
-    ensures { (result ≡ at + span letter (drop at src.now)) × (result ≤ length src.now) }
+    ensures run { result ≡ at + span name_byte (drop at src.now) }
+    ensures within { result ≤ length src.now }
 {
-    let mut i = at;
-    while i < src.len() {
-        if !crate::class::is_letter(src[i]) {
-            return i;
-        }
-        i += 1;
-    }
-    i
-}
-
-pub fn digits_end(src: &[u8], at: usize) -> usize
-    requires { at ≤ length src.now }
-    ensures { (result ≡ at + span digit (drop at src.now)) × (result ≤ length src.now) }
-{
-    let mut i = at;
-    while i < src.len() {
-        if !crate::class::is_digit(src[i]) {
-            return i;
-        }
-        i += 1;
-    }
-    i
-}
-
-pub fn line_end(src: &[u8], at: usize) -> usize
-    requires { at ≤ length src.now }
-    ensures { (result ≡ at + span not_newline (drop at src.now)) × (result ≤ length src.now) }
-{
-    let mut i = at;
-    while i < src.len() {
-        if src[i] == 10 {
-            return i;
-        }
-        i += 1;
-    }
-    i
+    run_end(src, at, is_name)
 }

@@ -1,86 +1,91 @@
 // The token at the front of src, whose offset is `at`.
-ghost use Rattle.std.specs.Prelude.{◌≡◌, ◌+◌, ◌≤◌, ◌<◌, length, drop, get_or};
+ghost use Rattle.std.specs.Prelude.{◌≡◌, ◌+◌, ◌≤◌, ◌<◌, length, get_or};
 ghost use Rattle.refal_text.specs.Utf8.{decode};
-ghost use Rattle.refal_lexer.specs.Classes.{class_of, c_single, c_upper};
-ghost use Rattle.refal_lexer.specs.ClassLaws.{Table};
-ghost use Rattle.refal_lexer.specs.Tokens.{sign_scan, wide_scan, rare_scan, class_scan};
+ghost use Rattle.refal_ast.specs.KindCodes.{token_code};
+ghost use Rattle.refal_ast.specs.Rows.{token_told};
+ghost use Rattle.refal_ast.specs.Tokens.{token};
+ghost use Rattle.refal_lexer.specs.Classes.{class_of, single_kind, c_quote};
+ghost use Rattle.refal_lexer.specs.Told.{class_code, single_code, fault_told, scan_told};
+ghost use Rattle.refal_lexer.specs.Tokens.{sign_scan, wide_scan, class_scan};
 
-use crate::{Scan, class};
+use crate::class::Class;
+use crate::number::number;
+use crate::{Fault, word};
+use refal_ast::answers::Reason;
+use refal_ast::kinds::TokenKind;
+use refal_ast::tokens::Token;
 
-// A sign of class k: it starts a number before a digit only.
-fn sign(src: &[u8], at: usize, k: u8, table: &[u8]) -> Scan
-    requires { (0 < length src.now) × (at + length src.now ≤ 16777216) × Table table.now }
-    ensures { result ≡ sign_scan k at src.now }
+// A token of len bytes at `at`, all of which are its text.
+pub fn whole(kind: TokenKind, at: usize, len: usize) -> Token
+    requires { at + len ≤ 16777216 }
+    ensures { token_told result ≡ token (token_code kind) 0 at len at (at + len) }
 {
-    let x = refal_text::byte(src, 1);
-    let number = crate::class::is_digit(x);
-    if number {
-        return crate::number::number(src, at, 1);
+    Token {
+        kind,
+        detail: 0,
+        start: at as u32,
+        len: len as u32,
+        from: at as u32,
+        to: (at + len) as u32,
     }
-    if k == class::MINUS {
-        return crate::word::other(src, at, table);
+}
+
+// A token of len bytes at `at` that has no text.
+pub fn bare(kind: TokenKind, at: usize, len: usize) -> Token
+    requires { at + len ≤ 16777216 }
+    ensures { token_told result ≡ token (token_code kind) 0 0 0 at (at + len) }
+{
+    Token {
+        kind,
+        detail: 0,
+        start: 0,
+        len: 0,
+        from: at as u32,
+        to: (at + len) as u32,
     }
-    let end = at + 1;
-    Scan::Bad {
-        number: 10,
-        start: at,
-        end,
+}
+
+// A sign of a class: it starts a number before a digit only.
+fn sign(src: &[u8], at: usize, class: Class) -> Result<Token, Fault>
+    requires { (0 < length src.now) × (at + length src.now ≤ 16777216) }
+    ensures { scan_told result ≡ sign_scan (class_code class) at src.now }
+{
+    if refal_text::byte(src, 1).is_ascii_digit() {
+        return number(src, at, 1);
     }
+    if class == Class::Minus {
+        return word::other(src, at);
+    }
+    Err(Fault::over(Reason::UnexpectedCharacter, at, 1))
 }
 
 // A character past U+007F.
-fn wide(src: &[u8], at: usize) -> Scan
+fn wide(src: &[u8], at: usize) -> Fault
     requires { (0 < length src.now) × (at + length src.now ≤ 16777216) }
-    ensures { result ≡ wide_scan at (decode src.now) }
+    ensures { fault_told result ≡ wide_scan at (decode src.now) }
 {
-    let c = refal_text::char_at(src, 0);
-    let n = c.len;
-    if n == 0 {
-        let next = at + 1;
-        return Scan::Bad {
-            number: 10,
-            start: at,
-            end: next,
-        };
-    }
-    let end = at + n;
-    Scan::Bad {
-        number: 10,
-        start: at,
-        end,
-    }
+    let len = refal_text::decode(src, 0).map_or(1, |c| c.len);
+    Fault::over(Reason::UnexpectedCharacter, at, len)
 }
 
-// The classes that are rare, and the bytes that start nothing.
-fn rare(src: &[u8], at: usize, k: u8, table: &[u8]) -> Scan
-    requires { (0 < length src.now) × (at + length src.now ≤ 16777216) × Table table.now }
-    ensures { result ≡ rare_scan k at src.now }
+// The token whose first byte, b, is of a class, which is no quote's.
+pub fn scan(src: &[u8], at: usize, b: u8, class: Class) -> Result<Token, Fault>
+    requires some { 0 < length src.now }
+    requires short { at + length src.now ≤ 16777216 }
+    requires first { b ≡ get_or src.now 0 0 }
+    requires class { class_code class ≡ class_of b }
+    requires single { single_code class ≡ single_kind b }
+    ensures { scan_told result ≡ class_scan (class_of b) at src.now }
 {
-    match k {
-        class::DOLLAR => crate::word::directive(src, at),
-        class::PLUS => sign(src, at, k, table),
-        class::WIDE => wide(src, at),
-        class::MINUS => sign(src, at, k, table),
-        class::OTHER => crate::word::other(src, at, table),
-        _ => {
-            let end = at + 1;
-            Scan::Bad {
-                number: 10,
-                start: at,
-                end,
-            }
-        }
-    }
-}
-
-// The token whose first byte, b, is of class k: neither one of one byte nor a name, which are put down without it.
-pub fn scan(src: &[u8], at: usize, b: u8, k: u8, table: &[u8]) -> Scan
-    requires { (0 < length src.now) × (at + length src.now ≤ 16777216) × (b ≡ get_or src.now 0 0) × Table table.now × (k ≡ c_single → ⊥) × (k ≡ c_upper → ⊥) }
-    ensures { result ≡ class_scan k at src.now }
-{
-    match k {
-        class::DIGIT => crate::number::number(src, at, 0),
-        class::VARIABLE => crate::word::variable(src, at, b, table),
-        _ => rare(src, at, k, table),
+    match class {
+        Class::Single(kind) => Ok(bare(kind, at, 1)),
+        Class::Upper => word::name(src, at),
+        Class::Digit => number(src, at, 0),
+        Class::Variable => word::variable(src, at, b),
+        Class::Dollar => word::directive(src, at),
+        Class::Plus | Class::Minus => sign(src, at, class),
+        Class::Other => word::other(src, at),
+        Class::Wide => Err(wide(src, at)),
+        _ => Err(Fault::over(Reason::UnexpectedCharacter, at, 1)),
     }
 }

@@ -1,13 +1,22 @@
 // Names, variables and directives, each at the front of src, whose offset is `at`.
-ghost use Rattle.std.specs.Prelude.{◌≡◌, true, ◌+◌, ◌≤◌, ◌<◌, length, drop, get_or};
-ghost use Rattle.refal_lexer.specs.Words.{prefix, word_is, extern_word};
+ghost use Rattle.std.specs.Prelude.{◌≡◌, IfSome, ◌+◌, ◌-◌, ◌≤◌, ◌<◌, length, drop, get_or};
 ghost use Rattle.refal_text.specs.Span.{span};
+ghost use Rattle.refal_ast.specs.Kinds.{tok_variable};
+ghost use Rattle.refal_ast.specs.Rows.{token_told};
+ghost use Rattle.refal_ast.specs.Tokens.{token};
 ghost use Rattle.refal_lexer.specs.Classes.{name_byte};
-ghost use Rattle.refal_lexer.specs.ClassLaws.{Table};
+ghost use Rattle.refal_ast.specs.KindCodes.{token_code};
+ghost use Rattle.refal_ast.specs.Told.{kind_told};
+ghost use Rattle.refal_lexer.specs.WordLaws.{word_kind};
+ghost use Rattle.refal_lexer.specs.Told.{scan_told};
 ghost use Rattle.refal_lexer.specs.Words.{name_scan, other_scan, index_of, variable_scan, directive_scan};
 
-use crate::Scan;
-use refal_ast::kinds::token as kind;
+use crate::Fault;
+use crate::runs::{name_end, run_end};
+use crate::token::{bare, whole};
+use refal_ast::answers::Reason;
+use refal_ast::kinds::TokenKind;
+use refal_ast::tokens::Token;
 
 // How many bytes a name and an index have at most.
 const NAME_MOST: usize = 15;
@@ -15,176 +24,86 @@ const NAME_MOST: usize = 15;
 const INDEX_MOST: usize = 15;
 
 // A name that starts with A to Z.
-pub fn name(src: &[u8], at: usize, table: &[u8]) -> Scan
-    requires { (0 < length src.now) × (at + length src.now ≤ 16777216) × Table table.now }
-    ensures { result ≡ name_scan at src.now }
+pub fn name(src: &[u8], at: usize) -> Result<Token, Fault>
+    requires { (0 < length src.now) × (at + length src.now ≤ 16777216) }
+    ensures { scan_told result ≡ name_scan at src.now }
 {
-    let len = crate::runs::name_end(src, 1, table);
-    let end = at + len;
-    if len <= NAME_MOST {
-        return Scan::Token {
-            kind: kind::IDENTIFIER,
-            detail: 0,
-            text: at,
-            len,
-            start: at,
-            end,
-        };
+    let len = name_end(src, 1);
+    if len > NAME_MOST {
+        return Err(Fault::over(Reason::NameTooLong, at, len));
     }
-    Scan::Bad {
-        number: 15,
-        start: at,
-        end,
-    }
+    Ok(whole(TokenKind::Identifier, at, len))
 }
 
 // A name that starts otherwise.
-pub fn other(src: &[u8], at: usize, table: &[u8]) -> Scan
-    requires { (0 < length src.now) × (at + length src.now ≤ 16777216) × Table table.now }
-    ensures { result ≡ other_scan at src.now }
+pub fn other(src: &[u8], at: usize) -> Result<Token, Fault>
+    requires { (0 < length src.now) × (at + length src.now ≤ 16777216) }
+    ensures { scan_told result ≡ other_scan at src.now }
 {
-    let all = crate::runs::name_end(src, 1, table);
-    let end = at + all;
-    Scan::Bad {
-        number: 14,
-        start: at,
-        end,
-    }
+    let len = name_end(src, 1);
+    Err(Fault::over(Reason::NameStart, at, len))
 }
 
 // The variable of letter b, with a point behind it.
-fn index(src: &[u8], at: usize, b: u8, table: &[u8]) -> Scan
-    requires { (2 ≤ length src.now) × (at + length src.now ≤ 16777216) × Table table.now }
-    ensures { result ≡ index_of at b (span name_byte (drop 2 src.now)) }
+fn index(src: &[u8], at: usize, b: u8) -> Result<Token, Fault>
+    requires { (2 ≤ length src.now) × (at + length src.now ≤ 16777216) }
+    ensures { scan_told result ≡ index_of at b (span name_byte (drop 2 src.now)) }
 {
-    let n = crate::runs::name_end(src, 2, table);
-    let len = n - 2;
-    let text = at + 2;
-    let end = at + n;
-    if len == 0 {
-        return Scan::Bad {
-            number: 12,
-            start: at,
-            end: text,
-        };
+    let len = name_end(src, 2);
+    match len - 2 {
+        0 => Err(Fault::over(Reason::IndexMissing, at, len)),
+        1..=INDEX_MOST => Ok(variable_of(b, at, 2, len)),
+        _ => Err(Fault::over(Reason::IndexTooLong, at, len)),
     }
-    if len <= INDEX_MOST {
-        return Scan::Token {
-            kind: kind::VARIABLE,
-            detail: refal_text::wide(b),
-            text,
-            len,
-            start: at,
-            end,
-        };
-    }
-    Scan::Bad {
-        number: 13,
-        start: at,
-        end,
+}
+
+// The variable of letter b and of len bytes, whose index is behind the first `skip`.
+fn variable_of(b: u8, at: usize, skip: usize, len: usize) -> Token
+    requires { (skip ≤ len) × (at + len ≤ 16777216) }
+    ensures { token_told result ≡ token tok_variable b (at + skip) (len - skip) at (at + len) }
+{
+    Token {
+        kind: TokenKind::Variable,
+        detail: u32::from(b),
+        start: (at + skip) as u32,
+        len: (len - skip) as u32,
+        from: at as u32,
+        to: (at + len) as u32,
     }
 }
 
 // What the letter b, which is s, t or e, starts.
-pub fn variable(src: &[u8], at: usize, b: u8, table: &[u8]) -> Scan
-    requires { (0 < length src.now) × (at + length src.now ≤ 16777216) × (b ≡ get_or src.now 0 0) × Table table.now }
-    ensures { result ≡ variable_scan at src.now }
+pub fn variable(src: &[u8], at: usize, b: u8) -> Result<Token, Fault>
+    requires { (0 < length src.now) × (at + length src.now ≤ 16777216) × (b ≡ get_or src.now 0 0) }
+    ensures { scan_told result ≡ variable_scan at src.now }
 {
-    let x = refal_text::byte(src, 1);
-    if x == b'.' {
-        return index(src, at, b, table);
+    match refal_text::byte(src, 1) {
+        b'.' => index(src, at, b),
+        b'A'..=b'Z' | b'0'..=b'9' => Ok(variable_of(b, at, 1, 2)),
+        _ => other(src, at),
     }
-    let one = crate::class::is_upper(x) | crate::class::is_digit(x);
-    if one {
-        let text = at + 1;
-        let end = at + 2;
-        return Scan::Token {
-            kind: kind::VARIABLE,
-            detail: refal_text::wide(b),
-            text,
-            len: 1,
-            start: at,
-            end,
-        };
-    }
-    other(src, at, table)
 }
 
-// Whether src has the bytes of w at `at`.
-fn starts(src: &[u8], at: usize, w: &[u8]) -> bool
-    requires { at ≤ length src.now }
-    ensures { result ≡ prefix w.now (drop at src.now) }
+// What the word of a directive declares.
+fn declares(word: &[u8]) -> Option<TokenKind>
+    ensures told { kind_told result ≡ word_kind (length word.now) word.now }
+    ensures some { IfSome result (λ kind. 1 ≤ token_code kind) }
 {
-    let mut i = at;
-    let mut j = 0;
-    while j < w.len() {
-        if i >= src.len() {
-            return false;
-        }
-        if w[j] != src[i] {
-            return false;
-        }
-        i += 1;
-        j += 1;
+    match word {
+        b"ENTRY" => Some(TokenKind::Entry),
+        b"EXTERN" | b"EXTRN" | b"EXTERNAL" => Some(TokenKind::Extern),
+        _ => None,
     }
-    true
-}
-
-// Whether the n letters at `at` are w.
-fn is_word(src: &[u8], at: usize, n: usize, w: &[u8]) -> bool
-    requires { at ≤ length src.now }
-    ensures { result ≡ word_is w.now n (drop at src.now) }
-{
-    let same = n == w.len();
-    if same {
-        return starts(src, at, w);
-    }
-    false
-}
-
-fn is_extern(src: &[u8], at: usize, n: usize) -> bool
-    requires { at ≤ length src.now }
-    ensures { result ≡ extern_word n (drop at src.now) }
-{
-    let a = is_word(src, at, n, b"EXTERN");
-    let b = is_word(src, at, n, b"EXTRN");
-    let c = is_word(src, at, n, b"EXTERNAL");
-    (a | b) | c
 }
 
 // A directive, whose `$` stands first.
-pub fn directive(src: &[u8], at: usize) -> Scan
+pub fn directive(src: &[u8], at: usize) -> Result<Token, Fault>
     requires { (0 < length src.now) × (at + length src.now ≤ 16777216) }
-    ensures { result ≡ directive_scan at src.now }
+    ensures { scan_told result ≡ directive_scan at src.now }
 {
-    let to = crate::runs::letters_end(src, 1);
-    let n = to - 1;
-    let end = at + to;
-    let entry = is_word(src, 1, n, b"ENTRY");
-    if entry {
-        return Scan::Token {
-            kind: kind::ENTRY,
-            detail: 0,
-            text: 0,
-            len: 0,
-            start: at,
-            end,
-        };
-    }
-    let external = is_extern(src, 1, n);
-    if external {
-        return Scan::Token {
-            kind: kind::EXTERN,
-            detail: 0,
-            text: 0,
-            len: 0,
-            start: at,
-            end,
-        };
-    }
-    Scan::Bad {
-        number: 11,
-        start: at,
-        end,
-    }
+    let len = run_end(src, 1, |b| b.is_ascii_alphabetic());
+    let Some(kind) = declares(&src[1..len]) else {
+        return Err(Fault::over(Reason::UnknownDirective, at, len));
+    };
+    Ok(bare(kind, at, len))
 }

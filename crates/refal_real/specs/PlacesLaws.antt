@@ -13,8 +13,7 @@ use Rattle.refal_lexer.specs.Numbers.{sign_bytes, part, point_at, exponent_at, d
 use Rattle.refal_lexer.specs.BlankLaws.{nonzero_in}
 use Rattle.refal_lexer.specs.NumberLaws.{worth, number_point, number_e, number_whole, number_real}
 use Rattle.refal_lexer.specs.declared.number.Part.{Part}
-use Rattle.refal_lexer.specs.declared.Scan.{Scan}
-use Rattle.refal_lexer.specs.declared.Scan.TheVariants.{Bad}
+use Rattle.refal_lexer.specs.Scans.{Scan, Bad}
 use Rattle.refal_spelling.specs.Spells.{token_to, spells}
 use Rattle.refal_spelling.specs.Spellings.{number_ok}
 use Rattle.refal_spelling.specs.WordLaws.{digit_first, sign_first, no_sign, no_digit, real_same, whole_same}

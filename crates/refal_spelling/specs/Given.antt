@@ -15,7 +15,7 @@ use Rattle.refal_lexer.specs.Read.{read_answer, read_rows}
 use Rattle.refal_lexer.specs.Tokens.{token_scan}
 use Rattle.refal_lexer.specs.TurnCases.{turn_one}
 use Rattle.refal_lexer.specs.TurnLaws.{lex_skip}
-use Rattle.refal_lexer.specs.declared.Scan.TheVariants as S
+use Rattle.refal_lexer.specs.Scans as S
 use Rattle.refal_spelling.specs.Spell.{spelled, dotted, text_at, spelling}
 use Rattle.refal_spelling.specs.Spells.{spells, spells_index}
 use Rattle.refal_spelling.specs.Spellings.{number_ok}

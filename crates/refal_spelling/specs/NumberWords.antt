@@ -14,8 +14,7 @@ use Rattle.refal_lexer.specs.Numbers.{part as part_at}
 use Rattle.refal_lexer.specs.EndLaws.{either}
 use Rattle.refal_lexer.specs.PlaceLaws.{part_in}
 use Rattle.refal_lexer.specs.declared.number.Part.{Part as Found}
-use Rattle.refal_lexer.specs.declared.Scan.{Scan}
-use Rattle.refal_lexer.specs.declared.Scan.TheVariants.{Token, Bad}
+use Rattle.refal_lexer.specs.Scans.{Scan, Token, Bad}
 use Rattle.refal_spelling.specs.Good.{Every, also, Sign, unsigned, plus, minus, Part, absent, digits, Number, macrodigit, real}
 use Rattle.refal_spelling.specs.Runs.{Ends, at_end, at_space, span_ends, every_span, length_span, span_every, value_every, value_span}
 

@@ -19,8 +19,8 @@ use Rattle.refal_lexer.specs.Lex.{fine, bad, Out}
 use Rattle.refal_lexer.specs.Source.{on_found}
 use Rattle.refal_lexer.specs.Carried.{line_after, lex_by}
 use Rattle.refal_lexer.specs.TurnCases.{turn_cases}
-use Rattle.refal_lexer.specs.declared.Scan.{Scan}
-use Rattle.refal_lexer.specs.declared.Scan.TheVariants as S
+use Rattle.refal_lexer.specs.Scans.{Scan}
+use Rattle.refal_lexer.specs.Scans as S
 use Rattle.refal_spelling.specs.Spell.{spelled, text_at}
 use Rattle.refal_spelling.specs.Good.{Good, character}
 use Rattle.refal_spelling.specs.Sound.{Sound, AllSound, sound_none, sound_more}

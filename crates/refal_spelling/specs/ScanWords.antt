@@ -8,7 +8,7 @@ use Rattle.refal_text.specs.Pick.{pick}
 use Rattle.refal_lexer.specs.Words.{other_scan}
 use Rattle.refal_lexer.specs.Numbers.{number_scan}
 use Rattle.refal_lexer.specs.Tokens.{class_scan, token_scan}
-use Rattle.refal_lexer.specs.declared.Scan.TheVariants.{Token, Bad}
+use Rattle.refal_lexer.specs.Scans.{Token, Bad}
 use Rattle.refal_spelling.specs.Good.{Every, also, Sign, unsigned, plus, minus, Number, macrodigit, real}
 use Rattle.refal_spelling.specs.Runs.{Ends, span_ends, span_every}
 use Rattle.refal_spelling.specs.NumberWords.{number_ends, unsigned_ends, signed_ends, scan_macrodigit, scan_real}

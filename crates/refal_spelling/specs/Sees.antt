@@ -13,8 +13,7 @@ use Rattle.refal_lexer.specs.ClassLaws.{ClassIs, is_wide, is_white, is_quote, is
 use Rattle.refal_lexer.specs.ClassLaws.{is_variable, is_other, is_single, single_range, is_none, class_view}
 use Rattle.refal_lexer.specs.Words.{entry_word, extern_word, directive_scan, name_scan, index_of, variable_scan}
 use Rattle.refal_lexer.specs.Tokens.{sign_scan, class_scan, token_scan}
-use Rattle.refal_lexer.specs.declared.Scan.{Scan}
-use Rattle.refal_lexer.specs.declared.Scan.TheVariants.{Token, Bad}
+use Rattle.refal_lexer.specs.Scans.{Scan, Token, Bad}
 use Rattle.refal_spelling.specs.Spell.{spelled}
 use Rattle.refal_spelling.specs.Good.{none, also, Sign, unsigned, plus, minus, Good, entry, extern, identifier, variable_of, number, mark}
 use Rattle.refal_spelling.specs.Runs.{every_span, length_span}

@@ -4,8 +4,7 @@ use Rattle.refal_text.specs.Span.{span}
 use Rattle.refal_ast.specs.Kinds.{tok_variable}
 use Rattle.refal_lexer.specs.Classes.{name_byte}
 use Rattle.refal_lexer.specs.Tokens.{token_scan}
-use Rattle.refal_lexer.specs.declared.Scan.{Scan}
-use Rattle.refal_lexer.specs.declared.Scan.TheVariants.{Token, Bad}
+use Rattle.refal_lexer.specs.Scans.{Scan, Token, Bad}
 
 -- what a scan finds is a token of that kind, which ends at `end`
 abbrev pub token_to : ℕ → ℕ → Scan → Bool

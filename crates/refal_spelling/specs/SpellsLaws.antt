@@ -11,8 +11,7 @@ use Rattle.refal_ast.specs.Kinds.{tok_identifier, tok_variable, tok_number}
 use Rattle.refal_lexer.specs.Classes.{name_byte, variable}
 use Rattle.refal_lexer.specs.Words.{index_of}
 use Rattle.refal_lexer.specs.Tokens.{token_scan}
-use Rattle.refal_lexer.specs.declared.Scan.{Scan}
-use Rattle.refal_lexer.specs.declared.Scan.TheVariants.{Token}
+use Rattle.refal_lexer.specs.Scans.{Scan, Token}
 use Rattle.refal_spelling.specs.Spell.{spelled}
 use Rattle.refal_spelling.specs.Spells.{token_to, spells, spells_index, is_index}
 use Rattle.refal_spelling.specs.Good.{Every, Good, identifier, variable_of, number, mark}

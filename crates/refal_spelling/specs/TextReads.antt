@@ -14,7 +14,7 @@ use Rattle.refal_lexer.specs.Source.{on_found}
 use Rattle.refal_lexer.specs.Carried.{line_after, lex_by}
 use Rattle.refal_lexer.specs.TurnCases.{turn_token, turn_one}
 use Rattle.refal_lexer.specs.TurnLaws.{lex_skip}
-use Rattle.refal_lexer.specs.declared.Scan.TheVariants as S
+use Rattle.refal_lexer.specs.Scans as S
 use Rattle.refal_spelling.specs.Spell.{Spelled, spelled, entry_spelling, extern_spelling, body, dotted, mark_byte, spelling, text}
 use Rattle.refal_spelling.specs.Places.{token_at, tokens_at, line_behind}
 use Rattle.refal_spelling.specs.Good.{Good, entry, extern, identifier, variable_of, number, character, mark, AllGood, no_more, and_more}

@@ -12,7 +12,7 @@ use Rattle.refal_lexer.specs.Classes.{name_byte, digit, sign, upper, class_of}
 use Rattle.refal_lexer.specs.BlankLaws.{nonzero_in}
 use Rattle.refal_lexer.specs.Numbers.{whole_scan, number_scan}
 use Rattle.refal_lexer.specs.Tokens.{token_scan}
-use Rattle.refal_lexer.specs.declared.Scan.TheVariants.{Token}
+use Rattle.refal_lexer.specs.Scans.{Token}
 use Rattle.refal_spelling.specs.Spell.{spelled}
 use Rattle.refal_spelling.specs.Spells.{token_to, spells, spells_index, is_index}
 use Rattle.refal_spelling.specs.SpellsLaws.{spells_identifier, identifier_spells, spells_number, spells_index_lem}

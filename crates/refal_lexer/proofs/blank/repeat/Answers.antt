@@ -1,49 +1,38 @@
 -- `refal_lexer::blank::repeat` meets its contract.
-use Rattle.std.proofs.Common.{◌+◌, arith, ap, ◌∙◌, false}
+use Rattle.std.proofs.Common.{ℕ, ◌+◌, ◌-◌, ◌≤◌, ◌≡◌, arith, refl, ap, ap₂, sym, ◌∙◌, false, true, length, drop, Ok, rules}
+use Rattle.std.proofs.lemmas.Result.{err_from_is_err_and}
+use Rattle.refal_lexer.specs.Scans.{Past, Open, Bare, Long}
 use Rattle.refal_lexer.specs.Blanks.{comment_at}
 use Rattle.refal_lexer.specs.Carried.{whites}
-use Rattle.refal_lexer.specs.BlankLaws.{rest_is, rest_length, comment_fits, first_turn, next_turn, blanks_stop, blanks_end}
+use Rattle.refal_lexer.specs.Told.{comment_told}
+use Rattle.refal_lexer.specs.BlankLaws.{rest_is, rest_length, first_turn, next_turn, blanks_stop, blanks_end}
 use Rattle.refal_lexer.proofs.blank.repeat.Goals as goal
 
-pub loop-i-init : goal.loop-i-init
-loop-i-init c = let a = c.args in let w = c.white-p.ensures in first_turn a.src.now a.at a.line _ w.0 w.2
+pub loop-place-init : goal.loop-place-init
+loop-place-init c = let a = c.args in let w = c.white-place.ensures in (w.1, first_turn a.src.now a.at a.line _ w.0 w.2)
 
-pub comment_at-c-requires : goal.comment_at-c-requires
-comment_at-c-requires c = let r = rest_length c.loop-i.i c.args.src.now in omega arith
+pub returns-in_err-n : goal.returns-in_err-n
+returns-in_err-n c = let p = err_from_is_err_and c.from_residual.result c.from_residual.ensures.1 in
+    let a = c.args in let s = a.src.now in let P = c.loop-place.place in let i = P.at - a.at in let lo = c.loop-place.invariant.0 in let I = c.loop-place.invariant.1 in
+    let t : Bare true ≡ comment_at P.line (drop i s) = c.in_err-n.ensures.told ∙ ap (comment_at P.line) (rest_is i s) in
+    let e = c.in_err-n.ensures.open in let r = rest_length i s in
+    rw (p.1, p.2) (ap₂ Open (omega arith) (omega arith) ∙ blanks_stop s a.at i P.line (omega arith) I.2 (Bare true) true t refl ∙ I.1)
+
+pub loop-place-preserved : goal.loop-place-preserved
+loop-place-preserved c = let a = c.args in let s = a.src.now in let P = c.loop-place.place in let i = P.at - a.at in let lo = c.loop-place.invariant.0 in let I = c.loop-place.invariant.1 in
+    let n = c.in-Some.n in
+    let t : Long n ≡ comment_at P.line (drop i s) = sym (ap (λ x. comment_told (Ok x)) c.in-Some.is) ∙ c.in_ok-n.ensures.told ∙ ap (comment_at P.line) (rest_is i s) in
+    let w = c.white-place-in-loop-place.ensures in let w1 = w.1 in let w2 = w.2 in
+    let z : P.at + n ≡ a.at + (i + n) = omega arith in
+    let m : i + n ≤ length s = search rules in
+    let r = rest_length (i + n) s in
+    (omega arith, next_turn s a.at a.line i n P.line _ I (omega arith) (sym t) m (w.0 ∙ ap₂ (λ (x : ℕ) t. whites 0 x false t) z (rest_is (i + n) s)) (omega arith))
+
+pub returns-after-loop-place : goal.returns-after-loop-place
+returns-after-loop-place c = let a = c.args in let s = a.src.now in let P = c.loop-place.place in let i = P.at - a.at in let lo = c.loop-place.invariant.0 in let I = c.loop-place.invariant.1 in
+    ap (λ (x : ℕ). Past x P.line) (omega arith) ∙ blanks_end s a.at i P.line (omega arith) ∙ I.1
 
 pub returns-in_default : goal.returns-in_default
-returns-in_default c = let a = c.args in let s = c.args.src.now in let i = c.loop-i.i in let l = c.loop-i.l in let I = c.loop-i.invariant in
-    c.stop.ensures ∙ blanks_stop s a.at i l c.loop-i-test.true I.2 _ _ (c.comment_at-c.ensures ∙ ap (comment_at l) (rest_is i s)) c.in_default.is ∙ I.1
-
-pub overflow_add-next : goal.overflow_add-next
-overflow_add-next c = let m = comment_fits c.args.src.now c.loop-i.i c.loop-i.l _ _ c.loop-i-test.true c.comment_at-c.ensures c.in-Long.is in let m2 = m.2 in omega arith
-
-pub overflow_add-from : goal.overflow_add-from
-overflow_add-from c = let m = comment_fits c.args.src.now c.loop-i.i c.loop-i.l _ _ c.loop-i-test.true c.comment_at-c.ensures c.in-Long.is in let m2 = m.2 in omega arith
-
-pub slice_bounds-white-count : goal.slice_bounds-white-count
-slice_bounds-white-count c = let m = comment_fits c.args.src.now c.loop-i.i c.loop-i.l _ _ c.loop-i-test.true c.comment_at-c.ensures c.in-Long.is in let m2 = m.2 in omega arith
-
-pub slice_bounds-white-start : goal.slice_bounds-white-start
-slice_bounds-white-start c = let m = comment_fits c.args.src.now c.loop-i.i c.loop-i.l _ _ c.loop-i-test.true c.comment_at-c.ensures c.in-Long.is in let m2 = m.2 in omega arith
-
-pub slice_bounds-white-end : goal.slice_bounds-white-end
-slice_bounds-white-end c = let m = comment_fits c.args.src.now c.loop-i.i c.loop-i.l _ _ c.loop-i-test.true c.comment_at-c.ensures c.in-Long.is in let m2 = m.2 in omega arith
-
-pub white-q-requires : goal.white-q-requires
-white-q-requires c = let i = c.loop-i.i in let s = c.args.src.now in let m = comment_fits s i c.loop-i.l _ _ c.loop-i-test.true c.comment_at-c.ensures c.in-Long.is in let m2 = m.2 in let r = rest_length (i + c.in-Long.n) s in omega arith
-
-pub overflow_sub-i-in-loop-i : goal.overflow_sub-i-in-loop-i
-overflow_sub-i-in-loop-i c = let w = c.white-q.ensures.1 in omega arith
-
-pub loop-i-smaller : goal.loop-i-smaller
-loop-i-smaller c = let i = c.loop-i.i in let s = c.args.src.now in let m = comment_fits s i c.loop-i.l _ _ c.loop-i-test.true c.comment_at-c.ensures c.in-Long.is in let m1 = m.1 in let m2 = m.2 in let w = c.white-q.ensures.1 in let w2 = c.white-q.ensures.2 in let r = rest_length (i + c.in-Long.n) s in omega arith
-
-pub loop-i-preserved : goal.loop-i-preserved
-loop-i-preserved c = let a = c.args in let s = c.args.src.now in let i = c.loop-i.i in let n = c.in-Long.n in
-    let m = comment_fits s i c.loop-i.l _ _ c.loop-i-test.true c.comment_at-c.ensures c.in-Long.is in let m2 = m.2 in
-    let w = c.white-q.ensures in let w2 = w.2 in let r = rest_length (i + n) s in
-    next_turn s a.at a.line i n c.loop-i.l _ c.loop-i.invariant c.loop-i-test.true m.0 m2 (w.0 ∙ ap (whites 0 (a.at + (i + n)) false) (rest_is (i + n) s)) (omega arith)
-
-pub returns : goal.returns
-returns c = let a = c.args in let I = c.loop-i.invariant in blanks_end a.src.now a.at c.loop-i.i c.loop-i.l c.loop-i-test.false ∙ I.1
+returns-in_default c = let a = c.args in let s = a.src.now in let P = c.loop-place.place in let i = P.at - a.at in let lo = c.loop-place.invariant.0 in let I = c.loop-place.invariant.1 in
+    let t : Bare false ≡ comment_at P.line (drop i s) = sym (ap (λ x. comment_told (Ok x)) c.in_default.is) ∙ c.in_ok-n.ensures.told ∙ ap (comment_at P.line) (rest_is i s) in
+    ap (λ (x : ℕ). Past x P.line) (omega arith) ∙ blanks_stop s a.at i P.line (omega arith) I.2 (Bare false) false t refl ∙ I.1

@@ -1,21 +1,19 @@
 -- `refal_lexer::literal::put_chars` meets its contract.
 use Rattle.std.proofs.Common.{arith, refl, ◌∙◌}
-use Rattle.refal_lexer.specs.LiteralLaws.{chars_end, chars_close, chars_step, fills_start, fills_row, fills_end}
+use Rattle.refal_text.specs.Utf8.{ill}
+use Rattle.refal_lexer.specs.LiteralLaws.{chars_end, chars_close, chars_step, fills_row, fills_end}
 use Rattle.refal_lexer.proofs.literal.put_chars.Goals as goal
 
-pub loop-i-init : goal.loop-i-init
-loop-i-init c = (omega arith, omega arith, omega arith, refl, fills_start _ _ _)
-
-pub returns-then-j-eq0 : goal.returns-then-j-eq0
-returns-then-j-eq0 c = (fills_end _ _ _ _ _ _ (chars_close _ _ _ _ _ _ c.loop-i-test.true c.lit_char-c.ensures.0 c.if-j-eq0.true) c.loop-i.invariant.4).1
+pub returns-in_default : goal.returns-in_default
+returns-in_default c = (fills_end _ _ _ _ _ _ (chars_close _ _ _ _ _ ill c.loop-i-test.true c.in_default.ensures.told refl) c.loop-i.invariant.4).1
 
 pub loop-i-preserved : goal.loop-i-preserved
-loop-i-preserved c = (
+loop-i-preserved c = let x = c.in-Some.ensures in let w = x.within.0 in (
   omega arith,
-  c.lit_char-c.ensures.1,
+  x.within.1,
   omega arith,
-  c.put6.auto.rows ∙ c.loop-i.invariant.3,
-  fills_row _ _ _ _ _ _ _ _ _ (chars_step _ _ _ _ _ _ c.loop-i-test.true c.lit_char-c.ensures.0 c.if-j-eq0.false c.lit_char-c.ensures.1) c.put6.ensures c.loop-i.invariant.4,
+  c.put.auto.rows ∙ c.loop-i.invariant.3,
+  fills_row _ _ _ _ _ _ _ _ _ (chars_step _ _ _ _ _ c.in-Some.c c.loop-i-test.true x.told (λ z. omega arith) x.within.1) c.put.ensures c.loop-i.invariant.4,
 )
 
 pub returns : goal.returns

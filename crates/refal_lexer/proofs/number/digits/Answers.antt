@@ -1,8 +1,8 @@
 -- `refal_lexer::number::digits` meets its contract: a digit a turn.
-use Rattle.std.proofs.Common.{ℕ, ◌+◌, arith, refl, sym, ap, ◌∙◌, drop, rules}
-use Rattle.refal_text.specs.SpanLaws.{span_end, span_stop, span_step}
+use Rattle.std.proofs.Common.{◌+◌, arith, sym, ap, ◌∙◌, drop, rules}
+use Rattle.refal_text.specs.SpanLaws.{span_step}
 use Rattle.refal_lexer.specs.Classes.{digit}
-use Rattle.refal_lexer.specs.NumberLaws.{counted, counted_is, counted_end, counted_stop, counted_step, digit_next}
+use Rattle.refal_lexer.specs.NumberLaws.{counted, counted_is, counted_end, counted_stop, counted_step}
 use Rattle.refal_lexer.proofs.number.digits.Goals as goal
 
 pub loop-end-preserved : goal.loop-end-preserved

@@ -1,11 +1,6 @@
--- `refal_lexer::runs::name_end` meets its contract: a byte a turn.
-use Rattle.std.proofs.Common.{◌+◌, ◌-◌, ◌≤◌, ◌≡◌, length, drop}
-use Rattle.refal_text.specs.Span.{span}
+-- `refal_lexer::runs::name_end` meets its contract: the run's test.
 use Rattle.refal_lexer.specs.Classes.{name_byte}
 use Rattle.refal_lexer.proofs.runs.name_end.Given as goal
 
-abbrev pub invariant-loop-i : goal.invariant-loop-i
-invariant-loop-i l = (l.i ≤ length l.src) × (l.i + span name_byte (drop l.i l.src) ≡ l.at + span name_byte (drop l.at l.src))
-
-abbrev pub decreases-loop-i : goal.decreases-loop-i
-decreases-loop-i l = length l.src - l.i
+abbrev pub ghost-run_end : goal.ghost-run_end
+ghost-run_end a = name_byte
