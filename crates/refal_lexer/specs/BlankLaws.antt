@@ -1,4 +1,5 @@
 -- Laws of white space, comments and blanks: the ways out of their loops.
+use mir.Val.{bool_byte}
 use Prim.Native.Nat.{ℕ, suc, ◌+◌, ◌<◌, ◌≤◌, zero, ◌-◌}
 use Rattle.std.proofs.Common.{eqb-true, lt-ltb, add-zero, arith, true≢false, ap, ◌∙◌, sym, ap₂, subst, drop_of_length-le, length-drop, drop-cons, drop-drop, take_all}
 use Rattle.refal_rows.specs.Tests.{and_right}
@@ -265,3 +266,8 @@ module _ (s : List ℕ) (h : 0 < length s) (l : get_or s 0 0 < 128) where
 
   pub ascii_none : blank (get_or s 0 0) ≡ false → (0 ≡ white_len s) × (0 ≤ length s)
   ascii_none e = (sym (ascii_len ∙ ap (λ (w : Bool). pick w 1 0) e), omega arith)
+
+  -- the code's answer there
+  pub ascii_byte : (r : ℕ) (t : Bool) → r ≡ bool_byte t → t ≡ blank (get_or s 0 0) → (r ≡ white_len s) × (r ≤ length s)
+  ascii_byte r true e f = let w = ascii_white (sym f) in rw e w
+  ascii_byte r false e f = let w = ascii_none (sym f) in rw e w

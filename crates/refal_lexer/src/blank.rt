@@ -9,6 +9,7 @@ ghost use Rattle.refal_lexer.specs.Told.{close_told, comment_told, blank_told};
 ghost use Rattle.refal_ast.specs.Told.{reason_code, refusal_told};
 ghost use Rattle.refal_ast.specs.Answers.{refusal};
 
+use crate::class::is_blank;
 use crate::runs::run_end;
 use refal_ast::answers::{Reason, Refusal, Span};
 
@@ -43,6 +44,10 @@ fn white_len(src: &[u8]) -> usize
     requires { 0 < length src.now }
     ensures { (result ≡ white_len src.now) × (result ≤ length src.now) }
 {
+    let b = src[0];
+    if b.is_ascii() {
+        return usize::from(is_blank(b));
+    }
     refal_text::decode(src, 0)
         .filter(|c| refal_text::is_white(c.code))
         .map_or(0, |c| c.len)

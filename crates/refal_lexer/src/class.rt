@@ -1,7 +1,7 @@
 // The classes of bytes: the class of a token's first byte decides how it is scanned.
-ghost use Rattle.std.specs.Prelude.{◌≡◌};
+ghost use Rattle.std.specs.Prelude.{◌≡◌, leb};
 ghost use Rattle.refal_lexer.specs.Told.{class_code, single_code};
-ghost use Rattle.refal_lexer.specs.Classes.{class_of, name_byte, digit, sign, single_kind};
+ghost use Rattle.refal_lexer.specs.Classes.{class_of, name_byte, blank, digit, sign, single_kind};
 
 use refal_ast::kinds::TokenKind;
 
@@ -24,36 +24,63 @@ pub enum Class {
     Nothing,
 }
 
+// The classes in two letters, for the table.
+use Class::{
+    Digit as DI, Dollar as DO, Minus as MI, Nothing as NO, Other as OT, Plus as PL, Quote as QU,
+    Slash as SL, Star as ST, Upper as UP, Variable as VA, White as WH, Wide as WI,
+};
+
+const LB: Class = Class::Single(TokenKind::LBrace);
+
+const RB: Class = Class::Single(TokenKind::RBrace);
+
+const LP: Class = Class::Single(TokenKind::LParen);
+
+const RP: Class = Class::Single(TokenKind::RParen);
+
+const LA: Class = Class::Single(TokenKind::LAngle);
+
+const RA: Class = Class::Single(TokenKind::RAngle);
+
+const CO: Class = Class::Single(TokenKind::Comma);
+
+const CL: Class = Class::Single(TokenKind::Colon);
+
+const EQ: Class = Class::Single(TokenKind::Equals);
+
+const SE: Class = Class::Single(TokenKind::Semicolon);
+
+// The class of each byte.
+static CLASSES: [Class; 256] = [
+    NO, NO, NO, NO, NO, NO, NO, NO, NO, WH, WH, WH, WH, WH, NO, NO, NO, NO, NO, NO, NO, NO, NO, NO,
+    NO, NO, NO, NO, NO, NO, NO, NO, WH, NO, QU, NO, DO, NO, NO, QU, LP, RP, ST, PL, CO, MI, NO, SL,
+    DI, DI, DI, DI, DI, DI, DI, DI, DI, DI, CL, SE, LA, EQ, RA, NO, NO, UP, UP, UP, UP, UP, UP, UP,
+    UP, UP, UP, UP, UP, UP, UP, UP, UP, UP, UP, UP, UP, UP, UP, UP, UP, UP, UP, NO, NO, NO, NO, OT,
+    NO, OT, OT, OT, OT, VA, OT, OT, OT, OT, OT, OT, OT, OT, OT, OT, OT, OT, OT, VA, VA, OT, OT, OT,
+    OT, OT, OT, LB, NO, RB, NO, NO, WI, WI, WI, WI, WI, WI, WI, WI, WI, WI, WI, WI, WI, WI, WI, WI,
+    WI, WI, WI, WI, WI, WI, WI, WI, WI, WI, WI, WI, WI, WI, WI, WI, WI, WI, WI, WI, WI, WI, WI, WI,
+    WI, WI, WI, WI, WI, WI, WI, WI, WI, WI, WI, WI, WI, WI, WI, WI, WI, WI, WI, WI, WI, WI, WI, WI,
+    WI, WI, WI, WI, WI, WI, WI, WI, WI, WI, WI, WI, WI, WI, WI, WI, WI, WI, WI, WI, WI, WI, WI, WI,
+    WI, WI, WI, WI, WI, WI, WI, WI, WI, WI, WI, WI, WI, WI, WI, WI, WI, WI, WI, WI, WI, WI, WI, WI,
+    WI, WI, WI, WI, WI, WI, WI, WI, WI, WI, WI, WI, WI, WI, WI, WI,
+];
+
 impl Class {
     pub fn of(b: u8) -> Class
         ensures class { class_code result ≡ class_of b }
         ensures single { single_code result ≡ single_kind b }
     {
-        match b {
-            b'\t'..=b'\r' | b' ' => Class::White,
-            b'"' | b'\'' => Class::Quote,
-            b'*' => Class::Star,
-            b'/' => Class::Slash,
-            b'$' => Class::Dollar,
-            b'{' => Class::Single(TokenKind::LBrace),
-            b'}' => Class::Single(TokenKind::RBrace),
-            b'(' => Class::Single(TokenKind::LParen),
-            b')' => Class::Single(TokenKind::RParen),
-            b'<' => Class::Single(TokenKind::LAngle),
-            b'>' => Class::Single(TokenKind::RAngle),
-            b',' => Class::Single(TokenKind::Comma),
-            b':' => Class::Single(TokenKind::Colon),
-            b'=' => Class::Single(TokenKind::Equals),
-            b';' => Class::Single(TokenKind::Semicolon),
-            b'+' => Class::Plus,
-            b'-' => Class::Minus,
-            b'A'..=b'Z' => Class::Upper,
-            b'0'..=b'9' => Class::Digit,
-            b's' | b't' | b'e' => Class::Variable,
-            b'a'..=b'z' | b'_' => Class::Other,
-            0x80..=0xFF => Class::Wide,
-            _ => Class::Nothing,
-        }
+        CLASSES[usize::from(b)]
+    }
+
+    // Whether a name goes on over the bytes of the class.
+    fn is_name(self) -> bool
+        ensures { result ≡ leb 20 (class_code self) }
+    {
+        matches!(
+            self,
+            Class::Minus | Class::Upper | Class::Digit | Class::Variable | Class::Other
+        )
     }
 }
 
@@ -61,7 +88,14 @@ impl Class {
 pub fn is_name(b: u8) -> bool
     ensures { result ≡ name_byte b }
 {
-    b.is_ascii_alphanumeric() || matches!(b, b'_' | b'-')
+    Class::of(b).is_name()
+}
+
+// White space of one byte.
+pub fn is_blank(b: u8) -> bool
+    ensures { result ≡ blank b }
+{
+    matches!(b, b'\t'..=b'\r' | b' ')
 }
 
 pub fn is_digit(b: u8) -> bool

@@ -3,6 +3,9 @@
 
 ghost use Rattle.std.specs.Prelude.{◌≡◌, false, ◌+◌, ◌≤◌, ◌<◌, IfOk, length};
 ghost use Rattle.refal_ast.specs.Answers.{refusal};
+ghost use Rattle.refal_rows.specs.Rows.{put_row};
+ghost use Rattle.refal_ast.specs.Rows.{token_told};
+ghost use Rattle.refal_ast.specs.Tokens.{token_width, words};
 ghost use Rattle.refal_ast.specs.Told.{told, reason_code, refusal_told};
 ghost use Rattle.refal_lexer.specs.Lex.{stop_answer};
 ghost use Rattle.refal_lexer.specs.Puts.{put_tokens};
@@ -25,7 +28,7 @@ use crate::class::Class;
 use refal_ast::answers::{Reason, Refusal, Span};
 use refal_ast::kinds::TokenKind;
 use refal_ast::limits::MOST_BYTES;
-use refal_ast::tokens::WIDTH;
+use refal_ast::tokens::{Token, WIDTH};
 
 // Why a token is refused, and where.
 #[derive(Clone, Copy, Debug, PartialEq, Eq)]
@@ -80,6 +83,20 @@ impl Cursor {
     }
 }
 
+// A token puts its row, and reading goes on behind it.
+fn put(token: Token, row: usize, rows: &mut [u32]) -> Cursor
+    requires { row ≤ 16777216 }
+    ensures cursor { result ≡ cursor token.to (row + 1) false }
+    ensures rows_after { rows.new ≡ put_row token_width rows.old row (words (token_told token)) }
+{
+    token.put(rows, row);
+    Cursor {
+        at: token.to as usize,
+        row: row + 1,
+        line: false,
+    }
+}
+
 // The token at the front of src, where c stands, puts its row or rows.
 fn put_next(src: &[u8], c: Cursor, rows: &mut [u32]) -> Result<Cursor, Fault>
     requires { (0 < length src.now) × (c.at + length src.now ≤ 16777216) × (c.row ≤ c.at) }
@@ -88,20 +105,25 @@ fn put_next(src: &[u8], c: Cursor, rows: &mut [u32]) -> Result<Cursor, Fault>
 {
     let first = src[0];
     let class = Class::of(first);
-    if class == Class::Quote {
-        return literal::literal(src, c, first, rows);
+    match class {
+        Class::Quote => literal::literal(src, c, first, rows),
+        // The two commonest stand apart from the rest, whose scan's answer goes through memory.
+        Class::Single(kind) => Ok(put(token::bare(kind, c.at, 1), c.row, rows)),
+        Class::Upper => {
+            let scanned = word::name(src, c.at);
+            let Ok(token) = scanned else {
+                return scanned.map(|_| c);
+            };
+            Ok(put(token, c.row, rows))
+        }
+        _ => {
+            let scanned = token::scan(src, c.at, first, class);
+            let Ok(token) = scanned else {
+                return scanned.map(|_| c);
+            };
+            Ok(put(token, c.row, rows))
+        }
     }
-    let scanned = token::scan(src, c.at, first, class);
-    let Ok(token) = scanned else {
-        // The fault as it is.
-        return scanned.map(|_| c);
-    };
-    token.put(rows, c.row);
-    Ok(Cursor {
-        at: token.to as usize,
-        row: c.row + 1,
-        line: false,
-    })
 }
 
 // Blanks, then a token, to the end.

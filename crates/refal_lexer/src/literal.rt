@@ -32,8 +32,19 @@ fn lit_char(src: &[u8], i: usize, q: u8) -> Option<Char>
             len: 2,
         });
     }
-    let c = refal_text::decode(src, i).unwrap_or(Char { code: 0, len: 1 });
-    Some(c)
+    // The commonest by far: no call, whose answer would go through memory.
+    if b.is_ascii() {
+        return Some(Char {
+            code: u32::from(b),
+            len: 1,
+        });
+    }
+    let c = match refal_text::lead(b) {
+        2 => refal_text::two(b, refal_text::byte(src, i + 1)),
+        _ => refal_text::decode(src, i),
+    };
+    // A byte that is no character counts as one.
+    Some(c.unwrap_or(Char { code: 0, len: 1 }))
 }
 
 // Behind the close of the literal at c, of n characters and len bytes.

@@ -15,5 +15,6 @@ loop-i-preserved c = let s = c.args.src.now in let a = c.args.at in let i = c.lo
 pub returns : goal.returns
 returns c = let s = c.args.src.now in let a = c.args.at in let i = c.loop-i.i in let l = c.loop-i.line in let I = c.loop-i.invariant in
     elim c.loop-i-test.branch [
-      else-loop-i-test w ↦ (white_end s a i l w.loop-i-test.false ∙ I.1, omega arith, omega arith)
-    | then-loop-i-test+then-n-eq0 w ↦ (white_stop s a i l w.loop-i-test.true (sym w.if-n-eq0.true ∙ w.white_len-n.ensures.0 ∙ ap white_len (rest_is i s)) ∙ I.1, omega arith, omega arith) ]
+      | else-loop-i-test w ↦ (white_end s a i l w.loop-i-test.false ∙ I.1, omega arith, omega arith)
+      | then-loop-i-test+then-n-eq0 w ↦ (white_stop s a i l w.loop-i-test.true (sym w.if-n-eq0.true ∙ w.white_len-n.ensures.0 ∙ ap white_len (rest_is i s)) ∙ I.1, omega arith, omega arith)
+    ]
