@@ -81,7 +81,7 @@ pub fn refal5_read(src: &[u8], rows: &mut [u32], answer: &mut [u64; 7])
     ensures told { answer.new ≡ answer_words (read_answer src.now (length rows.old)) }
     ensures left { rows.new ≡ read_rows src.now rows.old }
 {
-    *answer = words(refal_lexer::read(src, rows));
+    *answer = words_of(refal_lexer::read(src, rows));
 }
 
 // Parsing: the rows of the tokens' tree.

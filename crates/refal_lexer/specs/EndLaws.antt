@@ -19,7 +19,7 @@ use Rattle.refal_lexer.specs.Classes.{upper, digit, sign, letter, name_byte, not
 use Rattle.refal_lexer.specs.Scans.{Scan, Token, Bad, Comment, Long, Bare}
 use Rattle.refal_lexer.specs.Tokens.{wide_scan, sign_scan, class_scan, Found, found, refused, one, literal_of, token_at}
 use Rattle.refal_lexer.specs.Words.{name_of, other_scan, index_of, variable_scan, entry_word, extern_word, directive_of}
-use Rattle.refal_lexer.specs.Numbers.{value, sign_bytes, part, number_of, number_scan, point_at, exponent_at, digits_end}
+use Rattle.refal_lexer.specs.Numbers.{value, sign_bytes, part, number_of, number_scan, point_at, exponent_at, digits_end, Part}
 use Rattle.refal_lexer.specs.Literals.{lit_char, lit_step, lit_from, char_step, char_tokens, Lit, closed, newline, unclosed}
 use Rattle.refal_lexer.specs.ClassLaws.{ClassIs, class_view, is_wide, is_white, is_quote, is_star, is_slash, is_dollar, is_plus, is_minus, is_upper, is_digit, is_variable, is_other, is_single, is_none, quote_class}
 use Rattle.refal_lexer.specs.Boundaries.{Boundary, first, Well, AllOn, all_more}
@@ -28,7 +28,6 @@ use Rattle.refal_text.specs.SpanLaws.{span_le}
 use Rattle.refal_lexer.specs.Blanks.{white_len, close_to, comment_at}
 use Rattle.refal_ast.specs.Tokens.{Token as Tok, token}
 use Rattle.refal_lexer.specs.LineLaws.{white_len_lem}
-use Rattle.refal_lexer.specs.declared.number.Part.{Part}
 use Rattle.refal_lexer.specs.PlaceLaws.{part_within}
 
 -- ---- bytes below 128

@@ -7,9 +7,8 @@ use Rattle.refal_rows.specs.Tests.{and_right}
 use Rattle.refal_text.specs.Pick.{pick, split}
 use Rattle.refal_text.specs.Span.{span}
 use Rattle.refal_lexer.specs.Classes.{digit, sign}
-use Rattle.refal_lexer.specs.Numbers.{value, macrodigit, ends, digits_at, sign_bytes, part, point_at, exponent_at, whole_scan, number_of, digits_end, number_scan}
+use Rattle.refal_lexer.specs.Numbers.{value, macrodigit, ends, digits_at, sign_bytes, part, point_at, exponent_at, whole_scan, number_of, digits_end, number_scan, Part}
 use Rattle.refal_lexer.specs.BlankLaws.{nonzero_in}
-use Rattle.refal_lexer.specs.declared.number.Part.{Part}
 use Rattle.refal_lexer.specs.Scans.{Scan, Token, Bad}
 
 -- what the code counts: past 4294967295 it stays where it is

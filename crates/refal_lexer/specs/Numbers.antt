@@ -6,7 +6,6 @@ use Rattle.refal_text.specs.Span.{span}
 use Rattle.refal_ast.specs.Kinds.{tok_number}
 use Rattle.refal_lexer.specs.Classes.{digit, sign}
 use Rattle.refal_lexer.specs.Scans.{Scan, Token, Bad}
-use Rattle.refal_lexer.specs.declared.number.Part.{Part}
 
 -- what the digits at the front of s are worth, after digits that are worth v
 abbrev pub value : ℕ → List ℕ → ℕ
@@ -18,6 +17,10 @@ abbrev pub macrodigit : List ℕ → Option ℕ
 macrodigit s = pick (leb (value 0 s) 4294967295) (Some (value 0 s)) None
 
 -- where a part ends, and whether no digit stands in it
+pub record Part : Type 0 where
+  pub end : ℕ
+  pub bare : Bool
+
 abbrev pub ends : ℕ → Bool → Part
 ends end bare = record { end = end; bare = bare }
 

@@ -10,13 +10,12 @@ use Rattle.refal_lexer.specs.Classes.{upper, digit, letter, name_byte, class_of,
 use Rattle.refal_lexer.specs.Scans.{Scan, Token, Bad}
 use Rattle.refal_lexer.specs.Tokens.{wide_scan, sign_scan, class_scan, Found, found, refused, one, literal_of, token_at}
 use Rattle.refal_lexer.specs.Words.{name_of, other_scan, index_of, variable_scan, entry_word, extern_word, directive_of}
-use Rattle.refal_lexer.specs.Numbers.{value, sign_bytes, part, number_of, number_scan, point_at, exponent_at, digits_end}
+use Rattle.refal_lexer.specs.Numbers.{value, sign_bytes, part, number_of, number_scan, point_at, exponent_at, digits_end, Part}
 use Rattle.refal_lexer.specs.Literals.{lit_from, Lit, closed, newline, unclosed}
 use Rattle.refal_lexer.specs.ClassLaws.{ClassIs, class_view, is_wide, is_white, is_quote, is_star, is_slash, is_dollar, is_plus, is_minus, is_upper, is_digit, is_variable, is_other, is_single, is_none}
 use Rattle.std.proofs.lemmas.Bool.{eqb-false}
 use Rattle.refal_lexer.specs.BlankLaws.{nonzero_in}
 use Rattle.refal_lexer.specs.NumberLaws.{sign_le}
-use Rattle.refal_lexer.specs.declared.number.Part.{Part}
 use Rattle.refal_lexer.specs.LiteralLaws.{lit_closed}
 
 -- a token's text: none, or within its span

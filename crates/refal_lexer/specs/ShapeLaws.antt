@@ -9,9 +9,8 @@ use Rattle.refal_lexer.specs.Scans.{Scan, Token, Bad}
 use Rattle.refal_text.specs.Encode.{Scalar}
 use Rattle.refal_lexer.specs.Tokens.{wide_scan, sign_scan, class_scan}
 use Rattle.refal_lexer.specs.Words.{name_of, index_of, variable_scan, entry_word, extern_word, directive_of}
-use Rattle.refal_lexer.specs.Numbers.{value, number_of, number_scan, point_at, exponent_at, digits_end}
+use Rattle.refal_lexer.specs.Numbers.{value, number_of, number_scan, point_at, exponent_at, digits_end, Part}
 use Rattle.refal_lexer.specs.ClassLaws.{ClassIs, is_wide, is_white, is_quote, is_star, is_slash, is_dollar, is_plus, is_minus, is_upper, is_digit, is_variable, is_other, is_single, single_range, is_none}
-use Rattle.refal_lexer.specs.declared.number.Part.{Part}
 
 -- a token row's kind, detail, text start and text length: the unused are 0, a Variable's detail is its letter, a Char's a scalar value
 pub data RowOk : ℕ → ℕ → ℕ → ℕ → Type 0 where

@@ -21,14 +21,13 @@ use Rattle.refal_lexer.specs.ClassLaws.{ClassIs, class_view, is_wide, is_white, 
 use Rattle.refal_lexer.specs.Carried.{line_after, lex_by}
 use Rattle.refal_lexer.specs.Blanks.{white_len, close_to, comment_at, on_white, on_comment}
 use Rattle.refal_lexer.specs.Words.{entry_word, extern_word, name_of, index_of, variable_scan, directive_of}
-use Rattle.refal_lexer.specs.Numbers.{value, sign_bytes, part, point_at, exponent_at, number_of, digits_end, number_scan}
+use Rattle.refal_lexer.specs.Numbers.{value, sign_bytes, part, point_at, exponent_at, number_of, digits_end, number_scan, Part}
 use Rattle.refal_lexer.specs.Literals.{lit_char, Lit, closed, newline, unclosed, lit_step, lit_from}
 use Rattle.refal_lexer.specs.Lex.{Out, more_all, stop_bad}
 use Rattle.refal_lexer.specs.EndLaws.{At, Low, either, range_low, digit_low, letter_low, name_low}
 use Rattle.refal_lexer.specs.Stars.{newline_in, line_start}
 use Rattle.refal_lexer.specs.LineLaws.{Ink, white_in, line_ink, line_white}
 use Rattle.refal_lexer.specs.Scans.{Comment, Long, Bare, Scan, Token, Bad}
-use Rattle.refal_lexer.specs.declared.number.Part.{Part}
 use Rattle.refal_lexer.specs.Tokens.{sign_scan, wide_scan, class_scan, Found, found, refused, one, literal_of, token_at}
 use Rattle.refal_lexer.specs.Source.{on_found, turn, lex01, source}
 use Rattle.refal_lexer.specs.BlankLaws.{comment_in}

@@ -13,9 +13,8 @@ use Rattle.refal_lexer.specs.declared.blank.Unclosed.{Unclosed}
 use Rattle.refal_lexer.specs.Classes.{c_none, c_white, c_quote, c_star, c_slash, c_dollar, c_single, c_plus, c_wide, c_minus, c_upper, c_digit, c_variable, c_other}
 use Rattle.refal_lexer.specs.declared.class.Class.{Class}
 use Rattle.refal_lexer.specs.declared.class.Class.TheVariants as class
-use Rattle.refal_lexer.specs.Numbers.{ends}
+use Rattle.refal_lexer.specs.Numbers.{ends, Part}
 use Rattle.refal_lexer.specs.declared.number.Bare.{Bare as NoDigit}
-use Rattle.refal_lexer.specs.declared.number.Part.{Part}
 
 -- where a part ends, bare if it has no digit
 abbrev pub part_told : Result ℕ NoDigit → Part

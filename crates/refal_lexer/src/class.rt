@@ -1,7 +1,7 @@
 // The classes of bytes: the class of a token's first byte decides how it is scanned.
 ghost use Rattle.std.specs.Prelude.{◌≡◌, leb};
 ghost use Rattle.refal_lexer.specs.Told.{class_code, single_code};
-ghost use Rattle.refal_lexer.specs.Classes.{class_of, name_byte, blank, digit, sign, single_kind};
+ghost use Rattle.refal_lexer.specs.Classes.{class_of, name_byte, blank, sign, single_kind};
 
 use refal_ast::kinds::TokenKind;
 
@@ -96,12 +96,6 @@ pub fn is_blank(b: u8) -> bool
     ensures { result ≡ blank b }
 {
     matches!(b, b'\t'..=b'\r' | b' ')
-}
-
-pub fn is_digit(b: u8) -> bool
-    ensures { result ≡ digit b }
-{
-    b.is_ascii_digit()
 }
 
 pub fn is_sign(b: u8) -> bool

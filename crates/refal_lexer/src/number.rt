@@ -2,11 +2,12 @@
 ghost use Rattle.std.specs.Prelude.{◌≡◌, true, ◌+◌, ◌-◌, ◌*◌, ◌≤◌, ◌<◌, length, drop, get_or};
 ghost use Rattle.refal_text.specs.Span.{span};
 ghost use Rattle.refal_lexer.specs.Classes.{digit};
-ghost use Rattle.refal_lexer.specs.NumberLaws.{worth, digit_step, fit};
+ghost use Rattle.refal_lexer.specs.NumberLaws.{fit};
 ghost use Rattle.refal_lexer.specs.Told.{part_told, scan_told};
 ghost use Rattle.refal_lexer.specs.Numbers.{macrodigit, part, sign_bytes, point_at, exponent_at, number_scan};
 
 use crate::Fault;
+use crate::class::is_sign;
 use crate::runs::run_end;
 use crate::token::whole;
 use refal_ast::answers::Reason;
@@ -24,54 +25,6 @@ pub struct Whole {
 #[derive(Clone, Copy, Debug, PartialEq, Eq)]
 pub struct Bare {
     pub end: usize,
-}
-
-// Where a run of digits ends, and what it is worth, or some number above 4294967295 where it is worth more.
-#[derive(Clone, Copy)]
-pub struct Count {
-    pub end: usize,
-    pub worth: u64,
-}
-
-// Where a part ends, and whether no digit stands in it.
-#[derive(Clone, Copy)]
-pub struct Part {
-    pub end: usize,
-    pub bare: bool,
-}
-
-fn wide(b: u8) -> u64
-    ensures { result ≡ b }
-{
-    b as u64
-}
-
-fn add_digit(v: u64, b: u8) -> u64
-    requires { 48 ≤ b }
-    ensures { result ≡ digit_step v b }
-{
-    if v <= 4294967295 {
-        v * 10 + (wide(b) - 48)
-    } else {
-        v
-    }
-}
-
-pub fn whole_end(src: &[u8], at: usize) -> Count
-    requires { at ≤ length src.now }
-    ensures { (result.end ≡ at + span digit (drop at src.now)) × (result.end ≤ length src.now) × (result.worth ≡ worth 0 (drop at src.now)) }
-{
-    let mut i = at;
-    let mut v = 0u64;
-    while i < src.len() {
-        let b = src[i];
-        if !crate::class::is_digit(b) {
-            return Count { end: i, worth: v };
-        }
-        v = add_digit(v, b);
-        i += 1;
-    }
-    Count { end: i, worth: v }
 }
 
 // What digits that are worth v are worth with the digit b behind.
@@ -104,8 +57,7 @@ fn past_sign(src: &[u8], at: usize, signed: bool) -> usize
     requires { at ≤ length src.now }
     ensures { (result ≡ at + sign_bytes signed (drop at src.now)) × (at ≤ result) × (result ≤ length src.now) }
 {
-    let b = refal_text::byte(src, at);
-    if signed & crate::class::is_sign(b) {
+    if signed && is_sign(refal_text::byte(src, at)) {
         return at + 1;
     }
     at
@@ -149,29 +101,6 @@ pub fn power(src: &[u8], at: usize) -> Result<usize, Bare>
     ensures to { (part_told result).end ≤ length src.now }
 {
     marked(src, at, b'E', true)
-}
-
-fn as_part(found: Result<usize, Bare>) -> Part
-    ensures { result ≡ part_told found }
-{
-    match found {
-        Ok(end) => Part { end, bare: false },
-        Err(Bare { end }) => Part { end, bare: true },
-    }
-}
-
-pub fn point(src: &[u8], at: usize) -> Part
-    requires { at ≤ length src.now }
-    ensures { (result ≡ point_at at src.now) × (at ≤ result.end) × (result.end ≤ length src.now) }
-{
-    as_part(fraction(src, at))
-}
-
-pub fn exponent(src: &[u8], at: usize) -> Part
-    requires { at ≤ length src.now }
-    ensures { (result ≡ exponent_at at src.now) × (at ≤ result.end) × (result.end ≤ length src.now) }
-{
-    as_part(power(src, at))
 }
 
 // The number whose digits start at `from`: 1 behind a sign, else 0.

@@ -6,8 +6,7 @@ use Rattle.std.proofs.Math.Seq.{slice, slice_empty}
 use Rattle.refal_text.specs.Pick.{pick}
 use Rattle.refal_text.specs.Span.{span}
 use Rattle.refal_lexer.specs.Classes.{digit}
-use Rattle.refal_lexer.specs.Numbers.{sign_bytes, digits_at, ends, part, point_at, exponent_at}
-use Rattle.refal_lexer.specs.declared.number.Part.{Part}
+use Rattle.refal_lexer.specs.Numbers.{sign_bytes, digits_at, ends, part, point_at, exponent_at, Part}
 use Rattle.refal_real.specs.Parts.{first, unsigned, run, past, fraction_at, past_fraction, down_at, exponent_digits}
 use Rattle.refal_real.specs.Value.{num}
 use Rattle.refal_real.specs.Form.{less}

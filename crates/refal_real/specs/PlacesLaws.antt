@@ -9,10 +9,9 @@ use Rattle.refal_text.specs.Span.{span}
 use Rattle.refal_ast.specs.Kinds.{tok_number}
 use Rattle.refal_ast.specs.Limits.{most_bytes}
 use Rattle.refal_lexer.specs.Classes.{digit}
-use Rattle.refal_lexer.specs.Numbers.{sign_bytes, part, point_at, exponent_at, digits_end, whole_scan, number_scan}
+use Rattle.refal_lexer.specs.Numbers.{sign_bytes, part, point_at, exponent_at, digits_end, whole_scan, number_scan, Part}
 use Rattle.refal_lexer.specs.BlankLaws.{nonzero_in}
 use Rattle.refal_lexer.specs.NumberLaws.{worth, number_point, number_e, number_whole, number_real}
-use Rattle.refal_lexer.specs.declared.number.Part.{Part}
 use Rattle.refal_lexer.specs.Scans.{Scan, Bad}
 use Rattle.refal_spelling.specs.Spells.{token_to, spells}
 use Rattle.refal_spelling.specs.Spellings.{number_ok}

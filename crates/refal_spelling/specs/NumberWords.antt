@@ -9,11 +9,10 @@ use Rattle.refal_text.specs.Pick.{pick, split}
 use Rattle.refal_text.specs.Span.{span}
 use Rattle.refal_ast.specs.Kinds.{tok_number}
 use Rattle.refal_lexer.specs.Classes.{digit, sign}
-use Rattle.refal_lexer.specs.Numbers.{value, ends, digits_at, sign_bytes, point_at, exponent_at, digits_end, number_of, number_scan}
+use Rattle.refal_lexer.specs.Numbers.{value, ends, digits_at, sign_bytes, point_at, exponent_at, digits_end, number_of, number_scan, Part as Found}
 use Rattle.refal_lexer.specs.Numbers.{part as part_at}
 use Rattle.refal_lexer.specs.EndLaws.{either}
 use Rattle.refal_lexer.specs.PlaceLaws.{part_in}
-use Rattle.refal_lexer.specs.declared.number.Part.{Part as Found}
 use Rattle.refal_lexer.specs.Scans.{Scan, Token, Bad}
 use Rattle.refal_spelling.specs.Good.{Every, also, Sign, unsigned, plus, minus, Part, absent, digits, Number, macrodigit, real}
 use Rattle.refal_spelling.specs.Runs.{Ends, at_end, at_space, span_ends, every_span, length_span, span_every, value_every, value_span}

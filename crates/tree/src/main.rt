@@ -5,7 +5,8 @@
 ghost use Rattle.std.specs.Prelude.{◌≤◌, length, IfOk};
 ghost use Rattle.refal_ast.specs.Nodes.{HasRow};
 
-use refal_ast::{Answer, Refusal, nodes};
+use refal_ast::answers::{Reason, Refusal};
+use refal_ast::nodes;
 use std::io;
 use std::io::Read;
 
@@ -16,13 +17,6 @@ fn wide(x: u32) -> u64 {
 // A number and the byte after it.
 fn put(rt: &impl Print, n: u64, after: char) -> io::Result<()> {
     print!(rt; "{n}{after}")
-}
-
-fn put_refusal(rt: &impl Print, refusal: Refusal) -> io::Result<()> {
-    print!(rt; "refused ")?;
-    put(rt, wide(refusal.number), ' ')?;
-    put(rt, refusal.start as u64, ' ')?;
-    put(rt, refusal.end as u64, '\n')
 }
 
 // Row i: row, kind, detail, span start, span end, next.
@@ -65,8 +59,8 @@ fn put_tree(rt: &impl Print, tokens: &[u32]) -> io::Result<()> {
 fn put_source(rt: &impl Print, source: &[u8]) -> io::Result<()> {
     let mut tokens = [0u32; 12294];
     match refal_lexer::read(source, &mut tokens) {
-        Answer::Refused(refusal) => put_refusal(rt, refusal),
-        Answer::Done(n) => {
+        Err(refusal) => println!(rt; "{refusal}"),
+        Ok(n) => {
             if n <= 2049 {
                 let end = 6 * n;
                 put_tree(rt, &tokens[..end])
@@ -96,17 +90,8 @@ fn main(rt: HostRuntime) -> io::Result<()> {
     let mut source = [0u8; 2049];
     let n = read_full(&mut rt.reader(), &mut source)?;
     if n > 2048 {
-        return put_refusal(
-            &rt,
-            Refusal {
-                number: 1,
-                expected: 0,
-                found: 0,
-                start: 0,
-                end: 0,
-                need: 0,
-            },
-        );
+        let refusal = Refusal::from(Reason::SourceTooLong);
+        return println!(rt; "{refusal}");
     }
     put_source(&rt, &source[..n])
 }
