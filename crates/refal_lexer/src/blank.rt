@@ -3,13 +3,12 @@ ghost use Rattle.std.specs.Prelude.{◌≡◌, IfOk, IfErr, IfSome, false, ◌+�
 ghost use Rattle.refal_lexer.specs.Carried.{line_after};
 ghost use Rattle.refal_lexer.specs.Blanks.{white_len, close_to, comment_at};
 ghost use Rattle.refal_lexer.specs.Carried.{whites, blanks_from};
-ghost use Rattle.refal_lexer.specs.SpaceLaws.{begins_blank, space_len, line_behind};
-ghost use Rattle.refal_lexer.specs.Classes.{class_of};
+ghost use Rattle.refal_lexer.specs.SpaceLaws.{space_len, line_behind};
 ghost use Rattle.refal_lexer.specs.Told.{close_told, comment_told, blank_told};
 ghost use Rattle.refal_ast.specs.Told.{reason_code, refusal_told};
 ghost use Rattle.refal_ast.specs.Answers.{refusal};
 
-use crate::class::is_blank;
+use crate::class::{Class, is_blank};
 use crate::runs::run_end;
 use refal_ast::answers::{Reason, Refusal, Span};
 
@@ -140,14 +139,7 @@ fn line_behind(n: usize, at: usize, line: bool) -> bool
     line && (n == 0 || at != 0)
 }
 
-// Whether white space or a comment can begin with the byte.
-fn begins(b: u8) -> bool
-    ensures { result ≡ begins_blank (class_of b) }
-{
-    matches!(b, b'\t'..=b'\r' | b' ' | b'*' | b'/' | 0x80..=0xFF)
-}
-
-// White space and comments. Most tokens have one space before them, or none: that costs no branch, and then the next byte tells that
+// White space and comments. Most tokens have one space before them, or none: that costs no branch, and then the class of a byte tells that
 // there are no more blanks.
 pub fn blanks(src: &[u8], at: usize, line: bool) -> Result<Place, Unclosed>
     requires { at + length src.now ≤ 16777216 }
@@ -158,7 +150,7 @@ pub fn blanks(src: &[u8], at: usize, line: bool) -> Result<Place, Unclosed>
         at: at + n,
         line: line_behind(n, at, line),
     };
-    if !begins(refal_text::byte(src, n)) {
+    if !Class::of(refal_text::byte(src, n)).begins_blank() {
         return Ok(place);
     }
     repeat(&src[n..], place.at, place.line)

@@ -1,5 +1,6 @@
 // The classes of bytes: the class of a token's first byte decides how it is scanned.
 ghost use Rattle.std.specs.Prelude.{◌≡◌, leb};
+ghost use Rattle.refal_lexer.specs.SpaceLaws.{begins_blank};
 ghost use Rattle.refal_lexer.specs.Told.{class_code, single_code};
 ghost use Rattle.refal_lexer.specs.Classes.{class_of, name_byte, blank, sign, single_kind};
 
@@ -8,14 +9,14 @@ use refal_ast::kinds::TokenKind;
 #[derive(Clone, Copy, Debug, PartialEq, Eq)]
 pub enum Class {
     White,
-    Quote,
+    Wide,
     Star,
     Slash,
+    Quote,
     Dollar,
     // A token of one byte.
     Single(TokenKind),
     Plus,
-    Wide,
     Minus,
     Upper,
     Digit,
@@ -71,6 +72,16 @@ impl Class {
         ensures single { single_code result ≡ single_kind b }
     {
         CLASSES[usize::from(b)]
+    }
+
+    // Whether white space or a comment can begin with the bytes of the class.
+    pub fn begins_blank(self) -> bool
+        ensures { result ≡ begins_blank (class_code self) }
+    {
+        matches!(
+            self,
+            Class::White | Class::Wide | Class::Star | Class::Slash
+        )
     }
 
     // Whether a name goes on over the bytes of the class.
