@@ -9,11 +9,10 @@ use Rattle.refal_text.specs.Pick.{pick}
 use Rattle.refal_text.specs.Span.{span}
 use Rattle.refal_ast.specs.Limits.{most_bytes}
 use Rattle.refal_lexer.specs.Classes.{digit, sign}
-use Rattle.refal_lexer.specs.Numbers.{sign_bytes, digits_at, ends, part, point_at, exponent_at}
+use Rattle.refal_lexer.specs.Numbers.{sign_bytes, digits_at, ends, part, point_at, exponent_at, Part}
 use Rattle.refal_lexer.specs.NumberLaws.{sign_here, sign_none}
 use Rattle.refal_lexer.specs.Told.{part_told}
 use Rattle.refal_lexer.specs.declared.number.Bare.{Bare}
-use Rattle.refal_lexer.specs.declared.number.Part.{Part}
 use Rattle.refal_real.specs.Parts.{parts, down_at, exponent_digits}
 use Rattle.refal_real.specs.Real.{is_real}
 use Rattle.refal_real.specs.Found.{places_of, spelled_of}
