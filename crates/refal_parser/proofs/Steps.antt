@@ -50,6 +50,13 @@ is_no {r} {P} {Q} {a} {b} {c} {d} {e} q p = record {
       (subst (λ (x : ℕ). Q a x c' d' x') u₂ (subst (λ (x : ℕ). Q a b x d' x') u₃ (subst (λ (x : ℕ). Q a b c x x') u₄ (subst (λ (x : ℕ). Q a b c d x) u₅ p))));
 }
 
+-- what is known of an answer that is a place, and of one that is a refusal
+pub got : {j m : ℕ} {P : ℕ → ℕ → Type 0} {Q : ℕ → ℕ → ℕ → ℕ → ℕ → Type 0} → Cases (At j m) P Q → P j m
+got h = h.at _ _ refl
+
+pub not_got : {a b c d e : ℕ} {P : ℕ → ℕ → Type 0} {Q : ℕ → ℕ → ℕ → ℕ → ℕ → Type 0} → Cases (No a b c d e) P Q → Q a b c d e
+not_got h = h.no _ _ _ _ _ refl
+
 -- what a `?` passes on
 pub passed : (r : Result ThePlace SyntaxError) (e : SyntaxError) {P : ℕ → ℕ → Type 0} {Q : ℕ → ℕ → ℕ → ℕ → ℕ → Type 0} → IsErrAnd r (λ x. x ≡ e) →
     Q (reason_code e.reason) (kind_told e.expected) (token_code e.found) e.span.start e.span.end → Cases (got_told r) P Q

@@ -4,7 +4,7 @@ use Rattle.refal_ast.specs.Tree.{c0, s0, b_all, size_c, size_s}
 use Rattle.refal_parser.specs.Machine.{between}
 use Rattle.refal_parser.specs.Writers.{w_c, w_s}
 use Rattle.refal_parser.proofs.TokenLaws.{ready_next, is_kind, not_kind}
-use Rattle.refal_parser.proofs.Steps.{is_at, is_no, passed, put_as, other, open_none, open_some, end_unopened}
+use Rattle.refal_parser.proofs.Steps.{got, not_got, is_at, is_no, passed, put_as, other, open_none, open_some, end_unopened}
 use Rattle.refal_parser.proofs.BlockLaws.{after_comma, turn_pattern, argument_no, block_no, follow_no, condition_of_block, pattern_no, condition_of_terms, condition_no, ending_no, sentence_of_parts, one_condition, end_argument_no, end_argued, end_block_no, end_follow_no, ending_of_block, end_terms_no, ending_of_terms, sofar_all, sentence_no, one_sentence, block_unclosed, block_of_sentences}
 use Rattle.refal_parser.proofs.block.+block_condition_ending_sentence.Goals as goal
 
@@ -37,14 +37,14 @@ block-sentence-requires t c = let K = c.token.ensures in
 pub block-returns-in_err-place-in_default : goal.block-returns-in_err-place-in_default
 block-returns-in_err-place-in_default t c = let K = c.token.ensures in
     passed _ _ c.from_residual.ensures.1 (sentence_no c.loop-place.invariant (not_kind K c.in_default.not-RBrace) (not_kind K c.in_default.not-Eof)
-    (c.in_err-place-in_default.ensures.no _ _ _ _ _ refl))
+    (not_got c.in_err-place-in_default.ensures))
 
 pub block-loop-place-smaller : goal.block-loop-place-smaller
-block-loop-place-smaller t c = let S = c.in_ok-place-in_default.ensures.at _ _ refl in let R = S.ready in let q = S.on in omega arith
+block-loop-place-smaller t c = let S = got c.in_ok-place-in_default.ensures in let R = S.ready in let q = S.on in omega arith
 
 pub block-loop-place-preserved : goal.block-loop-place-preserved
 block-loop-place-preserved t c = let K = c.token.ensures in
-    one_sentence c.loop-place.invariant (not_kind K c.in_default.not-RBrace) (not_kind K c.in_default.not-Eof) c.sentence.auto.rows (c.in_ok-place-in_default.ensures.at _ _ refl)
+    one_sentence c.loop-place.invariant (not_kind K c.in_default.not-RBrace) (not_kind K c.in_default.not-Eof) c.sentence.auto.rows (got c.in_ok-place-in_default.ensures)
 
 pub condition-token-from-requires : goal.condition-token-from-requires
 condition-token-from-requires t c = let pre₀ = c.requires in
@@ -56,44 +56,44 @@ condition-argument-requires t c = let pre₀ = c.requires in
 
 pub condition-returns-in_err-asked : goal.condition-returns-in_err-asked
 condition-returns-in_err-asked t c = let pre₀ = c.requires in
-    passed _ _ c.from_residual.ensures.1 (argument_no pre₀.0 pre₀.2 _ (c.in_err-asked.ensures.no _ _ _ _ _ refl))
+    passed _ _ c.from_residual.ensures.1 (argument_no pre₀.0 pre₀.2 _ (not_got c.in_err-asked.ensures))
 
 pub condition-token-requires : goal.condition-token-requires
-condition-token-requires t c = (c.in_ok-asked.ensures.at _ _ refl).ready
+condition-token-requires t c = (got c.in_ok-asked.ensures).ready
 
 pub condition-overflow_add-inside : goal.condition-overflow_add-inside
-condition-overflow_add-inside t c = let A = c.in_ok-asked.ensures.at _ _ refl in
+condition-overflow_add-inside t c = let A = got c.in_ok-asked.ensures in
     let R = A.ready in let o = A.on in let v₁ = A.few in omega arith
 
 pub condition-block-requires : goal.condition-block-requires
 condition-block-requires t c = let pre₀ = c.requires in
-    let A = c.in_ok-asked.ensures.at _ _ refl in
+    let A = got c.in_ok-asked.ensures in
     let R = A.ready in
     let o = A.on in let v₁ = A.few in let g = pre₀.0 in (omega arith, (R, omega arith, is_kind c.token.ensures c.in-LBrace.is))
 
 pub condition-returns-in_err-end : goal.condition-returns-in_err-end
 condition-returns-in_err-end t c = let pre₀ = c.requires in
-    passed _ _ c.from_residual-in_err-end.ensures.1 (block_no pre₀.0 pre₀.2 _ (c.in_ok-asked.ensures.at _ _ refl) (is_kind c.token.ensures c.in-LBrace.is) (c.in_err-end.ensures.no _ _ _ _ _ refl))
+    passed _ _ c.from_residual-in_err-end.ensures.1 (block_no pre₀.0 pre₀.2 _ (got c.in_ok-asked.ensures) (is_kind c.token.ensures c.in-LBrace.is) (not_got c.in_err-end.ensures))
 
 pub condition-end_before-to-requires : goal.condition-end_before-to-requires
-condition-end_before-to-requires t c = let B = c.in_ok-end.ensures.at _ _ refl in let q = B.on in (B.ready, omega arith)
+condition-end_before-to-requires t c = let B = got c.in_ok-end.ensures in let q = B.on in (B.ready, omega arith)
 
 pub condition-spanned-requires : goal.condition-spanned-requires
-condition-spanned-requires t c = let B = c.in_ok-end.ensures.at _ _ refl in let Z = B.ready in let v = B.few in omega arith
+condition-spanned-requires t c = let B = got c.in_ok-end.ensures in let Z = B.ready in let v = B.few in omega arith
 
 pub condition-put-requires : goal.condition-put-requires
-condition-put-requires t c = let A = c.in_ok-asked.ensures.at _ _ refl in let R = A.ready in let v₁ = A.few in omega arith
+condition-put-requires t c = let A = got c.in_ok-asked.ensures in let R = A.ready in let v₁ = A.few in omega arith
 
 pub condition-spanned-requires-in-LBrace : goal.condition-spanned-requires-in-LBrace
-condition-spanned-requires-in-LBrace t c = let B = c.in_ok-end.ensures.at _ _ refl in let Z = B.ready in let v = B.few in omega arith
+condition-spanned-requires-in-LBrace t c = let B = got c.in_ok-end.ensures in let Z = B.ready in let v = B.few in omega arith
 
 pub condition-follows-requires : goal.condition-follows-requires
-condition-follows-requires t c = (c.in_ok-end.ensures.at _ _ refl).ready
+condition-follows-requires t c = (got c.in_ok-end.ensures).ready
 
 pub condition-returns-in-LBrace : goal.condition-returns-in-LBrace
 condition-returns-in-LBrace t c = let pre₀ = c.requires in
-    let A = c.in_ok-asked.ensures.at _ _ refl in
-    let X = c.in_ok-end.ensures.at _ _ refl in
+    let A = got c.in_ok-asked.ensures in
+    let X = got c.in_ok-end.ensures in
     let k₇ = is_kind c.token.ensures c.in-LBrace.is in
     record {
       at = λ j m e. condition_of_block pre₀.0 pre₀.2 _ A k₇ X c.token-from.ensures.from c.end_before-to.ensures (put_as _ _ _ c.put.ensures c.spanned.ensures)
@@ -102,25 +102,25 @@ condition-returns-in-LBrace t c = let pre₀ = c.requires in
     }
 
 pub condition-clause-requires : goal.condition-clause-requires
-condition-clause-requires t c = let A = c.in_ok-asked.ensures.at _ _ refl in
+condition-clause-requires t c = let A = got c.in_ok-asked.ensures in
     let R = A.ready in let o = A.on in let v₁ = A.few in (R, omega arith)
 
 pub condition-returns-in_err-end-2 : goal.condition-returns-in_err-end-2
 condition-returns-in_err-end-2 t c = let pre₀ = c.requires in
-    passed _ _ c.from_residual-in_err-end-2.ensures.1 (pattern_no pre₀.0 pre₀.2 _ (c.in_ok-asked.ensures.at _ _ refl) (not_kind c.token.ensures c.in_default.not-LBrace)
-    (c.in_err-end-2.ensures.no _ _ _ _ _ refl))
+    passed _ _ c.from_residual-in_err-end-2.ensures.1 (pattern_no pre₀.0 pre₀.2 _ (got c.in_ok-asked.ensures) (not_kind c.token.ensures c.in_default.not-LBrace)
+    (not_got c.in_err-end-2.ensures))
 
 pub condition-end_before-to-requires-2 : goal.condition-end_before-to-requires-2
-condition-end_before-to-requires-2 t c = let A = c.in_ok-asked.ensures.at _ _ refl in
-    let Q = c.in_ok-end-2.ensures.at _ _ refl in let o = A.on in let q = Q.on in (Q.ready, omega arith)
+condition-end_before-to-requires-2 t c = let A = got c.in_ok-asked.ensures in
+    let Q = got c.in_ok-end-2.ensures in let o = A.on in let q = Q.on in (Q.ready, omega arith)
 
 pub condition-spanned-requires-2 : goal.condition-spanned-requires-2
-condition-spanned-requires-2 t c = let Q = c.in_ok-end-2.ensures.at _ _ refl in let Z = Q.ready in let v = Q.few in omega arith
+condition-spanned-requires-2 t c = let Q = got c.in_ok-end-2.ensures in let Z = Q.ready in let v = Q.few in omega arith
 
 pub condition-returns : goal.condition-returns
 condition-returns t c = let pre₀ = c.requires in
-    let A = c.in_ok-asked.ensures.at _ _ refl in
-    let Q = c.in_ok-end-2.ensures.at _ _ refl in
+    let A = got c.in_ok-asked.ensures in
+    let Q = got c.in_ok-end-2.ensures in
     is_at refl (condition_of_terms pre₀.0 pre₀.2 _ A (not_kind c.token.ensures c.in_default.not-LBrace) Q c.token-from.ensures.from c.end_before-to-2.ensures (put_as _ _ _ c.put-2.ensures c.spanned-2.ensures))
 
 pub ending-returns-in_default : goal.ending-returns-in_default
@@ -140,43 +140,43 @@ ending-argument-requires t c = let pre₀ = c.requires in
 
 pub ending-returns-in_err-asked : goal.ending-returns-in_err-asked
 ending-returns-in_err-asked t c =
-    passed _ _ c.from_residual.ensures.1 (end_argument_no c.requires.0 (is_kind c.token.ensures c.in-Comma.is) _ (c.in_err-asked.ensures.no _ _ _ _ _ refl))
+    passed _ _ c.from_residual.ensures.1 (end_argument_no c.requires.0 (is_kind c.token.ensures c.in-Comma.is) _ (not_got c.in_err-asked.ensures))
 
 pub ending-token-requires-2 : goal.ending-token-requires-2
-ending-token-requires-2 t c = (c.in_ok-asked.ensures.at _ _ refl).ready
+ending-token-requires-2 t c = (got c.in_ok-asked.ensures).ready
 
 pub ending-present-requires : goal.ending-present-requires
-ending-present-requires t c = (c.in_ok-asked.ensures.at _ _ refl).ready
+ending-present-requires t c = (got c.in_ok-asked.ensures).ready
 
 pub ending-returns-in_default-kind : goal.ending-returns-in_default-kind
-ending-returns-in_default-kind t c = let A = c.in_ok-asked.ensures.at _ _ refl in
+ending-returns-in_default-kind t c = let A = got c.in_ok-asked.ensures in
     let k₁₃ = is_kind c.token.ensures c.in-Comma.is in
     is_no c.present.ensures (λ b r p. end_argued c.requires.0 k₁₃ _ A b r p ∙ end_unopened _ _ A.ready _ b r A.g (not_kind c.token-2.ensures c.in_default-kind.not-LBrace) p)
 
 pub ending-block-requires : goal.ending-block-requires
 ending-block-requires t c = let pre₀ = c.requires in
-    let A = c.in_ok-asked.ensures.at _ _ refl in
+    let A = got c.in_ok-asked.ensures in
     let R = A.ready in
     let o = A.on in let v₁ = A.few in let g = pre₀.0 in (omega arith, (R, omega arith, is_kind c.token-2.ensures c.in-LBrace.is))
 
 pub ending-returns-in_err-end : goal.ending-returns-in_err-end
 ending-returns-in_err-end t c =
-    passed _ _ c.from_residual-in_err-end.ensures.1 (end_block_no c.requires.0 (is_kind c.token.ensures c.in-Comma.is) _ (c.in_ok-asked.ensures.at _ _ refl) (is_kind c.token-2.ensures c.in-LBrace.is)
-    (c.in_err-end.ensures.no _ _ _ _ _ refl))
+    passed _ _ c.from_residual-in_err-end.ensures.1 (end_block_no c.requires.0 (is_kind c.token.ensures c.in-Comma.is) _ (got c.in_ok-asked.ensures) (is_kind c.token-2.ensures c.in-LBrace.is)
+    (not_got c.in_err-end.ensures))
 
 pub ending-end_before-to-requires : goal.ending-end_before-to-requires
-ending-end_before-to-requires t c = let B = c.in_ok-end.ensures.at _ _ refl in let q = B.on in (B.ready, omega arith)
+ending-end_before-to-requires t c = let B = got c.in_ok-end.ensures in let q = B.on in (B.ready, omega arith)
 
 pub ending-spanned-requires : goal.ending-spanned-requires
-ending-spanned-requires t c = let B = c.in_ok-end.ensures.at _ _ refl in let Z = B.ready in let v = B.few in omega arith
+ending-spanned-requires t c = let B = got c.in_ok-end.ensures in let Z = B.ready in let v = B.few in omega arith
 
 pub ending-follows-requires : goal.ending-follows-requires
-ending-follows-requires t c = (c.in_ok-end.ensures.at _ _ refl).ready
+ending-follows-requires t c = (got c.in_ok-end.ensures).ready
 
 pub ending-returns : goal.ending-returns
 ending-returns t c = let pre₀ = c.requires in
-    let A = c.in_ok-asked.ensures.at _ _ refl in
-    let X = c.in_ok-end.ensures.at _ _ refl in
+    let A = got c.in_ok-asked.ensures in
+    let X = got c.in_ok-end.ensures in
     let k₁₃ = is_kind c.token.ensures c.in-Comma.is in
     let k₇ = is_kind c.token-2.ensures c.in-LBrace.is in
     record {
@@ -185,33 +185,33 @@ ending-returns t c = let pre₀ = c.requires in
     }
 
 pub sentence-returns-in_err-place : goal.sentence-returns-in_err-place
-sentence-returns-in_err-place t c = passed _ _ c.from_residual.ensures.1 (λ b s p. c.in_err-place.ensures.no _ _ _ _ _ refl _ _ (turn_pattern _ b s _) p)
+sentence-returns-in_err-place t c = passed _ _ c.from_residual.ensures.1 (λ b s p. not_got c.in_err-place.ensures _ _ (turn_pattern _ b s _) p)
 
 pub sentence-loop-rows-init : goal.sentence-loop-rows-init
 unfolding size_c w_c
-sentence-loop-rows-init t c = let Q = c.in_ok-place.ensures.at _ _ refl in
+sentence-loop-rows-init t c = let Q = got c.in_ok-place.ensures in
     record { cs = c0; ready = Q.ready; joint = Q.joint; on = omega arith; few = Q.few; same = refl; rows = refl; count = omega arith; means = λ b s a f p. refl }
 
 pub sentence-condition-requires : goal.sentence-condition-requires
 sentence-condition-requires t c = let pre₀ = c.requires in
     let I = c.loop-rows.invariant in
-    let Q = c.in_ok-place.ensures.at _ _ refl in
+    let Q = got c.in_ok-place.ensures in
     let o = I.on in let q = Q.on in let R = I.ready in let g = pre₀.0 in (omega arith, (I.ready, I.few, is_kind c.token.ensures c.in-Comma.is))
 
 pub sentence-returns-in_err-place-2 : goal.sentence-returns-in_err-place-2
-sentence-returns-in_err-place-2 t c = let Q = c.in_ok-place.ensures.at _ _ refl in
-    passed _ _ c.from_residual-in_err-place-2.ensures.1 (condition_no _ Q c.loop-rows.invariant (c.in_err-place-2.ensures.no _ _ _ _ _ refl))
+sentence-returns-in_err-place-2 t c = let Q = got c.in_ok-place.ensures in
+    passed _ _ c.from_residual-in_err-place-2.ensures.1 (condition_no _ Q c.loop-rows.invariant (not_got c.in_err-place-2.ensures))
 
 pub sentence-loop-rows-smaller : goal.sentence-loop-rows-smaller
-sentence-loop-rows-smaller t c = let X = c.in_ok-place-2.ensures.at _ _ refl in let R = X.ready in let q = X.on in omega arith
+sentence-loop-rows-smaller t c = let X = got c.in_ok-place-2.ensures in let R = X.ready in let q = X.on in omega arith
 
 pub sentence-loop-rows-preserved : goal.sentence-loop-rows-preserved
-sentence-loop-rows-preserved t c = one_condition c.condition.auto.rows (c.in_ok-place-2.ensures.at _ _ refl) c.loop-rows.invariant
+sentence-loop-rows-preserved t c = one_condition c.condition.auto.rows (got c.in_ok-place-2.ensures) c.loop-rows.invariant
 
 pub sentence-ending-requires : goal.sentence-ending-requires
 sentence-ending-requires t c = let pre₀ = c.requires in
     let I = c.loop-rows.invariant in
-    let Q = c.in_ok-place.ensures.at _ _ refl in
+    let Q = got c.in_ok-place.ensures in
     let k₁₅ = I.joint (not_kind c.token.ensures c.in_default.not-Comma) in
     let o = I.on in
     let q = Q.on in
@@ -219,17 +219,17 @@ sentence-ending-requires t c = let pre₀ = c.requires in
     let v = I.few in let g = pre₀.0 in (omega arith, (ready_next _ _ I.ready (other _ _ _ k₁₅ refl), omega arith))
 
 pub sentence-returns-in_err-end : goal.sentence-returns-in_err-end
-sentence-returns-in_err-end t c = let Q = c.in_ok-place.ensures.at _ _ refl in
+sentence-returns-in_err-end t c = let Q = got c.in_ok-place.ensures in
     let I = c.loop-rows.invariant in
-    passed _ _ c.from_residual-in_err-end.ensures.1 (ending_no _ Q I (I.joint (not_kind c.token.ensures c.in_default.not-Comma)) (c.in_err-end.ensures.no _ _ _ _ _ refl))
+    passed _ _ c.from_residual-in_err-end.ensures.1 (ending_no _ Q I (I.joint (not_kind c.token.ensures c.in_default.not-Comma)) (not_got c.in_err-end.ensures))
 
 pub sentence-put_sentence-after-requires : goal.sentence-put_sentence-after-requires
 sentence-put_sentence-after-requires t c = let pre₀ = c.requires in
-    let N = c.in_ok-end.ensures.at _ _ refl in
+    let N = got c.in_ok-end.ensures in
     let R = N.ready in let o = N.on in let v = N.few in let h = pre₀.1 in let g = pre₀.0 in (g, R, omega arith, N.joint, omega arith, omega arith)
 
 pub sentence-returns : goal.sentence-returns
-sentence-returns t c = let Q = c.in_ok-place.ensures.at _ _ refl in
+sentence-returns t c = let Q = got c.in_ok-place.ensures in
     let I = c.loop-rows.invariant in
-    let N = c.in_ok-end.ensures.at _ _ refl in
+    let N = got c.in_ok-end.ensures in
     is_at refl (sentence_of_parts _ Q I (I.joint (not_kind c.token.ensures c.in_default.not-Comma)) N c.put_sentence-after.ensures.next c.put_sentence-after.ensures.put)

@@ -3,7 +3,7 @@ use Rattle.std.proofs.Common.{refl, ◌∙◌, ◌+◌, arith, get_or}
 use Rattle.refal_parser.proofs.TokenLaws.{ready_next, is_kind, not_kind}
 use Rattle.refal_ast.specs.Tree.{n_one, n_more, size_n, declaration as itemDeclaration}
 use Rattle.refal_parser.specs.Writers.{w_n}
-use Rattle.refal_parser.proofs.Steps.{is_at, is_no, passed, put_as, other, items_extern, named_comma, named_end, named_none}
+use Rattle.refal_parser.proofs.Steps.{got, not_got, is_at, is_no, passed, put_as, other, items_extern, named_comma, named_end, named_none}
 use Rattle.refal_parser.proofs.items.declaration.Goals as goal
 
 pub name-requires : goal.name-requires
@@ -15,14 +15,14 @@ returns-in_err-place c = let w = c.args.tokens.now in
     let at₀ = c.args.start.at in
     let pre₀ = c.requires in
     passed _ _ c.from_residual.ensures.1 (λ p. items_extern _ _ pre₀.0 pre₀.2 p
-    ∙ (c.in_err-place.ensures.no _ _ _ _ _ refl).first (get_or w (at₀ + 4) 0) p)
+    ∙ (not_got c.in_err-place.ensures).first (get_or w (at₀ + 4) 0) p)
 
 pub loop-place-init : goal.loop-place-init
 unfolding size_n w_n
 loop-place-init c = let w = c.args.tokens.now in
     let at₀ = c.args.start.at in
     let pre₀ = c.requires in
-    let F = c.in_ok-place.ensures.at _ _ refl in
+    let F = got c.in_ok-place.ensures in
     record {
       ns = n_one (get_or w (at₀ + 6 + 2) 0) (get_or w (at₀ + 6 + 3) 0);
       ready = F.ready;
@@ -43,10 +43,10 @@ returns-in_err-place-2 c = let a = get_or c.args.tokens.now (c.args.start.at + 4
     let I = c.loop-place.invariant in
     let k₁₃ = is_kind c.token.ensures c.in-Comma.is in
     passed _ _ c.from_residual-in_err-place-2.ensures.1 (λ p. I.means p ∙ named_comma _ _ I.ready a I.ns k₁₃ p
-    ∙ (c.in_err-place-2.ensures.no _ _ _ _ _ refl).more a I.ns p)
+    ∙ (not_got c.in_err-place-2.ensures).more a I.ns p)
 
 pub loop-place-smaller : goal.loop-place-smaller
-loop-place-smaller c = let X = c.in_ok-place-2.ensures.at _ _ refl in let R = X.ready in let q = X.next in omega arith
+loop-place-smaller c = let X = got c.in_ok-place-2.ensures in let R = X.ready in let q = X.next in omega arith
 
 pub loop-place-preserved : goal.loop-place-preserved
 unfolding size_n w_n
@@ -54,7 +54,7 @@ loop-place-preserved c = let w = c.args.tokens.now in
     let a₀ = get_or w (c.args.start.at + 4) 0 in
     let i₀ = c.loop-place.place.at in
     let I = c.loop-place.invariant in
-    let X = c.in_ok-place-2.ensures.at _ _ refl in
+    let X = got c.in_ok-place-2.ensures in
     let k₁₃ = is_kind c.token.ensures c.in-Comma.is in
     record {
       ns = n_more I.ns (get_or w (i₀ + 6 + 2) 0) (get_or w (i₀ + 6 + 3) 0);
@@ -78,7 +78,7 @@ returns c = let w = c.args.tokens.now in
     let at₀ = c.args.start.at in
     let i₀ = c.loop-place.place.at in
     let I = c.loop-place.invariant in
-    let F = c.in_ok-place.ensures.at _ _ refl in
+    let F = got c.in_ok-place.ensures in
     let L = c.token-last.ensures in
     let k₁₆ = is_kind L c.in-Semicolon.is in
     is_at refl (record {

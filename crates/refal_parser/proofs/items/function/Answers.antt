@@ -2,7 +2,7 @@
 use Rattle.std.proofs.Common.{refl, sym, ◌∙◌, arith}
 use Rattle.refal_parser.proofs.TokenLaws.{ready_next, is_kind, not_kind}
 use Rattle.refal_parser.specs.Machine.{body}
-use Rattle.refal_parser.proofs.Steps.{is_at, is_no, passed, put_as, other, head_open, head_none}
+use Rattle.refal_parser.proofs.Steps.{got, not_got, is_at, is_no, passed, put_as, other, head_open, head_none}
 use Rattle.refal_parser.specs.PostItems.{heading}
 use Rattle.refal_parser.proofs.Rows.{whole_function}
 use Rattle.refal_parser.proofs.items.function.Goals as goal
@@ -27,20 +27,20 @@ returns-in_err-end c = let w = c.args.tokens.now in
     let name₀ = c.args.name in
     let R = ready_next _ _ c.requires.1 (other _ _ _ c.requires.3 refl) in
     passed _ _ c.from_residual.ensures.1 (λ x p. head_open _ _ R (heading w at₀ name₀ x) (is_kind c.token.ensures c.in-LBrace.is) p
-    ∙ c.in_err-end.ensures.no _ _ _ _ _ refl (body (heading w at₀ name₀ x)) p)
+    ∙ not_got c.in_err-end.ensures (body (heading w at₀ name₀ x)) p)
 
 pub end_before-to-requires : goal.end_before-to-requires
-end_before-to-requires c = let B = c.in_ok-end.ensures.at _ _ refl in let q = B.on in (B.ready, omega arith)
+end_before-to-requires c = let B = got c.in_ok-end.ensures in let q = B.on in (B.ready, omega arith)
 
 pub function-requires : goal.function-requires
-function-requires c = let B = c.in_ok-end.ensures.at _ _ refl in let R = B.ready in let v = B.few in omega arith
+function-requires c = let B = got c.in_ok-end.ensures in let R = B.ready in let v = B.few in omega arith
 
 pub returns : goal.returns
 returns c = let w = c.args.tokens.now in
     let at₀ = c.args.place.at in
     let name₀ = c.args.name in
     let R = ready_next _ _ c.requires.1 (other _ _ _ c.requires.3 refl) in
-    let B = c.in_ok-end.ensures.at _ _ refl in
+    let B = got c.in_ok-end.ensures in
     let T = c.token-text.ensures in
     is_at refl (record {
       v = B.v;

@@ -4,7 +4,7 @@ use Rattle.refal_parser.proofs.TokenLaws.{ready_next, is_kind}
 use Rattle.refal_ast.specs.Tree.{p0, p_more, size_p}
 use Rattle.refal_parser.specs.Writers.{w_p}
 use Rattle.refal_parser.proofs.Rows.{more_items, size_items}
-use Rattle.refal_parser.proofs.Steps.{is_at, other, items_eof, items_pass}
+use Rattle.refal_parser.proofs.Steps.{got, is_at, other, items_eof, items_pass}
 use Rattle.refal_parser.proofs.items.program.Goals as goal
 
 pub loop-place-init : goal.loop-place-init
@@ -35,11 +35,11 @@ loop-place-preserved-in-Semicolon c = let I = c.loop-place.invariant in
     }
 
 pub loop-place-smaller : goal.loop-place-smaller
-loop-place-smaller c = let X = c.in_ok-place-in_default.ensures.at _ _ refl in let R = X.ready in let q = X.on in omega arith
+loop-place-smaller c = let X = got c.in_ok-place-in_default.ensures in let R = X.ready in let q = X.on in omega arith
 
 pub loop-place-preserved : goal.loop-place-preserved
 loop-place-preserved c = let I = c.loop-place.invariant in
-    let X = c.in_ok-place-in_default.ensures.at _ _ refl in
+    let X = got c.in_ok-place-in_default.ensures in
     record {
       t = p_more I.t X.x;
       ready = X.ready;

@@ -2,17 +2,17 @@
 use Rattle.std.proofs.Common.{refl, ℕ, arith}
 use Rattle.refal_ast.specs.Tree.{Terms}
 use Rattle.refal_parser.specs.Machine.{asked}
-use Rattle.refal_parser.proofs.Steps.{is_at, passed, put_as}
+use Rattle.refal_parser.proofs.Steps.{got, not_got, is_at, passed, put_as}
 use Rattle.refal_parser.proofs.terms.argument.Goals as goal
 
 pub returns-in_err-end : goal.returns-in_err-end
-returns-in_err-end c = passed _ _ c.from_residual.ensures.1 (λ x st asks p. c.in_err-end.ensures.no _ _ _ _ _ refl x (λ (f : Terms) (a e : ℕ). st (asked f a e)) asks p)
+returns-in_err-end c = passed _ _ c.from_residual.ensures.1 (λ x st asks p. not_got c.in_err-end.ensures x (λ (f : Terms) (a e : ℕ). st (asked f a e)) asks p)
 
 pub spanned-requires : goal.spanned-requires
-spanned-requires c = let U = c.in_ok-end.ensures.at _ _ refl in let R = U.closed.ready in let f = U.few in omega arith
+spanned-requires c = let U = got c.in_ok-end.ensures in let R = U.closed.ready in let f = U.few in omega arith
 
 pub returns : goal.returns
-returns c = let U = c.in_ok-end.ensures.at _ _ refl in
+returns c = let U = got c.in_ok-end.ensures in
     is_at refl (record {
       g = asked U.g U.closed.a U.closed.e;
       ready = U.closed.ready;

@@ -1,20 +1,20 @@
 -- `refal_parser::terms::clause` meets its contract: terms up to one of two kinds, with their row.
 use Rattle.std.proofs.Common.{refl, arith}
-use Rattle.refal_parser.proofs.Steps.{passed, put_as}
+use Rattle.refal_parser.proofs.Steps.{got, not_got, passed, put_as}
 use Rattle.refal_parser.proofs.TermLaws.{clause_of_terms, clause_no}
 use Rattle.refal_parser.proofs.terms.clause.Goals as goal
 
 pub returns-in_err-end : goal.returns-in_err-end
-returns-in_err-end c = passed _ _ c.from_residual.ensures.1 (λ q st h. c.in_err-end.ensures.no _ _ _ _ _ refl q)
+returns-in_err-end c = passed _ _ c.from_residual.ensures.1 (λ q st h. not_got c.in_err-end.ensures q)
 
 pub spanned-requires : goal.spanned-requires
-spanned-requires c = let T = c.in_ok-end.ensures.at _ _ refl in let R = T.ready in let f = T.few in omega arith
+spanned-requires c = let T = got c.in_ok-end.ensures in let R = T.ready in let f = T.few in omega arith
 
 pub follows-requires : goal.follows-requires
-follows-requires c = (c.in_ok-end.ensures.at _ _ refl).ready
+follows-requires c = (got c.in_ok-end.ensures).ready
 
 pub returns : goal.returns
-returns c = let T = c.in_ok-end.ensures.at _ _ refl in
+returns c = let T = got c.in_ok-end.ensures in
     record {
       at = λ j m e. clause_of_terms _ T (c.follows.ensures.at j m e) (let p = put_as _ _ _ c.put.ensures c.spanned.ensures in let h = T.rows in let k = T.count in cc);
       no = λ a b k d e u. clause_no _ T ((c.follows.ensures.no a b k d e u).of_terms refl);
