@@ -2,13 +2,14 @@
 use Rattle.std.specs.Prelude.{ℕ, ◌+◌, ◌≡◌, Bool, List, Option, Some, None}
 use Rattle.refal_files.specs.View.{row_of}
 use Rattle.refal_files.specs.declared.Files.{Files}
-use Rattle.refal_index.specs.Named.{with_row, answers_to, seen}
+use Rattle.refal_index.specs.Named.{with_row}
+use Rattle.refal_index.specs.View.{known_before}
 use Rattle.refal_index.specs.declared.index.Index.{Index}
 use Rattle.refal_index.specs.declared.Names.{Names}
 
 -- a row that is entered bears the name
 abbrev pub knows : Names → Bool → List ℕ → Bool
-knows names functions name = seen (λ i. answers_to functions name (row_of names.files i)) names.entered
+knows names functions name = known_before names.files functions name names.entered
 
 -- the words with row g entered, where there are any
 abbrev pub Gains : Option Index → Option Index → Files → ℕ → Type 0

@@ -5,10 +5,10 @@ use Rattle.std.proofs.Math.Nat.{ℕ_set}
 use Rattle.std.proofs.Common.{arith}
 use Rattle.refal_files.specs.Files.{Placed}
 use Rattle.refal_files.specs.FileLaws.{both_count}
-use Rattle.refal_files.specs.View.{row_of}
+use Rattle.refal_files.specs.View.{rows_of, row_of}
 use Rattle.refal_files.specs.declared.Files.{Files}
 use Rattle.refal_index.specs.Chain.{Falls, Chain, Chained, only}
-use Rattle.refal_index.specs.Named.{Sized, Holds, row_bucket, entered, with_row, enters}
+use Rattle.refal_index.specs.Named.{Sized, Holds, row_bucket, entered, with_row, answers_to, seen, enters}
 use Rattle.refal_index.specs.declared.Bearers.{Bearers}
 use Rattle.refal_index.specs.declared.Bearers.TheVariants as bearers
 use Rattle.refal_index.specs.declared.index.Index.{Index}
@@ -17,6 +17,10 @@ use Rattle.refal_index.specs.declared.index.Index.{Index}
 abbrev pub only_functions : Bearers → Bool
 only_functions bearers.Functions = true
 only_functions bearers.All = false
+
+-- a row before g bears the name
+abbrev pub known_before : Files → Bool → List ℕ → ℕ → Bool
+known_before f functions name g = seen (λ i. answers_to functions name (row_of f i)) g
 
 -- an index of the files' rows: the words hold those before g that bear names
 abbrev pub Indexes : Index → Files → ℕ → Type 0
@@ -60,7 +64,9 @@ indexes_if_prop None f g = Unit-prop
 indexes_if_prop (Some i) f g = ×_prop (sized_prop i.rows i.buckets f.one.tree.now f.two.tree.now) (holds_prop i.words.now i.rows i.buckets (row_of f) g)
 
 -- ---- the next row
-pub indexes_next : (i j : Index) (f : Files) (g : ℕ) → Indexes i f g → g < both_count f.one.tree.now f.two.tree.now → j.rows ≡ i.rows → j.buckets ≡ i.buckets → j.words.now ≡ with_row i.words.now i.rows i.buckets (row_of f) g → Indexes j f (g + 1)
+pub indexes_next : (i j : Index) (f : Files) (g : ℕ) → Indexes i f g → g < rows_of f → j.rows ≡ i.rows → j.buckets ≡ i.buckets → j.words.now ≡ with_row i.words.now i.rows i.buckets (row_of f) g → Indexes j f (g + 1)
 indexes_next i j f g h l r b w =
-    let S = h.0 in
-    (record { total = omega arith; few = omega arith; cut = omega arith }, rw (w, r, b) (enters i.words.now i.rows i.buckets (row_of f) g (omega arith) h.1))
+    let S = h.0 in (
+      record { total = omega arith; few = omega arith; cut = omega arith },
+      rw (w, r, b) (enters i.words.now i.rows i.buckets (row_of f) g (omega arith) h.1),
+    )

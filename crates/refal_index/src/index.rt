@@ -6,7 +6,8 @@ use crate::Bearers;
 use refal_ast::names::name_byte;
 use refal_files::Files;
 
-// The lent words: a link for each row, then the heads of buckets. 0 ends a chain, g + 1 goes on at row g.
+// The lent words: a link for each row, then the heads of buckets. There is no heap, so a bucket is a chain of row numbers: 0 ends
+// it, g + 1 goes on at row g.
 #[derive(Drop)]
 pub struct Index<'w> {
     words: &'w mut [u32],
@@ -20,8 +21,8 @@ impl<'w> Index<'w> {
     ghost use Rattle.refal_files.specs.Files.{Placed};
     ghost use Rattle.refal_files.specs.View.{rows_of, row_of};
     ghost use Rattle.refal_index.specs.Chain.{pushed};
-    ghost use Rattle.refal_index.specs.Named.{Holds, with_row, answers_to, seen};
-    ghost use Rattle.refal_index.specs.View.{only_functions, Indexes};
+    ghost use Rattle.refal_index.specs.Named.{Holds, with_row};
+    ghost use Rattle.refal_index.specs.View.{only_functions, known_before, Indexes};
 
     // An index of no row.
     pub fn new(words: &'w mut [u32], rows: usize, buckets: usize) -> Index<'w>
@@ -62,7 +63,7 @@ impl<'w> Index<'w> {
     // Whether a row that is in bears the name: only the rows of the name's bucket are looked at.
     pub fn find(&self, files: &Files, bearers: Bearers, name: &[u8]) -> bool
         requires { (g : ℕ) × Indexes self.now files.now g }
-        ensures { (g : ℕ) → Indexes self.now files.now g → result ≡ seen (λ i. answers_to (only_functions bearers) name.now (row_of files.now i)) g }
+        ensures { (g : ℕ) → Indexes self.now files.now g → result ≡ known_before files.now (only_functions bearers) name.now g }
     {
         let at = self.rows + bucket(name, self.buckets);
         let mut next = self.words[at] as usize;

@@ -64,7 +64,8 @@ impl<'w, 'a> Names<'w, 'a> {
 
     // Those of no row, over so many buckets. Where there is none, names are searched for.
     pub fn new(files: Files<'a>, words: &'w mut [u32], buckets: usize) -> Names<'w, 'a>
-        requires { (rows_of files < 4294967296) × (buckets < 4294967296) × (0 < buckets → rows_of files + buckets ≤ length words.old) }
+        requires words { (rows_of files < 4294967296) × (buckets < 4294967296) }
+        requires room { 0 < buckets → rows_of files + buckets ≤ length words.old }
         ensures { (result.files ≡ files.entry) × (result.entered ≡ 0) }
     {
         let index = match buckets {

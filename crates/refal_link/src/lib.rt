@@ -35,7 +35,7 @@ fn refusal_at(reason: Reason, which: answers::File, node: &Node) -> Refusal
     }
 }
 
-// Whether the next row is a function whose name an earlier one has.
+// The next row is refused if it is a function whose name an earlier one has.
 fn repeats(names: &Names) -> Result<(), Refusal>
     requires { names.now.entered < rows_of names.now.files }
     ensures { Tells result (is_repeated (row_of names.now.files) names.now.entered) (shown_at 60 (row_of names.now.files names.now.entered)) }
