@@ -6,21 +6,14 @@ ghost use Rattle.refal_lexer.specs.Classes.{name_byte};
 ghost use Rattle.refal_lexer.specs.Numbers.{number_scan};
 ghost use Rattle.refal_spelling.specs.Spells.{token_to, spells, spells_index};
 
-use refal_lexer::class::is_sign;
+use refal_lexer::class::{is_name, is_sign};
 use refal_lexer::number;
 
-// By the byte alone: the lexer's test goes by a table of classes that its caller lends.
-fn is_name_byte(b: u8) -> bool
-    ensures { result ≡ name_byte b }
-{
-    b.is_ascii_alphanumeric() || matches!(b, b'_' | b'-')
-}
-
 // Whether all bytes are bytes of names.
-fn is_name(word: &[u8]) -> bool
+fn all_names(word: &[u8]) -> bool
     ensures { result ≡ list_all name_byte word.now }
 {
-    word.iter().all(|b| is_name_byte(*b))
+    word.iter().all(|b| is_name(*b))
 }
 
 // An Identifier: A to Z, then bytes of names, 15 in all at most. So an index that A to Z begins.
@@ -35,7 +28,7 @@ pub fn is_identifier(word: &[u8]) -> bool
 pub fn is_index(word: &[u8]) -> bool
     ensures { result ≡ spells_index word.now }
 {
-    matches!(word.len(), 1..=15) && is_name(word)
+    matches!(word.len(), 1..=15) && all_names(word)
 }
 
 // A number whose digits start at `from`: behind a sign where that is 1. Its parts are those that reading scans.
