@@ -78,26 +78,20 @@ fn ending(tokens: &[u32], rows: &mut [u32], place: Place, left: usize) -> Result
     follows(tokens, end, false, TokenKind::RBrace, TokenKind::Semicolon)
 }
 
-// The row of the sentence that begins at `at`, of which all but its `;` ends before the word `end`; the word after the sentence.
-// A `}` there means that the `;` is left off.
-fn put_sentence(
-    tokens: &[u32],
-    rows: &mut [u32],
-    at: usize,
-    end: usize,
-    row: usize,
-    next: usize,
-) -> usize
-    requires { Ready tokens.now at × Ready tokens.now end × (1 ≤ end) × Joint tokens.now end tok_r_brace tok_semicolon × (row ≤ 1073741824) × (next ≤ 1073741824) }
-    ensures next { result ≡ sentence_end tokens.now end }
-    ensures put { rows.new ≡ sentence_put tokens.now rows.old at end row next }
+// The row of the sentence that begins at `start`, of which all but its `;` ends at `end`; where the sentence ends. A `}` there
+// means that the `;` is left off.
+fn put_sentence(tokens: &[u32], rows: &mut [u32], start: Place, end: Place) -> Place
+    requires { Ready tokens.now start.at × Ready tokens.now end.at × (1 ≤ end.at) × Joint tokens.now end.at tok_r_brace tok_semicolon × (start.row ≤ 1073741824) × (end.row ≤ 1073741824) }
+    ensures next { result.at ≡ sentence_end tokens.now end.at }
+    ensures row { result.row ≡ end.row }
+    ensures put { rows.new ≡ sentence_put tokens.now rows.old start.at end.at start.row end.row }
 {
-    let from = token(tokens, at).from;
-    let left_off = token(tokens, end).kind == TokenKind::RBrace;
-    let after = if left_off { end } else { end + WIDTH };
-    let to = end_before(tokens, after);
-    nodes::sentence(left_off, from, to, next).put(rows, row);
-    after
+    let from = token(tokens, start.at).from;
+    let left_off = token(tokens, end.at).kind == TokenKind::RBrace;
+    let at = if left_off { end.at } else { end.at + WIDTH };
+    let to = end_before(tokens, at);
+    nodes::sentence(left_off, from, to, end.row).put(rows, start.row);
+    Place { at, row: end.row }
 }
 
 // The sentence that begins at the place.
@@ -111,8 +105,10 @@ fn sentence(
     requires { Ready tokens.now start.at × Few start.row start.at 0 }
     ensures { SentencePost tokens.now rows.old rows.new start.at start.row left (got_told result) }
 {
-    let Place { at, row } = start;
-    let pattern = Place { at, row: row + 1 };
+    let pattern = Place {
+        at: start.at,
+        row: start.row + 1,
+    };
     let (also, want) = (TokenKind::Comma, TokenKind::Equals);
     let mut place = clause(tokens, rows, pattern, left, also, want)?;
     while let TokenKind::Comma = token(tokens, place.at).kind {
@@ -120,11 +116,7 @@ fn sentence(
     }
     place.at += WIDTH;
     let end = ending(tokens, rows, place, left)?;
-    let after = put_sentence(tokens, rows, at, end.at, row, end.row);
-    Ok(Place {
-        at: after,
-        row: end.row,
-    })
+    Ok(put_sentence(tokens, rows, start, end))
 }
 
 // The sentences in the block whose `{` is at the place, with its `}`; this block's level is among those left.

@@ -1,6 +1,7 @@
 -- `condition`, `ending`, `sentence` and `block` of refal_parser::block meet their contracts: conditions, sentences and blocks as the machine reads them; the falling number is the depth left with the tokens left.
-use Rattle.std.proofs.Common.{refl, ◌∙◌, ℕ, arith}
+use Rattle.std.proofs.Common.{refl, ap, ◌∙◌, ℕ, arith}
 use Rattle.refal_ast.specs.Tree.{c0, s0, b_all, size_c, size_s}
+use Rattle.refal_parser.specs.Got.{At}
 use Rattle.refal_parser.specs.Machine.{between}
 use Rattle.refal_parser.specs.Writers.{w_c, w_s}
 use Rattle.refal_parser.proofs.TokenLaws.{ready_next, is_kind, not_kind}
@@ -223,8 +224,8 @@ sentence-returns-in_err-end t c = let Q = got c.in_ok-place.ensures in
     let I = c.loop-rows.invariant in
     passed _ _ c.from_residual-in_err-end.ensures.1 (ending_no _ Q I (I.joint (not_kind c.token.ensures c.in_default.not-Comma)) (not_got c.in_err-end.ensures))
 
-pub sentence-put_sentence-after-requires : goal.sentence-put_sentence-after-requires
-sentence-put_sentence-after-requires t c = let pre₀ = c.requires in
+pub sentence-put_sentence-requires : goal.sentence-put_sentence-requires
+sentence-put_sentence-requires t c = let pre₀ = c.requires in
     let N = got c.in_ok-end.ensures in
     let R = N.ready in let o = N.on in let v = N.few in let h = pre₀.1 in let g = pre₀.0 in (g, R, omega arith, N.joint, omega arith, omega arith)
 
@@ -232,4 +233,5 @@ pub sentence-returns : goal.sentence-returns
 sentence-returns t c = let Q = got c.in_ok-place.ensures in
     let I = c.loop-rows.invariant in
     let N = got c.in_ok-end.ensures in
-    is_at refl (sentence_of_parts _ Q I (I.joint (not_kind c.token.ensures c.in_default.not-Comma)) N c.put_sentence-after.ensures.next c.put_sentence-after.ensures.put)
+    let S = c.put_sentence.ensures in
+    is_at (ap (λ (m : ℕ). At c.put_sentence.result.at m) S.row) (sentence_of_parts _ Q I (I.joint (not_kind c.token.ensures c.in_default.not-Comma)) N S.next S.put)

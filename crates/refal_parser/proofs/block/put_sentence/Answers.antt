@@ -8,8 +8,8 @@ use Rattle.refal_parser.proofs.block.put_sentence.Goals as goal
 
 pub end_before-to-requires : goal.end_before-to-requires
 end_before-to-requires c = elim c.if-left_off.branch [
-  | then-left_off w ↦ rw w.after-is (c.requires.1, omega arith)
+  | then-left_off w ↦ rw w.at-is (c.requires.1, omega arith)
   | else-left_off w ↦
       let k₁₆ = c.requires.3 (not_kind {k = kind.RBrace} c.token.ensures (other_kind (sym w.if-left_off.false ∙ c.eq-left_off.ensures))) in
-      rw w.after-is (ready_next _ _ c.requires.1 (other _ _ _ k₁₆ refl), omega arith)
+      rw w.at-is (ready_next _ _ c.requires.1 (other _ _ _ k₁₆ refl), omega arith)
 ]
