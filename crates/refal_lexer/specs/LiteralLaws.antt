@@ -1,5 +1,5 @@
 -- Laws of literals: the ways out of their loops.
-use Rattle.std.specs.Prelude.{ℕ, zero, suc, ◌+◌, ◌<◌, ◌≤◌, List, [], ◌∷◌, Bool, true, false, ◌≡◌, refl, ltb, eqb, length, drop, get_or, Option, Some, None, IfSome, unwrap_or}
+use Rattle.std.specs.Prelude.{ℕ, zero, suc, ◌+◌, ◌<◌, ◌≤◌, List, [], ◌∷◌, Bool, true, false, ◌≡◌, refl, ltb, eqb, length, drop, get_or}
 use Rattle.std.proofs.Common.{eq-eqb, ne_eqb, lt-ltb, eqb-true, add-one, arith, ap, ◌∙◌, subst, drop_of_length-le, length-drop, drop-cons, drop-drop}
 use Rattle.std.proofs.lemmas.Bool.{eqb-false}
 use Rattle.std.proofs.Math.Nat.{add-zero}
@@ -70,9 +70,8 @@ module _ (q : ℕ) (s : List ℕ) (i : ℕ) (h : i < length s) where
       go false g = sym (char_is ∙ simp (eq-eqb _ _ e, ← f, g))
 
   -- another byte: the character there, or a byte that is none
-  pub char_other : (get_or s i 0 ≡ q → ⊥) → (o : Option Char) → char_told o ≡ decode (drop i s) → IfSome o (λ c. 1 ≤ c.len) → unwrap_or o (char 0 1) ≡ lit_char q (drop i s)
-  char_other e None f h = (char_byte e ill f refl).0
-  char_other e (Some c) f h = (char_whole e c f (λ z. omega arith)).0
+  pub char_else : (get_or s i 0 ≡ q → ⊥) → some (decode (drop i s)) ≡ lit_char q (drop i s)
+  char_else e = sym (char_is ∙ simp (ne_eqb _ _ e))
 
 pub lit_skip : (q k i n : ℕ) (s : List ℕ) → k ≤ length s → lit_from q k i n s ≡ lit_from q 0 (i + k) n (drop k s)
 unfolding lit_from

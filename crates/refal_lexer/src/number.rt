@@ -104,6 +104,8 @@ pub fn power(src: &[u8], at: usize) -> Result<usize, Bare>
 }
 
 // The number whose digits start at `from`: 1 behind a sign, else 0.
+// Inlined: its answer would go through memory.
+#[inline(always)]
 pub fn number(src: &[u8], at: usize, from: usize) -> Result<Token, Fault>
     requires { (from ≤ length src.now) × (at + length src.now ≤ 16777216) }
     ensures { scan_told result ≡ number_scan at from src.now }

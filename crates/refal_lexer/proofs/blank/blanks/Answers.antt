@@ -1,5 +1,5 @@
 -- `refal_lexer::blank::blanks` meets its contract.
-use Rattle.std.proofs.Common.{◌+◌, refl, ap, ◌∙◌}
+use Rattle.std.proofs.Common.{◌+◌, ap, ◌∙◌}
 use Rattle.refal_lexer.specs.Carried.{blanks_from}
 use Rattle.refal_lexer.specs.BlankLaws.{rest_is}
 use Rattle.refal_lexer.specs.SpaceLaws.{front_on, front_none}
