@@ -1,4 +1,5 @@
-// Terms, brackets and calls; and what follows terms.
+// Terms, brackets and calls; and what follows terms. Tokens, rows and the levels left are passed beside the place: of a struct that
+// held them, each contract would have to say that its tokens and levels stay.
 ghost use Rattle.std.specs.Prelude.{◌≡◌, ◌≤◌};
 ghost use Rattle.refal_ast.specs.KindCodes.{token_code};
 ghost use Rattle.refal_parser.specs.Begins.{term_told, Bracket, Call};
