@@ -21,12 +21,6 @@ pub fn byte(src: &[u8], i: usize) -> u8
     src.get(i).copied().unwrap_or(0)
 }
 
-pub fn wide(b: u8) -> u32
-    ensures { result ≡ b }
-{
-    u32::from(b)
-}
-
 // How many one bits a lead byte begins with.
 pub fn lead(a: u8) -> u32
     ensures { result ≡ leads a }
@@ -157,28 +151,6 @@ pub fn ill_formed(src: &[u8]) -> Option<usize>
         }
     }
     None
-}
-
-// The same three for callers that take a character of length 0, or the end, for none.
-const NONE: Char = Char { code: 0, len: 0 };
-
-pub fn char_at(src: &[u8], at: usize) -> Char
-    ensures { result ≡ decode (drop at src.now) }
-{
-    decode(src, at).unwrap_or(NONE)
-}
-
-pub fn two_at(a: u8, b: u8) -> Char
-    requires { 192 ≤ a }
-    ensures { result ≡ two a b }
-{
-    two(a, b).unwrap_or(NONE)
-}
-
-pub fn first_ill(src: &[u8]) -> usize
-    ensures { (result ≡ well_to 0 src.now) × (result ≤ length src.now) }
-{
-    ill_formed(src).unwrap_or(src.len())
 }
 
 // Whether a code point has the property White_Space.
