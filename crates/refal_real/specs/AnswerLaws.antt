@@ -1,13 +1,26 @@
 -- Laws of what is answered of a text, and of two.
-use Rattle.std.specs.Prelude.{ℕ, suc, ℤ, pos, negsuc, int_lt, unsigned_abs, Bool, true, false, ◌&&◌, List, [], ◌∷◌, ◌≡◌, refl, eqb}
+use Rattle.std.specs.Prelude.{ℕ, suc, ℤ, pos, negsuc, int_lt, unsigned_abs, Bool, true, false, ◌&&◌, List, [], ◌∷◌, ◌≡◌, refl, eqb, leb, length}
 use Rattle.std.specs.Bool.{beq, Decides}
 use Rattle.std.specs.Str.{bytes_eq}
 use Rattle.std.proofs.Common.{true≢false, ap, ap₂, sym, subst, ◌∙◌, arith, le-ltb, eq-eqb, ne_eqb, int_eq}
 use Rattle.std.proofs.lemmas.Bool.Decides.{Decides-int_eq}
+use Rattle.refal_text.specs.Pick.{pick}
 use Rattle.refal_ast.specs.Names.{same_list}
-use Rattle.refal_real.specs.Real.{Outcome, has_form, same_outcome}
+use Rattle.refal_ast.specs.declared.Refusal.{Refusal}
+use Rattle.refal_ast.specs.declared.Answer.{Answer}
+use Rattle.refal_ast.specs.declared.Answer.TheVariants.{Done, Refused}
+use Rattle.refal_real.specs.Real.{Outcome, has_form, is_refused, answer_of, words_of, no_words, form_words, same_outcome}
 use Rattle.refal_real.specs.Told.{digits_told, form_told}
 use Rattle.refal_real.specs.declared.Form.{Form as Code}
+
+-- ---- the words of a form that is refused
+pub refused_words : (o : Outcome) (m : ℕ) (r : Refusal) → Refused r ≡ answer_of o m → no_words ≡ words_of o m
+refused_words (is_refused x) m r e = refl
+refused_words (has_form f) m r e = go (leb (length f.digits) m) _ _ e
+  where
+    go : (x : Bool) (n : ℕ) (a : Answer) → Refused r ≡ pick x (Done n) a → no_words ≡ pick x (form_words f) no_words
+    go true n a q = let z : ◌≡◌ {A = ℕ} 0 1 = cc in absurd (omega arith)
+    go false n a q = refl
 
 -- ---- the comparison
 same_bytes : (s t : List ℕ) → bytes_eq s t ≡ same_list s t
