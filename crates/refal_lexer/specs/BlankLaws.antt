@@ -1,8 +1,7 @@
 -- Laws of white space, comments and blanks: the ways out of their loops.
 use mir.Val.{bool_byte}
 use Prim.Native.Nat.{ℕ, suc, ◌+◌, ◌<◌, ◌≤◌, zero, ◌-◌}
-use Rattle.std.proofs.Common.{eqb-true, lt-ltb, add-zero, arith, true≢false, ap, ◌∙◌, sym, ap₂, subst, drop_of_length-le, length-drop, drop-cons, drop-drop, take_all}
-use Rattle.refal_rows.specs.Tests.{and_right}
+use Rattle.std.proofs.Common.{lt-ltb, add-zero, arith, true≢false, ap, ◌∙◌, sym, ap₂, subst, drop_of_length-le, length-drop, drop-cons, drop-drop, take_all}
 use Rattle.std.proofs.Math.Decide.{dec_le}
 use Rattle.std.proofs.Math.Numerals.{add-one}
 use mathlib.Core.List.{List, [], ◌∷◌}
@@ -12,17 +11,16 @@ use Rattle.std.proofs.Math.ListN.{drop, get_or, get_or-eq_default}
 use Rattle.refal_text.specs.Pick.{pick, split}
 use Rattle.refal_text.specs.Utf8.{decode}
 use Rattle.refal_text.specs.White.{white_space}
-use Rattle.refal_text.specs.Utf8Laws.{step_in, decode_ascii}
+use Rattle.refal_text.specs.Utf8Laws.{decode_ascii}
 use Rattle.refal_text.specs.declared.Char.{Char}
 use Rattle.refal_lexer.specs.Blanks.{white_len, on_white, close_to, comment_at}
-use Rattle.refal_text.specs.Span.{span}
 use Rattle.refal_text.specs.SpanLaws.{span_le}
 use Rattle.refal_lexer.specs.Classes.{not_newline, blank}
 use Rattle.refal_lexer.specs.ClassLaws.{blank_white}
 use Rattle.refal_lexer.specs.Carried.{line_after, place, whites, stop_at, go_on, blanks_from}
 use Rattle.refal_lexer.specs.LineLaws.{white_in}
 use Rattle.refal_lexer.specs.declared.blank.Place.{Place}
-use Rattle.refal_lexer.specs.Scans.{Comment, Long, Bare, Blank, Past, Open}
+use Rattle.refal_lexer.specs.Scans.{Comment, Long, Bare, Blank, Past}
 
 -- a byte that is not 0 is there
 pub nonzero_in : (s : List ℕ) (i : ℕ) → (get_or s i 0 ≡ 0 → ⊥) → i < length s
@@ -154,25 +152,8 @@ past_white zero at line (b ∷ s) h = go (white_len (b ∷ s)) refl (λ k l. pas
         record { on = omega arith; same = p.same ∙ ap (λ (n : ℕ). blanks_from 0 w.at w.line (drop n (b ∷ s))) z; stop = ap (λ (n : ℕ). white_len (drop n (b ∷ s))) (sym z) ∙ p.stop }
 
 -- ---- the ways out of `white_len`: c is the character at the front
-pub len_white : (s : List ℕ) (c : Char) → 0 < length s → c ≡ decode (drop 0 s) → white_space c.code ≡ true → (c.len ≡ white_len s) × (c.len ≤ length s)
-len_white s c h e w = let d = step_in s 0 c h e in (sym (ap (λ (x : Char). pick (white_space x.code) x.len 0) (sym e) ∙ rw w refl), omega arith)
-
 pub len_none : (s : List ℕ) (c : Char) → c ≡ decode (drop 0 s) → white_space c.code ≡ false → (0 ≡ white_len s) × (0 ≤ length s)
 len_none s c e w = (sym (ap (λ (x : Char). pick (white_space x.code) x.len 0) (sym e) ∙ rw w refl), omega arith)
-
--- ---- the ways out of `comment_at`
-module _ (line : Bool) (s : List ℕ) where
-  pub comment_star : (n : ℕ) → eqb (get_or s 0 0) 42 && line ≡ true → n ≡ 1 + span not_newline (drop 1 s) → Long n ≡ comment_at line s
-  comment_star n e f = rw (e, f) refl
-
-  pub comment_slash : (x : ℕ) (r : Comment) → eqb (get_or s 0 0) 42 && line ≡ false → x ≡ get_or s 1 0 → eqb (get_or s 0 0) 47 && eqb x 42 ≡ true → r ≡ close_to false 2 (drop 2 s) → r ≡ comment_at line s
-  comment_slash x r e i f g = g ∙ sym (rw (e, ← i, f) refl)
-
-  pub comment_none : (x : ℕ) → eqb (get_or s 0 0) 42 && line ≡ false → x ≡ get_or s 1 0 → eqb (get_or s 0 0) 47 && eqb x 42 ≡ false → Bare false ≡ comment_at line s
-  comment_none x e i f = sym (rw (e, ← i, f) refl)
-
-  pub slash_in : (x : ℕ) → x ≡ get_or s 1 0 → eqb (get_or s 0 0) 47 && eqb x 42 ≡ true → 2 ≤ length s
-  slash_in x i f = let e : x ≡ 42 = eqb-true x 42 (and_right (eqb (get_or s 0 0) 47) (eqb x 42) f) in let l = nonzero_in s 1 (λ z. absurd (omega arith)) in omega arith
 
 -- ---- the ways out of `blanks`, at i, where no white space stands
 module _ (s : List ℕ) (at i : ℕ) (l : Bool) (h : i < length s) (w : white_len (drop i s) ≡ 0) where
@@ -209,12 +190,6 @@ pub blanks_end : (s : List ℕ) (at i : ℕ) (l : Bool) → length s ≤ i → P
 unfolding blanks_from
 blanks_end s at i l h = rw (drop_of_length-le s h)
 
-pub stop_open : (c : Comment) (t : Bool) (at : ℕ) (line : Bool) (end : ℕ) → c ≡ Bare t → t ≡ true → Open at end ≡ stop_at c at line end
-stop_open c t at line end e f = sym (ap (λ (x : Comment). stop_at x at line end) (e ∙ ap Bare f))
-
-pub stop_none : (c : Comment) (t : Bool) (at : ℕ) (line : Bool) (end : ℕ) → c ≡ Bare t → t ≡ false → Past at line ≡ stop_at c at line end
-stop_none c t at line end e f = sym (ap (λ (x : Comment). stop_at x at line end) (e ∙ ap Bare f))
-
 -- ---- the turns of `blanks`
 abbrev pub Turn : List ℕ → ℕ → Bool → ℕ → Bool → Type 0
 Turn s at line i l = (i ≤ length s) × (blanks_from 0 (at + i) l (drop i s) ≡ blanks_from 0 at line s) × (white_len (drop i s) ≡ 0)
@@ -240,17 +215,6 @@ next_turn s at line i n l w I h c m e hi =
       ap (λ (x : ℕ). blanks_from 0 x w.line (drop (w.at - at) s)) z ∙ ap (blanks_from 0 w.at w.line) (sym d) ∙ sym p.same ∙ sym (blanks_on s at i l h I.2 n c) ∙ I.1,
       ap white_len (sym d) ∙ p.stop,
     )
-
--- the comment that the code found in the part from i on
-pub comment_fits : (s : List ℕ) (i : ℕ) (l : Bool) (c : Comment) (n : ℕ) → i < length s → c ≡ comment_at l (take (length s - i) (drop i s)) → c ≡ Long n
-    → (comment_at l (drop i s) ≡ Long n) × (1 ≤ n) × (i + n ≤ length s)
-comment_fits s i l c n h e f =
-    let d = length-drop i s in
-    let g : comment_at l (drop i s) ≡ Long n = ap (comment_at l) (sym (rest_is i s)) ∙ sym e ∙ f in
-    let m = comment_in l (drop i s) n (omega arith) g in
-    let lo = m.0 in
-    let hi = m.1 in
-    (g, omega arith, omega arith)
 
 -- a byte below 128
 module _ (s : List ℕ) (h : 0 < length s) (l : get_or s 0 0 < 128) where

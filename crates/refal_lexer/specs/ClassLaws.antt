@@ -1,5 +1,5 @@
 -- Laws of classes: what a class says of its byte, and the tests that the table answers.
-use Rattle.std.specs.Prelude.{ℕ, zero, suc, ◌<◌, ◌≤◌, List, Bool, true, false, not, ◌&&◌, ◌||◌, ◌≡◌, refl, length, get_or, T, leb, ltb, eqb}
+use Rattle.std.specs.Prelude.{ℕ, zero, suc, ◌<◌, ◌≤◌, Bool, true, false, not, ◌&&◌, ◌||◌, ◌≡◌, refl, T, leb, ltb, eqb}
 use Rattle.std.proofs.Common.{le-leb, ne_eqb, eqb-true, arith, true≢false, ◌∙◌, sym, subst}
 use Rattle.std.proofs.lemmas.Bool.{lt-leb}
 use Rattle.std.proofs.Math.Decide.{dec_le}
@@ -112,11 +112,6 @@ pub blank_class : (b : ℕ) → blank b ≡ true → class_of b ≡ 2
 blank_class b h =
     let l = blank_low b h in
     simp (lt-leb 128 b l, h)
-
--- a table of the classes of all bytes
-pub record Table (t : List ℕ) : Type 0 where
-  pub long : length t ≡ 256
-  pub rule : (b : ℕ) → b < 256 → get_or t b 0 ≡ class_of b
 
 -- the class of quotes
 pub quote_class : (b : ℕ) → eqb (class_of b) c_quote ≡ true → eqb b 39 || eqb b 34 ≡ true

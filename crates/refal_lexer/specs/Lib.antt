@@ -1,6 +1,6 @@
 -- Definitions: Classes, Stars, Scans, Blanks, Words, Numbers, Literals, Tokens, Lex, Source, Read.
 -- The form that the code follows, with a flag carried along, and what its functions answer: Carried, Steps, Puts, Told.
--- Laws of each scan: ClassLaws, BlankLaws, SpaceLaws, WordLaws, NumberLaws, LiteralLaws, ScanLaws, PlaceLaws. Laws of reading: TurnCases, LexLaws, TurnLaws, ReadLaws.
+-- Laws of each scan: ClassLaws, BlankLaws, SpaceLaws, WordLaws, NumberLaws, LiteralLaws, PlaceLaws. Laws of reading: TurnCases, LexLaws, TurnLaws, ReadLaws.
 -- That the flag is 01's rule for stars: LineLaws, StarLaws. Telling cases of that rule: StarCases.
 -- Telling cases of the sign after a number's `E`: ExponentCases.
 -- What tokens are: ShapeLaws, TokenLaws. Where they stand: OrderLaws; on character boundaries: Boundaries, BoundaryLaws, EndLaws, ReadBoundaries.
@@ -25,7 +25,6 @@ pub mod SpaceLaws
 pub mod WordLaws
 pub mod NumberLaws
 pub mod LiteralLaws
-pub mod ScanLaws
 pub mod PlaceLaws
 pub mod TurnCases
 pub mod LexLaws

@@ -1,7 +1,6 @@
 -- Laws of literals: the ways out of their loops.
 use Rattle.std.specs.Prelude.{ℕ, zero, suc, ◌+◌, ◌<◌, ◌≤◌, List, [], ◌∷◌, Bool, true, false, ◌≡◌, refl, ltb, eqb, length, drop, get_or}
-use Rattle.std.proofs.Common.{eq-eqb, ne_eqb, lt-ltb, eqb-true, add-one, arith, ap, ◌∙◌, subst, drop_of_length-le, length-drop, drop-cons, drop-drop}
-use Rattle.std.proofs.lemmas.Bool.{eqb-false}
+use Rattle.std.proofs.Common.{eq-eqb, ne_eqb, lt-ltb, add-one, arith, ap, ◌∙◌, subst, drop_of_length-le, length-drop, drop-cons, drop-drop}
 use Rattle.std.proofs.Math.Nat.{add-zero}
 use Rattle.std.proofs.Math.Path.{sym}
 use Rattle.std.proofs.Math.Seq.{get_or-drop}
@@ -12,14 +11,13 @@ use Rattle.refal_text.specs.Utf8.{decode, char, ill}
 use Rattle.refal_text.specs.Utf8Laws.{decode_in, decode_ascii}
 use Rattle.refal_text.specs.declared.Char.{Char}
 use Rattle.refal_ast.specs.Tokens.{Token as Tok, token, words}
-use Rattle.refal_lexer.specs.BlankLaws.{nonzero_in}
 use Rattle.refal_lexer.specs.Literals.{some, lit_char, lit_step, lit_from, char_step, char_tokens, Lit, closed, newline, unclosed}
 use Rattle.refal_lexer.specs.Puts.{put_tokens}
 use Rattle.refal_rows.specs.Rows.{put_row}
 use Rattle.refal_lexer.specs.Tokens.{found, refused, literal_of}
 use Rattle.refal_lexer.specs.declared.Cursor.{Cursor}
 use Rattle.refal_lexer.specs.Scans.{On, Stop}
-use Rattle.refal_lexer.specs.Steps.{cursor, step_of, rows_of, end_of}
+use Rattle.refal_lexer.specs.Steps.{cursor, step_of, end_of}
 
 -- ---- the character at a place
 decode_low : (s : List ℕ) (at : ℕ) → at < length s → get_or s at 0 < 128 → decode (drop at s) ≡ char (get_or s at 0) 1
@@ -30,32 +28,10 @@ module _ (q : ℕ) (s : List ℕ) (i : ℕ) (h : i < length s) where
   unfolding lit_char
   char_is = rw (get_or-drop i s 0 0, get_or-drop i s 1 0, add-zero i)
 
-  pub char_double : 0 < q → (w : ℕ) → w ≡ get_or s i 0 → get_or s i 0 ≡ q → (x : ℕ) → x ≡ get_or s (i + 1) 0 → x ≡ q → (char w 2 ≡ lit_char q (drop i s)) × (i + 2 ≤ length s)
-  char_double p w v e x f g =
-      let y : get_or s (i + 1) 0 ≡ q = sym f ∙ g in
-      let l : i + 1 < length s = nonzero_in s (i + 1) (λ z. omega arith) in
-      (ap (λ (a : ℕ). char a 2) (v ∙ e) ∙ sym (char_is ∙ simp (eq-eqb _ _ e, eq-eqb _ _ y)), omega arith)
-
-  pub char_close : get_or s i 0 ≡ q → (x : ℕ) → x ≡ get_or s (i + 1) 0 → (x ≡ q → ⊥) → (ill ≡ lit_char q (drop i s)) × (i + 0 ≤ length s)
-  char_close e x f g = (sym (char_is ∙ simp (eq-eqb _ _ e, ne_eqb _ _ (λ y. g (f ∙ y)))), omega arith)
-
-  char_byte : (get_or s i 0 ≡ q → ⊥) → (c : Char) → c ≡ decode (drop i s) → c.len ≡ 0 → (char 0 1 ≡ lit_char q (drop i s)) × (i + 1 ≤ length s)
-  char_byte e c f g =
-      let y : (decode (drop i s)).len ≡ 0 = ap (λ (x : Char). x.len) (sym f) ∙ g in
-      (sym (char_is ∙ simp (ne_eqb _ _ e, eq-eqb _ _ y)), omega arith)
-
   char_whole : (get_or s i 0 ≡ q → ⊥) → (c : Char) → c ≡ decode (drop i s) → (c.len ≡ 0 → ⊥) → (c ≡ lit_char q (drop i s)) × (i + c.len ≤ length s)
   char_whole e c f g =
       let y : (decode (drop i s)).len ≡ c.len = ap (λ (x : Char). x.len) (sym f) in
       (f ∙ sym (char_is ∙ simp (ne_eqb _ _ e, y, ne_eqb _ _ g)), subst (λ (x : Char). i + x.len ≤ length s) (sym f) (decode_in s i h))
-
-  -- the character, or a byte that is none
-  pub char_some : (get_or s i 0 ≡ q → ⊥) → (c r : Char) → c ≡ decode (drop i s) → r ≡ some c → (r ≡ lit_char q (drop i s)) × (i + r.len ≤ length s)
-  char_some e c r f g = subst (λ (x : Char). (x ≡ lit_char q (drop i s)) × (i + x.len ≤ length s)) (sym g) (go (eqb c.len 0) refl)
-    where
-      go : (t : Bool) → eqb c.len 0 ≡ t → (pick t (char 0 1) c ≡ lit_char q (drop i s)) × (i + (pick t (char 0 1) c).len ≤ length s)
-      go true z = char_byte e c f (eqb-true c.len 0 z)
-      go false z = char_whole e c f (eqb-false c.len 0 z)
 
   -- a byte below 128 is the character
   pub char_low : (get_or s i 0 ≡ q → ⊥) → get_or s i 0 < 128 → (w : ℕ) → w ≡ get_or s i 0 → (char w 1 ≡ lit_char q (drop i s)) × (i + 1 ≤ length s)
@@ -168,30 +144,6 @@ module _ (at row q : ℕ) (s : List ℕ) where
       go true u = refl
       go false true = refl
       go false false = let c = (lit_closed q at (at + len) 0 1 0 n len (drop 1 s) e).count in let z : length (char_tokens q at (at + len) 0 (drop 1 s)) ≡ n = omega arith in rw z refl
-
-  -- a refusal leaves the words
-  pub lit_stop : (l : Lit) (rows : List ℕ) (number start end : ℕ) → end_of at row l ≡ Stop number start end → rows ≡ rows_of (literal_of at q (drop 1 s) l) rows row
-  lit_stop (newline len) rows number start end e = refl
-  lit_stop (unclosed len) rows number start end e = refl
-  lit_stop (closed n len) rows number start end e = go (ltb 255 n) (eqb n 0) e
-    where
-      go : (t u : Bool) → pick t (Stop 20 at (at + len)) (pick u (Stop 21 at (at + len)) (On (cursor (at + len) (row + n) false))) ≡ Stop number start end
-          → rows ≡ rows_of (pick t (refused 20 at (at + len)) (pick u (refused 21 at (at + len)) (found (char_tokens q at (at + len) 0 (drop 1 s)) (at + len)))) rows row
-      go true u f = refl
-      go false true f = refl
-      go false false f = let z : ◌≡◌ {A = ℕ} 0 1 = cc in absurd (omega arith)
-
-  -- what it puts down
-  pub lit_puts : (l : Lit) (rows rows' : List ℕ) (c : Cursor) → end_of at row l ≡ On c → rows' ≡ put_tokens rows row (char_tokens q at c.at 0 (drop 1 s)) → rows' ≡ rows_of (literal_of at q (drop 1 s) l) rows row
-  lit_puts (newline len) rows rows' c e f = let z : ◌≡◌ {A = ℕ} 0 1 = cc in absurd (omega arith)
-  lit_puts (unclosed len) rows rows' c e f = let z : ◌≡◌ {A = ℕ} 0 1 = cc in absurd (omega arith)
-  lit_puts (closed n len) rows rows' c e f = go (ltb 255 n) (eqb n 0) e
-    where
-      go : (t u : Bool) → pick t (Stop 20 at (at + len)) (pick u (Stop 21 at (at + len)) (On (cursor (at + len) (row + n) false))) ≡ On c
-          → rows' ≡ rows_of (pick t (refused 20 at (at + len)) (pick u (refused 21 at (at + len)) (found (char_tokens q at (at + len) 0 (drop 1 s)) (at + len)))) rows row
-      go true u g = let z : ◌≡◌ {A = ℕ} 0 1 = cc in absurd (omega arith)
-      go false true g = let z : ◌≡◌ {A = ℕ} 0 1 = cc in absurd (omega arith)
-      go false false g = let x : cursor (at + len) (row + n) false ≡ c = cc in f ∙ ap (λ (y : Cursor). put_tokens rows row (char_tokens q at y.at 0 (drop 1 s))) (sym x)
 
   -- where it goes on: within the source
   pub lit_in : (l : Lit) (c : Cursor) → L ≡ l → end_of at row l ≡ On c → 0 < length s → c.at ≤ at + length s

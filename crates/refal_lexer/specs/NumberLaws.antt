@@ -50,15 +50,6 @@ worth_value v (b ∷ s) = go (digit b) (dec_le v 4294967295) (worth_value (v * 1
         let k : 4294967295 < value (v * 10 + (b - 48)) s = omega arith in
         rw (lt-leb _ _ h, worth_stays v s h, lt-leb _ _ h) (sym (lt-leb _ _ k))
 
-pub worth_end : (v : ℕ) (s : List ℕ) (i : ℕ) → length s ≤ i → worth v (drop i s) ≡ v
-worth_end v s i h = rw (drop_of_length-le s h)
-
-pub worth_stop : (v : ℕ) (s : List ℕ) (i : ℕ) → i < length s → digit (get_or s i 0) ≡ false → worth v (drop i s) ≡ v
-worth_stop v s i h e = rw (drop-cons s i 0, e)
-
-pub worth_step : (v : ℕ) (s : List ℕ) (i : ℕ) → i < length s → digit (get_or s i 0) ≡ true → worth (digit_step v (get_or s i 0)) (drop (i + 1) s) ≡ worth v (drop i s)
-worth_step v s i h e = rw (drop-cons s i 0 h, e, add-one i)
-
 -- a number, where it is 4294967295 at most
 abbrev pub fit : ℕ → Option ℕ
 fit v = pick (leb v 4294967295) (Some v) None

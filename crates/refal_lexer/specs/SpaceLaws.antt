@@ -1,5 +1,5 @@
 -- The front of blanks: one space or none, and then a byte with which neither white space nor a comment begins, or the blanks from there on.
-use Rattle.std.specs.Prelude.{ℕ, suc, ◌+◌, ◌<◌, ◌≤◌, Bool, true, false, not, ◌&&◌, ◌||◌, List, [], ◌∷◌, ◌≡◌, refl, T, eqb, length, drop, get_or}
+use Rattle.std.specs.Prelude.{ℕ, suc, ◌+◌, ◌<◌, ◌≤◌, Bool, true, false, not, ◌&&◌, ◌||◌, List, [], ◌∷◌, ◌≡◌, refl, T, eqb, drop, get_or}
 use Rattle.std.proofs.Math.Decide.{dec_le}
 use Rattle.std.proofs.Common.{add-zero, add-one, arith, eqb-true, le-leb, true≢false, ap, ap₂, sym, ◌∙◌, get_or-drop}
 use Rattle.std.proofs.lemmas.Bool.{not-true}
@@ -23,13 +23,6 @@ space_len s = pick (eqb (get_or s 0 0) 32) 1 0
 -- the flag behind n spaces, one or none, at `at`
 abbrev pub line_behind : ℕ → ℕ → Bool → Bool
 line_behind n at line = line && (eqb n 0 || not (eqb at 0))
-
-pub space_one : (s : List ℕ) → get_or s 0 0 ≡ 32 → (1 ≡ space_len s) × (1 ≤ length s)
-space_one [] e = absurd (omega arith)
-space_one (b ∷ s) e = (sym (rw e refl), omega arith)
-
-pub space_none : (s : List ℕ) → eqb (get_or s 0 0) 32 ≡ false → (0 ≡ space_len s) × (0 ≤ length s)
-space_none s e = (sym (rw e refl), omega arith)
 
 space_on : (at : ℕ) (line : Bool) (s : List ℕ) → blanks_from 0 (at + space_len s) (line_behind (space_len s) at line) (drop (space_len s) s) ≡ blanks_from 0 at line s
 unfolding blanks_from

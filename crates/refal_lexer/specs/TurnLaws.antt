@@ -1,21 +1,18 @@
 -- Laws of the loop: blanks lead to tokens, a refusal or the end.
 use Rattle.std.specs.Prelude.{ℕ, zero, suc, ◌+◌, ◌-◌, ◌<◌, ◌≤◌, Bool, true, false, List, [], ◌∷◌, ◌≡◌, refl, length, take, drop, get_or}
-use Rattle.std.proofs.Common.{add-zero, arith, eq-eqb, ne_eqb, ap, ap₂, sym, subst, ◌∙◌, length-drop, drop_of_length-le, drop-cons, drop-drop}
-use Rattle.refal_rows.specs.Rows.{put_row}
-use Rattle.refal_ast.specs.Tokens.{token, words}
+use Rattle.std.proofs.Common.{add-zero, arith, ap, ap₂, sym, subst, ◌∙◌, length-drop, drop_of_length-le, drop-cons, drop-drop}
 use Rattle.refal_ast.specs.declared.Answer.{Answer}
-use Rattle.refal_lexer.specs.Classes.{class_of}
 use Rattle.refal_lexer.specs.Carried.{line_after, stop_at, go_on, blanks_from, lex_by}
 use Rattle.refal_lexer.specs.Blanks.{white_len, comment_at, on_white, on_comment}
 use Rattle.refal_lexer.specs.Lex.{Out, more_all, stop_bad, eof_at, stop_answer}
 use Rattle.refal_lexer.specs.LineLaws.{white_in}
 use Rattle.refal_lexer.specs.Puts.{put_tokens}
 use Rattle.refal_lexer.specs.LexLaws.{Leads, leads_rows, leads_bad}
-use Rattle.refal_lexer.specs.Scans.{Comment, Long, Bare, Blank, Past, Open, Scan, Token, Bad, Step, On, Stop}
+use Rattle.refal_lexer.specs.Scans.{Comment, Long, Bare, Blank, Past, Open, On, Stop}
 use Rattle.refal_lexer.specs.declared.Cursor.{Cursor}
-use Rattle.refal_lexer.specs.Tokens.{class_scan, Found, found, refused, one, literal_at, token_at}
+use Rattle.refal_lexer.specs.Tokens.{Found, found, refused, token_at}
 use Rattle.refal_lexer.specs.Source.{on_found}
-use Rattle.refal_lexer.specs.Steps.{cursor, step_of, rows_of, answer_of, stop_of}
+use Rattle.refal_lexer.specs.Steps.{cursor, step_of, rows_of, answer_of}
 use Rattle.refal_lexer.specs.BlankLaws.{comment_in, rest_is}
 use Rattle.refal_lexer.specs.PlaceLaws.{FoundIn, found_in}
 
@@ -149,25 +146,3 @@ module _ (s : List ℕ) (p row : ℕ) (F : Found) (h : p < length s) (e : F ≡ 
           let x : stop_bad number' start' end' ≡ stop_bad number start end = cc in
           let k = leads_bad _ o₀ m m₀ row number start end a b (j ∙ x) L in
           (k.0, g ∙ k.1)
-
--- ---- the ways out of `put_next`: k is the first byte's class
-module _ (s : List ℕ) (at k row : ℕ) (e : k ≡ class_of (get_or s 0 0)) where
-  pub quote_is : k ≡ 3 → literal_at at s ≡ token_at at s
-  quote_is z = sym (rw (← e, eq-eqb _ _ z) refl)
-
-  pub other_is : (k ≡ 3 → ⊥) → one (class_scan k at s) ≡ token_at at s
-  other_is z = sym (rw (← e, ne_eqb _ _ z) refl)
-
-  -- one token, or a refusal: T
-  pub put_stop : (T : Scan) (r : Step) (rows : List ℕ) (number start end : ℕ) → (k ≡ 3 → ⊥) → T ≡ class_scan k at s → T ≡ Bad number start end → r ≡ stop_of T row
-      → (r ≡ step_of (token_at at s) row) × (rows ≡ rows_of (token_at at s) rows row)
-  put_stop T r rows number start end z f g b =
-      let x : one T ≡ token_at at s = ap one f ∙ other_is z in
-      (b ∙ ap (λ (y : Found). step_of y row) x, sym (ap (λ (y : Found). rows_of y rows row) (sym x ∙ ap one g)))
-
-  pub put_one : (T : Scan) (r : Step) (rows rows' : List ℕ) (kind detail text len start end : ℕ) → (k ≡ 3 → ⊥) → T ≡ class_scan k at s → T ≡ Token kind detail text len start end
-      → r ≡ On (cursor end (row + 1) false) → rows' ≡ put_row 6 rows row (words (token kind detail text len start end))
-      → (r ≡ step_of (token_at at s) row) × (rows' ≡ rows_of (token_at at s) rows row)
-  put_one T r rows rows' kind detail text len start end z f g a b =
-      let x : one (Token kind detail text len start end) ≡ token_at at s = ap one (sym g ∙ f) ∙ other_is z in
-      (a ∙ ap (λ (y : Found). step_of y row) x, b ∙ ap (λ (y : Found). rows_of y rows row) x)
