@@ -17,7 +17,7 @@ use Rattle.refal_rows.specs.Rows.{put_row}
 use Rattle.refal_lexer.specs.Tokens.{found, refused, literal_of}
 use Rattle.refal_lexer.specs.declared.Cursor.{Cursor}
 use Rattle.refal_lexer.specs.Scans.{On, Stop}
-use Rattle.refal_lexer.specs.Steps.{cursor, step_of, end_of}
+use Rattle.refal_lexer.specs.Steps.{cursor, step_of, rows_of, end_of}
 
 -- ---- the character at a place
 decode_low : (s : List ℕ) (at : ℕ) → at < length s → get_or s at 0 < 128 → decode (drop at s) ≡ char (get_or s at 0) 1
@@ -144,6 +144,18 @@ module _ (at row q : ℕ) (s : List ℕ) where
       go true u = refl
       go false true = refl
       go false false = let c = (lit_closed q at (at + len) 0 1 0 n len (drop 1 s) e).count in let z : length (char_tokens q at (at + len) 0 (drop 1 s)) ≡ n = omega arith in rw z refl
+
+  -- a refusal leaves the words
+  pub lit_stop : (l : Lit) (rows : List ℕ) (number start end : ℕ) → end_of at row l ≡ Stop number start end → rows ≡ rows_of (literal_of at q (drop 1 s) l) rows row
+  lit_stop (newline len) rows number start end e = refl
+  lit_stop (unclosed len) rows number start end e = refl
+  lit_stop (closed n len) rows number start end e = go (ltb 255 n) (eqb n 0) e
+    where
+      go : (t u : Bool) → pick t (Stop 20 at (at + len)) (pick u (Stop 21 at (at + len)) (On (cursor (at + len) (row + n) false))) ≡ Stop number start end
+          → rows ≡ rows_of (pick t (refused 20 at (at + len)) (pick u (refused 21 at (at + len)) (found (char_tokens q at (at + len) 0 (drop 1 s)) (at + len)))) rows row
+      go true u f = refl
+      go false true f = refl
+      go false false f = let z : ◌≡◌ {A = ℕ} 0 1 = cc in absurd (omega arith)
 
   -- where it goes on: within the source
   pub lit_in : (l : Lit) (c : Cursor) → L ≡ l → end_of at row l ≡ On c → 0 < length s → c.at ≤ at + length s
