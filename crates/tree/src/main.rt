@@ -2,96 +2,51 @@
 // detail, span start, span end, next. A refusal is written as `refused`, its number and its span.
 #![tactic(auto)]
 
-ghost use Rattle.std.specs.Prelude.{◌≤◌, length, IfOk};
-ghost use Rattle.refal_ast.specs.Nodes.{HasRow};
+ghost use Rattle.std.specs.Prelude.{◌*◌, ◌≤◌, length, IfOk};
+ghost use Rattle.refal_ast.specs.Nodes.{node_width};
 
 use refal_ast::answers::{Reason, Refusal};
-use refal_ast::nodes;
+use refal_ast::nodes::WIDTH as NODE_WIDTH;
+use refal_ast::tokens::WIDTH as TOKEN_WIDTH;
 use std::io;
 use std::io::Read;
 
-fn wide(x: u32) -> u64 {
-    x as u64
-}
+const MOST_BYTES: usize = 2048;
 
-// A number and the byte after it.
-fn put(rt: &impl Print, n: u64, after: char) -> io::Result<()> {
-    print!(rt; "{n}{after}")
-}
+// A token for each byte, and Eof; a node for each byte.
+const TOKEN_WORDS: usize = (MOST_BYTES + 1) * TOKEN_WIDTH;
 
-// Row i: row, kind, detail, span start, span end, next.
-fn put_row(rt: &impl Print, rows: &[u32], i: usize) -> io::Result<()>
-    requires { HasRow rows.now i }
+const NODE_WORDS: usize = MOST_BYTES * NODE_WIDTH;
+
+// Puts the rows of the source's tree into `rows`, and answers how many they are.
+fn tree(source: &[u8], rows: &mut [u32]) -> Result<usize, Refusal>
+    ensures { IfOk result (λ n. node_width * n ≤ length rows.old) }
 {
-    put(rt, i as u64, ' ')?;
-    put(rt, wide(nodes::kind(rows, i)), ' ')?;
-    put(rt, wide(nodes::detail(rows, i)), ' ')?;
-    put(rt, wide(nodes::span_from(rows, i)), ' ')?;
-    put(rt, wide(nodes::span_to(rows, i)), ' ')?;
-    put(rt, nodes::next(rows, i) as u64, '\n')
+    if source.len() > MOST_BYTES {
+        return Err(Refusal::from(Reason::SourceTooLong));
+    }
+    let mut words = [0u32; TOKEN_WORDS];
+    let n = refal_lexer::read(source, &mut words)?;
+    refal_parser::parse(&words[..TOKEN_WIDTH * n], rows)
 }
 
+// Each row: its number, and of its words all but the text.
 fn put_rows(rt: &impl Print, rows: &[u32]) -> io::Result<()> {
-    let n = rows.len() / nodes::WIDTH;
-    let mut i = 0;
-    while i < n {
-        put_row(rt, rows, i)?;
-        i += 1;
+    let (rows, _) = rows.as_chunks::<NODE_WIDTH>();
+    for (i, [kind, detail, _, _, from, to, next]) in rows.iter().enumerate() {
+        println!(rt; "{i} {kind} {detail} {from} {to} {next}")?;
     }
     Ok(())
 }
 
-fn put_tree(rt: &impl Print, tokens: &[u32]) -> io::Result<()> {
-    let mut rows = [0u32; 14336];
-    match refal_parser::parse(tokens, &mut rows) {
-        Err(refusal) => println!(rt; "{refusal}"),
-        Ok(n) => {
-            if n <= 2048 {
-                let end = nodes::WIDTH * n;
-                put_rows(rt, &rows[..end])
-            } else {
-                Ok(())
-            }
-        }
-    }
-}
-
-fn put_source(rt: &impl Print, source: &[u8]) -> io::Result<()> {
-    let mut tokens = [0u32; 12294];
-    match refal_lexer::read(source, &mut tokens) {
-        Err(refusal) => println!(rt; "{refusal}"),
-        Ok(n) => {
-            if n <= 2049 {
-                let end = 6 * n;
-                put_tree(rt, &tokens[..end])
-            } else {
-                Ok(())
-            }
-        }
-    }
-}
-
-// The bytes that there are, as many as fit, and how many they are.
-fn read_full(reader: &mut impl Read, buf: &mut [u8]) -> io::Result<usize>
-    ensures { IfOk result (λ n. n ≤ length buf.old) }
-{
-    let mut n = 0;
-    while n < buf.len() {
-        let more = reader.read(&mut buf[n..])?;
-        if more == 0 {
-            return Ok(n);
-        }
-        n += more;
-    }
-    Ok(n)
-}
-
 fn main(rt: HostRuntime) -> io::Result<()> {
-    let mut source = [0u8; 2049];
-    let n = read_full(&mut rt.reader(), &mut source)?;
-    if n > 2048 {
-        let refusal = Refusal::from(Reason::SourceTooLong);
-        return println!(rt; "{refusal}");
+    let mut source = Vec::new(rt.alloc());
+    rt.reader()
+        .take(MOST_BYTES as u64 + 1)
+        .read_to_end(&mut source)?;
+    let mut rows = [0u32; NODE_WORDS];
+    match tree(&source, &mut rows) {
+        Ok(n) => put_rows(&rt, &rows[..NODE_WIDTH * n]),
+        Err(refusal) => println!(&rt; "{refusal}"),
     }
-    put_source(&rt, &source[..n])
 }

@@ -1,9 +1,0 @@
--- `tree::read_full` ends: each turn adds bytes, and there is room for so many.
-use Rattle.std.proofs.Common.{◌-◌, ◌≤◌, length}
-use Rattle.tree.proofs.read_full.Given as goal
-
-abbrev pub invariant-loop-n : goal.invariant-loop-n
-invariant-loop-n g l = l.n ≤ length l.initial.buf
-
-abbrev pub decreases-loop-n : goal.decreases-loop-n
-decreases-loop-n g l = length l.initial.buf - l.n
