@@ -1,7 +1,6 @@
 -- An answer as the seven words that C and Rust see.
 use Rattle.std.specs.Prelude.{ℕ, List, [], ◌∷◌}
-use Rattle.refal_ast.specs.declared.Answer.{Answer}
-use Rattle.refal_ast.specs.declared.Answer.TheVariants.{Done, Refused}
+use Rattle.refal_ast.specs.Answers.{Answer, Done, Refused}
 
 -- refusal number (0: done), count, expected, found, span start, span end, need
 abbrev pub answer_words : Answer → List ℕ

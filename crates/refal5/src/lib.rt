@@ -13,30 +13,11 @@ ghost use Rattle.refal_real.specs.Real.{real_answer, real_digits, real_form};
 ghost use Rattle.refal_ast.specs.Told.{told};
 ghost use Rattle.refal5.specs.Words.{answer_words};
 
-use refal_ast::Answer;
 use refal_ast::answers::Refusal;
 use refal_link::{File, Files};
 
 // An answer's seven words.
-fn words(a: Answer) -> [u64; 7]
-    ensures { result ≡ answer_words a }
-{
-    match a {
-        Answer::Done(n) => [0, n as u64, 0, 0, 0, 0, 0],
-        Answer::Refused(r) => [
-            r.number as u64,
-            0,
-            r.expected as u64,
-            r.found as u64,
-            r.start as u64,
-            r.end as u64,
-            r.need as u64,
-        ],
-    }
-}
-
-// The seven words of a count or a refusal.
-fn words_of(answer: Result<usize, Refusal>) -> [u64; 7]
+fn words(answer: Result<usize, Refusal>) -> [u64; 7]
     ensures { result ≡ answer_words (told answer) }
 {
     match answer {
@@ -58,7 +39,7 @@ pub fn refal5_canonical_name(name: &[u8], out: &mut [u8], answer: &mut [u64; 7])
     ensures told { answer.new ≡ answer_words (form_answer (canonical_name name.now) out.old) }
     ensures left { out.new ≡ form_bytes (canonical_name name.now) out.old }
 {
-    *answer = words_of(refal_ast::names::canonical_identifier(name, out));
+    *answer = words(refal_ast::names::canonical_identifier(name, out));
 }
 
 // The canonical form of a variable's index.
@@ -66,7 +47,7 @@ pub fn refal5_canonical_index(name: &[u8], out: &mut [u8], answer: &mut [u64; 7]
     ensures told { answer.new ≡ answer_words (form_answer (canonical_index name.now) out.old) }
     ensures left { out.new ≡ form_bytes (canonical_index name.now) out.old }
 {
-    *answer = words_of(refal_ast::names::canonical_variable_index(name, out));
+    *answer = words(refal_ast::names::canonical_variable_index(name, out));
 }
 
 // Whether two names are equal.
@@ -81,7 +62,7 @@ pub fn refal5_read(src: &[u8], rows: &mut [u32], answer: &mut [u64; 7])
     ensures told { answer.new ≡ answer_words (read_answer src.now (length rows.old)) }
     ensures left { rows.new ≡ read_rows src.now rows.old }
 {
-    *answer = words_of(refal_lexer::read(src, rows));
+    *answer = words(refal_lexer::read(src, rows));
 }
 
 // Parsing: the rows of the tokens' tree.
@@ -89,7 +70,7 @@ pub fn refal5_parse(tokens: &[u32], rows: &mut [u32], answer: &mut [u64; 7])
     ensures told { answer.new ≡ answer_words (parse_answer tokens.now rows.old) }
     ensures left { rows.new ≡ parse_rows tokens.now rows.old }
 {
-    *answer = words_of(refal_parser::parse(tokens, rows));
+    *answer = words(refal_parser::parse(tokens, rows));
 }
 
 // Writing: the text of the tree's tokens, each as spelled in its source, then one space.
@@ -97,7 +78,7 @@ pub fn refal5_write(tree: &[u32], src: &[u8], out: &mut [u8], answer: &mut [u64;
     ensures told { answer.new ≡ answer_words (write_answer tree.now src.now out.old) }
     ensures left { out.new ≡ write_bytes tree.now src.now out.old }
 {
-    *answer = words_of(refal_writer::write(tree, src, out));
+    *answer = words(refal_writer::write(tree, src, out));
 }
 
 // Linking: how many calls the two files have, each of which names a function or a declared name of either.
@@ -122,7 +103,7 @@ pub fn refal5_link<'a>(
             source: src2,
         },
     };
-    *answer = words_of(refal_link::link(&files, work));
+    *answer = words(refal_link::link(&files, work));
 }
 
 // The normal form of a real's text: its digits, and in `form` its sign (0 plus, 1 minus), its power's sign (0 for zero or plus, 1
@@ -132,5 +113,5 @@ pub fn refal5_real(text: &[u8], digits: &mut [u8], form: &mut [u64; 3], answer: 
     ensures left { digits.new ≡ real_digits text.now digits.old }
     ensures formed { form.new ≡ real_form text.now (length digits.old) }
 {
-    *answer = words_of(refal_real::normal_form(text, digits, form));
+    *answer = words(refal_real::normal_form(text, digits, form));
 }

@@ -1,10 +1,7 @@
 -- What the code's answers tell, in the numbers of documents 01 and 02.
 use Rattle.std.specs.Prelude.{ℕ, Result, Ok, Err, Option, Some, None}
 use Rattle.refal_ast.specs.KindCodes.{token_code}
-use Rattle.refal_ast.specs.Answers.{refusal}
-use Rattle.refal_ast.specs.declared.Refusal.{Refusal}
-use Rattle.refal_ast.specs.declared.Answer.{Answer}
-use Rattle.refal_ast.specs.declared.Answer.TheVariants.{Done, Refused}
+use Rattle.refal_ast.specs.Answers.{refusal, Refusal, Answer, Done, Refused}
 use Rattle.refal_ast.specs.declared.kinds.TokenKind.{TokenKind}
 use Rattle.refal_ast.specs.declared.answers.Reason.{Reason}
 use Rattle.refal_ast.specs.declared.answers.Reason.TheVariants as reason

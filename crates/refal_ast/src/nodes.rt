@@ -3,9 +3,9 @@ ghost use Rattle.std.specs.Prelude.{◌≡◌, ◌≤◌, ◌<◌};
 ghost use Rattle.refal_rows.specs.Rows.{put_row};
 ghost use Rattle.refal_ast.specs.KindCodes.{node_code};
 ghost use Rattle.refal_ast.specs.Rows.{node_told, ReadsNode};
-ghost use Rattle.refal_ast.specs.Nodes.{has_text, node_words, node_width, HasRow, word_at, col_kind, col_detail, col_start, col_len, col_from, col_to, col_next};
+ghost use Rattle.refal_ast.specs.Nodes.{has_text, node_words, node_width, HasRow, word_at, col_start, col_len};
 
-use crate::kinds::{NodeKind, UnknownKind, node};
+use crate::kinds::{NodeKind, UnknownKind};
 
 // How many words a row has.
 pub const WIDTH: usize = 7;
@@ -93,42 +93,15 @@ impl NodeKind {
     }
 }
 
-// Whether rows of the kind use their text.
-pub fn has_text(kind: u32) -> bool
-    ensures { result ≡ has_text kind }
-{
-    let named = ((kind == node::NAME) | (kind == node::FUNCTION)) | (kind == node::IDENTIFIER);
-    ((named | (kind == node::NUMBER)) | (kind == node::VARIABLE)) | (kind == node::CALL)
-}
-
-fn wide(x: u32) -> usize
-    ensures { result ≡ x }
-{
-    x as usize
-}
-
+// The word of row i in a column.
 fn word(tree: &[u32], i: usize, column: usize) -> u32
     requires { HasRow tree.now i × (column < node_width) }
     ensures { result ≡ word_at tree.now i column }
 {
-    let at = WIDTH * i;
-    tree[at + column]
+    tree[WIDTH * i + column]
 }
 
-pub fn kind(tree: &[u32], i: usize) -> u32
-    requires { HasRow tree.now i }
-    ensures { result ≡ word_at tree.now i col_kind }
-{
-    word(tree, i, KIND)
-}
-
-pub fn detail(tree: &[u32], i: usize) -> u32
-    requires { HasRow tree.now i }
-    ensures { result ≡ word_at tree.now i col_detail }
-{
-    word(tree, i, DETAIL)
-}
-
+// Where the text of row i starts, and its length, whatever the row's kind.
 pub fn text_start(tree: &[u32], i: usize) -> u32
     requires { HasRow tree.now i }
     ensures { result ≡ word_at tree.now i col_start }
@@ -141,26 +114,4 @@ pub fn text_len(tree: &[u32], i: usize) -> u32
     ensures { result ≡ word_at tree.now i col_len }
 {
     word(tree, i, LEN)
-}
-
-pub fn span_from(tree: &[u32], i: usize) -> u32
-    requires { HasRow tree.now i }
-    ensures { result ≡ word_at tree.now i col_from }
-{
-    word(tree, i, FROM)
-}
-
-pub fn span_to(tree: &[u32], i: usize) -> u32
-    requires { HasRow tree.now i }
-    ensures { result ≡ word_at tree.now i col_to }
-{
-    word(tree, i, TO)
-}
-
-// The row after the subtree of row i.
-pub fn next(tree: &[u32], i: usize) -> usize
-    requires { HasRow tree.now i }
-    ensures { result ≡ word_at tree.now i col_next }
-{
-    wide(word(tree, i, NEXT))
 }

@@ -9,14 +9,13 @@ use lib.Seq.{take_at}
 use borrow.Author.Tests.{leb-true, le-leb}
 use Rattle.refal_rows.specs.Rows.{pick_list}
 use Rattle.refal_ast.specs.Kinds.{tok_eof}
-use Rattle.refal_ast.specs.Answers.{refusal, pick_answer}
+use Rattle.refal_ast.specs.Answers.{refusal, pick_answer, Done, Refused}
 use Rattle.refal_ast.specs.Tokens.{Token, tokens_of}
 use Rattle.refal_ast.specs.Check.{well_formed}
 use Rattle.refal_ast.specs.Tree.{Program, size_p, depth_p}
 use Rattle.refal_ast.specs.Nodes.{node_width}
 use Rattle.refal_ast.specs.Encode.{enc_p}
 use Rattle.refal_ast.specs.Flatten.{Flat, mark, flat_of, flats_of, Loose}
-use Rattle.refal_ast.specs.declared.Answer.TheVariants.{Done, Refused}
 use Rattle.refal_ast.specs.Limits.{most_levels}
 use Rattle.refal_parser.specs.Machine.{Outcome, tree, refuse}
 use Rattle.refal_parser.specs.Parse.{parsed, fits, answer_of, rows_left, parse_answer}

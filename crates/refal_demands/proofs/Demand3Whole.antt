@@ -9,11 +9,8 @@ use lib.ListN.{length, take, drop}
 use lib.Seq.{take_at}
 use borrow.Author.Tests.{leb-true}
 use Rattle.refal_rows.specs.Tests.{and_right}
-use Rattle.refal_ast.specs.Answers.{pick_answer}
+use Rattle.refal_ast.specs.Answers.{pick_answer, Answer, Refusal, Done, Refused}
 use Rattle.refal_ast.specs.Flatten.{flatten_p}
-use Rattle.refal_ast.specs.declared.Answer.{Answer}
-use Rattle.refal_ast.specs.declared.Refusal.{Refusal}
-use Rattle.refal_ast.specs.declared.Answer.TheVariants.{Done, Refused}
 use Rattle.refal_ast.specs.Limits.{most_levels}
 use Rattle.refal_tree.specs.Lawful.{tree_of, tree_of_lem, lawful}
 use Rattle.refal_spelling.specs.Answered.{answered}

@@ -7,14 +7,13 @@ use native.Mathlib.Omega.{arith}
 use lib.ListN.{length, length-append}
 use borrow.Author.Tests.{le-leb}
 use Rattle.refal_ast.specs.Kinds.{tok_eof}
-use Rattle.refal_ast.specs.Answers.{refusal, pick_answer}
+use Rattle.refal_ast.specs.Answers.{refusal, pick_answer, Done, Refused}
 use Rattle.refal_ast.specs.Tokens.{Token, flat, tokens_of, tokens_flat}
 use Rattle.refal_ast.specs.Check.{well_formed}
 use Rattle.refal_ast.specs.Nodes.{node_width}
 use Rattle.refal_ast.specs.Encode.{enc_p}
 use Rattle.refal_ast.specs.Tree.{Program, size_p, depth_p}
 use Rattle.refal_ast.specs.Flatten.{Flat, mark, flat_of, flats_of, flatten_p, Loose}
-use Rattle.refal_ast.specs.declared.Answer.TheVariants.{Done, Refused}
 use Rattle.refal_lexer.specs.Lex.{Out}
 use Rattle.refal_lexer.specs.Source.{source}
 use Rattle.refal_lexer.specs.StarLaws.{source_is}

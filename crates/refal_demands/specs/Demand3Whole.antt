@@ -3,8 +3,7 @@
 use Rattle.std.specs.Prelude.{◌≡◌, ℕ, ◌*◌, true, List, ◌↔◌, length, take}
 use Rattle.refal_ast.specs.Check.{well_formed}
 use Rattle.refal_ast.specs.Nodes.{node_width}
-use Rattle.refal_ast.specs.declared.Refusal.{Refusal}
-use Rattle.refal_ast.specs.declared.Answer.TheVariants.{Done, Refused}
+use Rattle.refal_ast.specs.Answers.{Refusal, Done, Refused}
 use Rattle.refal_parser.specs.Parse.{parse_answer}
 use Rattle.refal_writer.specs.Write.{write_answer, write_bytes}
 use Rattle.refal_demands.specs.Spans.{SameButSpans}

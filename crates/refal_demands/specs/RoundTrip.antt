@@ -2,7 +2,7 @@
 use Rattle.std.specs.Prelude.{◌≡◌, ℕ, ◌*◌, ◌≤◌, List, length, take}
 use Rattle.refal_ast.specs.Nodes.{node_width}
 use Rattle.refal_ast.specs.Flatten.{flatten_p}
-use Rattle.refal_ast.specs.declared.Answer.TheVariants.{Done}
+use Rattle.refal_ast.specs.Answers.{Done}
 use Rattle.refal_lexer.specs.Source.{source}
 use Rattle.refal_lexer.specs.Read.{read_answer, read_rows}
 use Rattle.refal_parser.specs.Parse.{parse_answer}

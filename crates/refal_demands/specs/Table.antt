@@ -2,10 +2,8 @@
 use Rattle.std.specs.Prelude.{◌≡◌, ℕ, ◌+◌, List, [], ◌∷◌, ◌++◌, length, replicate}
 use Rattle.refal_ast.specs.Kinds.{tok_entry, tok_identifier, tok_variable, tok_number, tok_char, tok_l_brace, tok_r_brace, tok_comma, tok_colon, tok_equals, tok_semicolon, tok_eof}
 use Rattle.refal_ast.specs.Kinds.{node_function, node_sentence, node_condition, node_terms, node_condition_block, node_identifier}
-use Rattle.refal_ast.specs.Answers.{refusal}
+use Rattle.refal_ast.specs.Answers.{refusal, Answer, Done, Refused}
 use Rattle.refal_ast.specs.Nodes.{node}
-use Rattle.refal_ast.specs.declared.Answer.{Answer}
-use Rattle.refal_ast.specs.declared.Answer.TheVariants.{Done, Refused}
 use Rattle.refal_lexer.specs.Read.{read_answer, read_rows}
 use Rattle.refal_parser.specs.Parse.{parse_answer, parse_rows}
 use Rattle.refal_writer.specs.Write.{write_answer, write_bytes}

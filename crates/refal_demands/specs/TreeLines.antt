@@ -2,11 +2,8 @@
 -- end and next; or `refused`, number, span start, span end. Numbers are in decimal, parted by spaces.
 use Rattle.std.specs.Prelude.{ℕ, suc, zero, ◌+◌, ◌*◌, ◌/◌, ◌%◌, List, [], ◌∷◌, ◌++◌, leb, length, take, replicate}
 use Rattle.refal_rows.specs.Rows.{pick_list}
-use Rattle.refal_ast.specs.Answers.{refusal}
+use Rattle.refal_ast.specs.Answers.{refusal, Refusal, Answer, Done, Refused}
 use Rattle.refal_ast.specs.Nodes.{node_width}
-use Rattle.refal_ast.specs.declared.Refusal.{Refusal}
-use Rattle.refal_ast.specs.declared.Answer.{Answer}
-use Rattle.refal_ast.specs.declared.Answer.TheVariants.{Done, Refused}
 use Rattle.refal_lexer.specs.Read.{read_answer, read_rows}
 use Rattle.refal_parser.specs.Parse.{parse_answer, parse_rows}
 

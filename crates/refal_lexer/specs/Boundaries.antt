@@ -2,8 +2,7 @@
 use Rattle.std.specs.Prelude.{ℕ, suc, ◌+◌, ◌*◌, List, [], ◌∷◌, ◌≡◌, length, take, drop}
 use Rattle.refal_text.specs.Utf8.{decode, well_to}
 use Rattle.refal_ast.specs.Tokens.{Token, tokens_of}
-use Rattle.refal_ast.specs.declared.Answer.{Answer}
-use Rattle.refal_ast.specs.declared.Answer.TheVariants.{Done, Refused}
+use Rattle.refal_ast.specs.Answers.{Answer, Done, Refused}
 use Rattle.refal_lexer.specs.Lex.{Stop, fine, bad, Out}
 
 -- an offset of s that is reached from 0 by whole characters: 0, or past the character at the front of s, of n + 1 bytes, a boundary of what stands behind it

@@ -1,10 +1,8 @@
 -- What reading gives: tokens, and how it stops.
 use Rattle.std.specs.Prelude.{ℕ, List, [], ◌∷◌, ◌++◌, length}
 use Rattle.refal_ast.specs.Kinds.{tok_eof}
-use Rattle.refal_ast.specs.Answers.{refusal}
+use Rattle.refal_ast.specs.Answers.{refusal, Answer, Done, Refused}
 use Rattle.refal_ast.specs.Tokens.{Token, token}
-use Rattle.refal_ast.specs.declared.Answer.{Answer}
-use Rattle.refal_ast.specs.declared.Answer.TheVariants.{Done, Refused}
 
 -- how reading stops: at the end, or with a refusal's number and span
 pub data Stop : Type 0 where

@@ -1,10 +1,8 @@
 -- Laws of a loop that puts rows: what a turn does, and what is left at its end.
 use Rattle.std.specs.Prelude.{ℕ, ◌+◌, List, ◌≡◌, refl, length}
 use Rattle.std.proofs.Common.{zero-add, add-one, arith, ap, ◌∙◌, sym, subst, length-append}
-use Rattle.refal_ast.specs.Answers.{refusal}
+use Rattle.refal_ast.specs.Answers.{refusal, Answer, Done, Refused}
 use Rattle.refal_ast.specs.Tokens.{Token, token, words}
-use Rattle.refal_ast.specs.declared.Answer.{Answer}
-use Rattle.refal_ast.specs.declared.Answer.TheVariants.{Done, Refused}
 use Rattle.refal_rows.specs.Rows.{put_row}
 use Rattle.refal_lexer.specs.Puts.{put_tokens, put_append}
 use Rattle.refal_lexer.specs.Lex.{Stop, Out, more, more_all, stop_bad, eof_at, stopped, stop_answer}

@@ -2,10 +2,8 @@
 use Rattle.std.specs.Prelude.{ℕ, ◌*◌, ◌/◌, List, ◌++◌, leb, ltb, length, drop, replicate}
 use Rattle.refal_text.specs.Pick.{pick}
 use Rattle.refal_text.specs.Utf8.{well_to}
-use Rattle.refal_ast.specs.Answers.{refusal}
+use Rattle.refal_ast.specs.Answers.{refusal, Answer, Done, Refused}
 use Rattle.refal_ast.specs.Tokens.{Token, flat}
-use Rattle.refal_ast.specs.declared.Answer.{Answer}
-use Rattle.refal_ast.specs.declared.Answer.TheVariants.{Done, Refused}
 use Rattle.refal_lexer.specs.Lex.{Out, stop_answer}
 use Rattle.refal_lexer.specs.Source.{source}
 

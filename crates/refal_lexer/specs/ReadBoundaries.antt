@@ -9,7 +9,7 @@ use Rattle.std.proofs.Math.Path.{subst}
 use Rattle.refal_text.specs.Pick.{split}
 use Rattle.refal_text.specs.Utf8.{well_to}
 use Rattle.refal_ast.specs.Tokens.{Token as Tok, flat, tokens_of, tokens_flat, length_flat}
-use Rattle.refal_ast.specs.declared.Answer.{Answer}
+use Rattle.refal_ast.specs.Answers.{Answer}
 use Rattle.refal_lexer.specs.Carried.{line_after, lex_by}
 use Rattle.refal_lexer.specs.LineLaws.{white_in}
 use Rattle.refal_lexer.specs.Lex.{Stop, fine, bad, Out, stopped}

@@ -2,11 +2,8 @@
 use Rattle.std.specs.Prelude.{ℕ, ◌*◌, ◌/◌, ◌<◌, ◌≤◌, List, ◌++◌, ◌≡◌, refl, length, drop, replicate}
 use Rattle.std.proofs.Common.{le-leb, lt-ltb, le-ltb, arith, ap, ◌∙◌, sym}
 use Rattle.refal_text.specs.Utf8.{well_to}
-use Rattle.refal_ast.specs.Answers.{refusal}
+use Rattle.refal_ast.specs.Answers.{refusal, Answer, Refusal, Done, Refused}
 use Rattle.refal_ast.specs.Tokens.{flat}
-use Rattle.refal_ast.specs.declared.Answer.{Answer}
-use Rattle.refal_ast.specs.declared.Refusal.{Refusal}
-use Rattle.refal_ast.specs.declared.Answer.TheVariants.{Done, Refused}
 use Rattle.refal_lexer.specs.Lex.{Stop, fine, bad, Out, stopped, stop_answer}
 use Rattle.refal_lexer.specs.Source.{source}
 use Rattle.refal_lexer.specs.Puts.{put_tokens, put_flat}

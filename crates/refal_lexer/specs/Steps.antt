@@ -1,8 +1,6 @@
 -- What putting tokens answers, and what it leaves in the words.
 use Rattle.std.specs.Prelude.{ℕ, ◌+◌, Bool, false, List, length, ltb, eqb}
-use Rattle.refal_ast.specs.Answers.{refusal}
-use Rattle.refal_ast.specs.declared.Answer.{Answer}
-use Rattle.refal_ast.specs.declared.Answer.TheVariants.{Done, Refused}
+use Rattle.refal_ast.specs.Answers.{refusal, Answer, Done, Refused}
 use Rattle.refal_lexer.specs.Puts.{put_tokens}
 use Rattle.refal_lexer.specs.declared.Cursor.{Cursor}
 use Rattle.refal_lexer.specs.Scans.{Blank, Past, Open, Step, On, Stop, Scan}

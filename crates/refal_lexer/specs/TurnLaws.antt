@@ -1,7 +1,7 @@
 -- Laws of the loop: blanks lead to tokens, a refusal or the end.
 use Rattle.std.specs.Prelude.{ℕ, zero, suc, ◌+◌, ◌-◌, ◌<◌, ◌≤◌, Bool, true, false, List, [], ◌∷◌, ◌≡◌, refl, length, take, drop, get_or}
 use Rattle.std.proofs.Common.{add-zero, arith, ap, ap₂, sym, subst, ◌∙◌, length-drop, drop_of_length-le, drop-cons, drop-drop}
-use Rattle.refal_ast.specs.declared.Answer.{Answer}
+use Rattle.refal_ast.specs.Answers.{Answer}
 use Rattle.refal_lexer.specs.Carried.{line_after, stop_at, go_on, blanks_from, lex_by}
 use Rattle.refal_lexer.specs.Blanks.{white_len, comment_at, on_white, on_comment}
 use Rattle.refal_lexer.specs.Lex.{Out, more_all, stop_bad, eof_at, stop_answer}

@@ -4,7 +4,7 @@ use Rattle.refal_text.specs.Pick.{pick}
 use Rattle.refal_ast.specs.Kinds.{node_name, node_function, node_call}
 use Rattle.refal_ast.specs.Names.{names_equal}
 use Rattle.refal_ast.specs.Nodes.{Node, node_at, nodes_of}
-use Rattle.refal_ast.specs.declared.Answer.TheVariants.{Done}
+use Rattle.refal_ast.specs.Answers.{Done}
 use Rattle.refal_tree.specs.Lawful.{lawful}
 use Rattle.refal_spelling.specs.Spellings.{all_spelled}
 use Rattle.refal_files.specs.Files.{node_text}

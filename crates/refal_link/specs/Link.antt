@@ -5,9 +5,7 @@ use Rattle.std.proofs.Math.Option.{Option, none, some}
 use Rattle.refal_text.specs.Pick.{pick}
 use Rattle.refal_ast.specs.Kinds.{node_name, node_function, node_call}
 use Rattle.refal_ast.specs.Names.{names_equal}
-use Rattle.refal_ast.specs.Answers.{refusal}
-use Rattle.refal_ast.specs.declared.Answer.{Answer}
-use Rattle.refal_ast.specs.declared.Answer.TheVariants.{Done, Refused}
+use Rattle.refal_ast.specs.Answers.{refusal, Answer, Done, Refused}
 use Rattle.refal_tree.specs.Lawful.{lawful}
 use Rattle.refal_spelling.specs.Spellings.{all_spelled}
 use Rattle.refal_files.specs.Files.{Placed, text_of, both_rows, of_kind}

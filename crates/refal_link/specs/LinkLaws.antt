@@ -16,8 +16,7 @@ use Rattle.refal_ast.specs.Kinds.{node_name, node_function, node_call}
 use Rattle.refal_ast.specs.Limits.{most_rows}
 use Rattle.refal_ast.specs.Names.{names_equal}
 use Rattle.refal_ast.specs.Nodes.{node_width, whole_rows}
-use Rattle.refal_ast.specs.declared.Answer.{Answer}
-use Rattle.refal_ast.specs.declared.Answer.TheVariants.{Done}
+use Rattle.refal_ast.specs.Answers.{Answer, Done}
 use Rattle.refal_tree.specs.Lawful.{lawful, tree_of, found}
 use Rattle.refal_ast.specs.Limits.{most_levels}
 use Rattle.refal_spelling.specs.Spellings.{all_spelled}

@@ -1,8 +1,7 @@
 -- The code's files and answers as Link.antt has them.
 use Rattle.std.specs.Prelude.{ℕ, Bool, true, false, List, [], ◌≡◌, refl, Result, Ok, Err}
 use Rattle.refal_ast.specs.Told.{reason_code, refusal_told}
-use Rattle.refal_ast.specs.declared.Answer.{Answer}
-use Rattle.refal_ast.specs.declared.Answer.TheVariants.{Refused}
+use Rattle.refal_ast.specs.Answers.{Answer, Refused}
 use Rattle.refal_ast.specs.declared.answers.Reason.{Reason}
 use Rattle.refal_ast.specs.declared.answers.Refusal.{Refusal as Told}
 use Rattle.refal_files.specs.Files.{Placed, both_rows}

@@ -5,10 +5,8 @@
 ghost use Rattle.std.specs.Prelude.{◌≡◌, true, false, ℕ, ◌≤◌, ◌<◌, [], eqb, IfOk};
 ghost use Rattle.refal_text.specs.Pick.{pick};
 ghost use Rattle.refal_ast.specs.Kinds.{node_call};
-ghost use Rattle.refal_ast.specs.Answers.{refusal};
+ghost use Rattle.refal_ast.specs.Answers.{refusal, Answer, Refused};
 ghost use Rattle.refal_ast.specs.Told.{told, refusal_told, reason_code, file_code};
-ghost use Rattle.refal_ast.specs.declared.Answer.{Answer};
-ghost use Rattle.refal_ast.specs.declared.Answer.TheVariants.{Refused};
 ghost use Rattle.refal_tree.specs.Lawful.{lawful};
 ghost use Rattle.refal_files.specs.View.{rows_of, row_of};
 ghost use Rattle.refal_link.specs.Link.{functions, repeated as first_repeated, shown, shown_at, resolved, linked, link_words};

@@ -13,13 +13,11 @@ use borrow.Author.Tests.{le-leb, lt-leb}
 use Rattle.refal_rows.specs.Rows.{pick_list}
 use Rattle.refal_rows.specs.Writes.{whole}
 use Rattle.refal_ast.specs.Nodes.{node_width}
-use Rattle.refal_ast.specs.Answers.{refusal, pick_answer}
+use Rattle.refal_ast.specs.Answers.{refusal, pick_answer, Refusal, Done, Refused}
 use Rattle.refal_ast.specs.Tokens.{tokens_of}
 use Rattle.refal_ast.specs.Check.{well_formed}
 use Rattle.refal_ast.specs.Tree.{Program, p0, size_p}
 use Rattle.refal_ast.specs.Encode.{enc_p}
-use Rattle.refal_ast.specs.declared.Refusal.{Refusal}
-use Rattle.refal_ast.specs.declared.Answer.TheVariants.{Done, Refused}
 use Rattle.refal_ast.specs.Limits.{most_levels}
 use Rattle.refal_parser.specs.Machine.{outside, Outcome, tree, refuse, run}
 use Rattle.refal_parser.specs.Parse.{pick_outcome, parsed, answer_of, rows_left, fits, parse_answer, parse_rows}

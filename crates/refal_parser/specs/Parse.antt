@@ -1,14 +1,12 @@
 -- What `parse` answers and leaves in the rows, for every list of words: check 30, then the first refusal met or the tree, last 38.
 use Rattle.std.specs.Prelude.{ℕ, ◌*◌, List, ◌++◌, Bool, true, false, length, drop, replicate, leb}
 use Rattle.refal_rows.specs.Rows.{pick_list}
-use Rattle.refal_ast.specs.Answers.{refusal, pick_answer}
+use Rattle.refal_ast.specs.Answers.{refusal, pick_answer, Answer, Done, Refused}
 use Rattle.refal_ast.specs.Tokens.{tokens_of}
 use Rattle.refal_ast.specs.Check.{well_formed}
 use Rattle.refal_ast.specs.Tree.{Program, p0, size_p}
 use Rattle.refal_ast.specs.Nodes.{node_width}
 use Rattle.refal_ast.specs.Encode.{enc_p}
-use Rattle.refal_ast.specs.declared.Answer.{Answer}
-use Rattle.refal_ast.specs.declared.Answer.TheVariants.{Done, Refused}
 use Rattle.refal_ast.specs.Limits.{most_levels}
 use Rattle.refal_parser.specs.Machine.{outside, Outcome, tree, refuse, run}
 

@@ -7,7 +7,7 @@ use Rattle.refal_text.specs.Utf8.{well_to}
 use Rattle.refal_ast.specs.Kinds.{tok_number}
 use Rattle.refal_ast.specs.Limits.{most_bytes}
 use Rattle.refal_ast.specs.Tokens.{token, flat}
-use Rattle.refal_ast.specs.declared.Answer.TheVariants.{Done}
+use Rattle.refal_ast.specs.Answers.{Done}
 use Rattle.refal_lexer.specs.Lex.{Out, more, eof_at}
 use Rattle.refal_lexer.specs.Carried.{line_after, lex_by}
 use Rattle.refal_lexer.specs.Read.{read_answer}

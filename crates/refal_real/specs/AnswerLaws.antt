@@ -6,9 +6,7 @@ use Rattle.std.proofs.Common.{true≢false, ap, ap₂, sym, subst, ◌∙◌, ar
 use Rattle.std.proofs.lemmas.Bool.Decides.{Decides-int_eq}
 use Rattle.refal_text.specs.Pick.{pick}
 use Rattle.refal_ast.specs.Names.{same_list}
-use Rattle.refal_ast.specs.declared.Refusal.{Refusal}
-use Rattle.refal_ast.specs.declared.Answer.{Answer}
-use Rattle.refal_ast.specs.declared.Answer.TheVariants.{Done, Refused}
+use Rattle.refal_ast.specs.Answers.{Refusal, Answer, Done, Refused}
 use Rattle.refal_real.specs.Real.{Outcome, has_form, is_refused, answer_of, words_of, no_words, form_words, same_outcome}
 use Rattle.refal_real.specs.Told.{digits_told, form_told}
 use Rattle.refal_real.specs.declared.Form.{Form as Code}

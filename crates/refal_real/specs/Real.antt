@@ -2,10 +2,8 @@
 use Rattle.std.specs.Prelude.{ℕ, Bool, false, ◌&&◌, ◌||◌, List, [], ◌∷◌, ◌++◌, leb, eqb, length, drop, replicate}
 use Rattle.std.specs.Bool.{beq}
 use Rattle.refal_text.specs.Pick.{pick}
-use Rattle.refal_ast.specs.Answers.{refusal}
+use Rattle.refal_ast.specs.Answers.{refusal, Answer, Done, Refused}
 use Rattle.refal_ast.specs.Names.{same_list}
-use Rattle.refal_ast.specs.declared.Answer.{Answer}
-use Rattle.refal_ast.specs.declared.Answer.TheVariants.{Done, Refused}
 use Rattle.refal_spelling.specs.Spellings.{number_ok}
 use Rattle.refal_real.specs.Parts.{parts}
 use Rattle.refal_real.specs.Form.{Form, less, normal}

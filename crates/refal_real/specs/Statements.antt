@@ -4,7 +4,7 @@ use Rattle.std.specs.Prelude.{ℕ, ◌+◌, ◌≤◌, ◌<◌, true, List, [], 
 use Rattle.refal_ast.specs.Kinds.{tok_number, tok_eof}
 use Rattle.refal_ast.specs.Limits.{most_bytes}
 use Rattle.refal_ast.specs.Tokens.{token, words}
-use Rattle.refal_ast.specs.declared.Answer.TheVariants.{Done}
+use Rattle.refal_ast.specs.Answers.{Done}
 use Rattle.refal_lexer.specs.Read.{read_answer, read_rows}
 use Rattle.refal_spelling.specs.Given.{Gives}
 use Rattle.refal_real.specs.Parts.{parts}

@@ -2,7 +2,7 @@
 use Rattle.std.specs.Prelude.{ℕ, ◌≤◌, ℤ, pos, neg_ℤ, int_lt, unsigned_abs, Bool, true, false, List, ◌++◌, ◌≡◌, length, Option, Some, None, MatchOption, Result, Ok, Err, MatchResult}
 use Rattle.refal_text.specs.Pick.{pick}
 use Rattle.refal_ast.specs.Told.{reason_code, refusal_told}
-use Rattle.refal_ast.specs.declared.Answer.TheVariants.{Refused}
+use Rattle.refal_ast.specs.Answers.{Refused}
 use Rattle.refal_ast.specs.declared.answers.Reason.{Reason}
 use Rattle.refal_ast.specs.declared.answers.Refusal.{Refusal}
 use Rattle.refal_ast.specs.Limits.{most_bytes}

@@ -3,11 +3,8 @@ use Rattle.std.specs.Prelude.{ℕ, ◌*◌, ◌/◌, ◌≤◌, Bool, true, fals
 use Rattle.std.proofs.Common.{arith, le-leb, le-ltb, leb-true, ltb-false, ap, sym, subst, ◌∙◌}
 use Rattle.refal_text.specs.Pick.{pick}
 use Rattle.refal_text.specs.Utf8.{well_to}
-use Rattle.refal_ast.specs.Answers.{refusal}
+use Rattle.refal_ast.specs.Answers.{refusal, Answer, Refusal, Done, Refused}
 use Rattle.refal_ast.specs.Tokens.{flat}
-use Rattle.refal_ast.specs.declared.Answer.{Answer}
-use Rattle.refal_ast.specs.declared.Refusal.{Refusal}
-use Rattle.refal_ast.specs.declared.Answer.TheVariants.{Done, Refused}
 use Rattle.refal_lexer.specs.Lex.{Stop, fine, bad, Out, stopped, stop_answer}
 use Rattle.refal_lexer.specs.Carried.{lex_by}
 use Rattle.refal_lexer.specs.Source.{source}

@@ -8,7 +8,7 @@ use Rattle.refal_ast.specs.Kinds.{tok_identifier, tok_variable, tok_number, tok_
 use Rattle.refal_ast.specs.Limits.{most_bytes}
 use Rattle.refal_ast.specs.Flatten.{flat_of}
 use Rattle.refal_ast.specs.Tokens.{Token, token, words, flat}
-use Rattle.refal_ast.specs.declared.Answer.TheVariants.{Done}
+use Rattle.refal_ast.specs.Answers.{Done}
 use Rattle.refal_lexer.specs.Lex.{Out, more, eof_at}
 use Rattle.refal_lexer.specs.Carried.{line_after, lex_by}
 use Rattle.refal_lexer.specs.Read.{read_answer, read_rows}

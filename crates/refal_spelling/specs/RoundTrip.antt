@@ -7,7 +7,7 @@ use Rattle.refal_ast.specs.Kinds.{tok_eof}
 use Rattle.refal_ast.specs.Check.{well_formed}
 use Rattle.refal_ast.specs.Flatten.{flats_of}
 use Rattle.refal_ast.specs.Tokens.{Token, token, flat, length_flat}
-use Rattle.refal_ast.specs.declared.Answer.TheVariants.{Done}
+use Rattle.refal_ast.specs.Answers.{Done}
 use Rattle.refal_lexer.specs.Lex.{Out, more_all, eof_at}
 use Rattle.refal_lexer.specs.Carried.{lex_by}
 use Rattle.refal_lexer.specs.Read.{read_answer, read_rows}

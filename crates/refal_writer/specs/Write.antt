@@ -3,11 +3,9 @@
 -- `tree_of` and `of_Tree` of refal_tree), so the check itself need not be believed.
 use Rattle.std.specs.Prelude.{ℕ, Bool, not, ◌&&◌, List, [], ◌++◌, leb, length, drop, replicate}
 use Rattle.std.proofs.Math.Option.{Option, none, some}
-use Rattle.refal_ast.specs.Answers.{refusal, pick_answer}
+use Rattle.refal_ast.specs.Answers.{refusal, pick_answer, Answer, Done, Refused}
 use Rattle.refal_ast.specs.Flatten.{flatten_p}
 use Rattle.refal_ast.specs.Tree.{Program}
-use Rattle.refal_ast.specs.declared.Answer.{Answer}
-use Rattle.refal_ast.specs.declared.Answer.TheVariants.{Done, Refused}
 use Rattle.refal_ast.specs.Limits.{most_bytes, most_levels}
 use Rattle.refal_tree.specs.Lawful.{tree_of, lawful}
 use Rattle.refal_spelling.specs.Spell.{views, text}

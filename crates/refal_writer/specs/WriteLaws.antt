@@ -10,8 +10,7 @@ use Rattle.refal_ast.specs.Nodes.{node_width}
 use Rattle.std.specs.Result.{is_err}
 use Rattle.refal_ast.specs.Told.{told}
 use Rattle.refal_ast.specs.declared.answers.Refusal.{Refusal as Told}
-use Rattle.refal_ast.specs.declared.Answer.{Answer}
-use Rattle.refal_ast.specs.declared.Answer.TheVariants.{Done}
+use Rattle.refal_ast.specs.Answers.{Answer, Done}
 use Rattle.refal_tree.specs.States.{at_items}
 use Rattle.refal_ast.specs.Limits.{most_bytes, most_rows, most_levels}
 use Rattle.refal_tree.specs.Lawful.{tree_of, found, lawful}

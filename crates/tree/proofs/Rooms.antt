@@ -2,11 +2,9 @@
 use Rattle.std.proofs.Common.{◌≡◌, ℕ, ◌*◌, ◌/◌, ◌≤◌, Bool, true, false, List, length, refl, leb, ltb, leb-true, arith}
 use Rattle.refal_text.specs.Pick.{pick, split}
 use Rattle.refal_text.specs.Utf8.{well_to}
-use Rattle.refal_ast.specs.Answers.{refusal, pick_answer}
+use Rattle.refal_ast.specs.Answers.{refusal, pick_answer, Answer, Done, Refused}
 use Rattle.refal_ast.specs.Nodes.{node_width}
 use Rattle.refal_ast.specs.Tree.{size_p}
-use Rattle.refal_ast.specs.declared.Answer.{Answer}
-use Rattle.refal_ast.specs.declared.Answer.TheVariants.{Done, Refused}
 use Rattle.refal_lexer.specs.Lex.{stop_answer}
 use Rattle.refal_lexer.specs.Read.{fitted, read_answer}
 use Rattle.refal_lexer.specs.Source.{source}

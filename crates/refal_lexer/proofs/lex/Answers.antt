@@ -1,7 +1,7 @@
 -- `refal_lexer::lex` meets its contract.
 use Rattle.std.proofs.Common.{ℕ, add-zero, arith, refl, sym, ap, ◌∙◌}
 use Rattle.std.proofs.lemmas.Result.{err_from_is_err_and}
-use Rattle.refal_ast.specs.declared.Answer.TheVariants.{Refused}
+use Rattle.refal_ast.specs.Answers.{Refused}
 use Rattle.refal_ast.specs.Tokens.{Token, token, words}
 use Rattle.refal_rows.specs.Rows.{put_row}
 use Rattle.refal_lexer.specs.Source.{source}

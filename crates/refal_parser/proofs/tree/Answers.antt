@@ -2,7 +2,7 @@
 use Rattle.std.proofs.Common.{sym, ap, ◌∙◌, arith}
 use Rattle.std.proofs.lemmas.Result.{err_from_is_err_and}
 use Rattle.refal_ast.specs.Told.{told}
-use Rattle.refal_ast.specs.declared.Answer.TheVariants.{Refused}
+use Rattle.refal_ast.specs.Answers.{Refused}
 use Rattle.refal_parser.proofs.Steps.{got, not_got}
 use Rattle.refal_parser.proofs.CheckLaws.{well_ready}
 use Rattle.refal_parser.proofs.Final.{parsed_bad, parsed_good, answered, done, full}

@@ -1,7 +1,7 @@
 -- `refal_writer::put_text` meets its contract.
 use Rattle.std.proofs.Common.{arith, ℕ, ◌≤◌, ◌<◌, ◌⊎◌, inl, inr, ◌≡◌, true, false, ◌&&◌, leb, le-leb, refl, ap, sym, ◌∙◌}
 use Rattle.std.proofs.lemmas.Bool.{lt-leb}
-use Rattle.refal_ast.specs.declared.Answer.TheVariants.{Refused}
+use Rattle.refal_ast.specs.Answers.{Refused}
 use Rattle.refal_writer.specs.Puts.{puts_as}
 use Rattle.refal_writer.specs.WriteLaws.{lawful_few, lawful_walks, written_is, unlawful, misspelled, too_long, done}
 use Rattle.refal_writer.proofs.put_text.Goals as goal
