@@ -56,6 +56,7 @@ impl Node {
     }
 
     // Row m, put where it fits whole.
+    #[inline(always)]
     pub fn put(self, rows: &mut [u32], m: usize)
         requires { m ≤ 1073741824 }
         ensures { rows.new ≡ put_row node_width rows.old m (node_words (node_told self)) }

@@ -22,6 +22,7 @@ pub struct Token {
 
 impl Token {
     // Row m, put where it fits whole.
+    #[inline(always)]
     pub fn put(self, rows: &mut [u32], m: usize)
         requires { m ≤ 1073741824 }
         ensures { rows.new ≡ put_row token_width rows.old m (words (token_told self)) }

@@ -1,6 +1,5 @@
 -- `refal_lexer::literal::put_chars` meets its contract.
-use Rattle.std.proofs.Common.{ℕ, [], ◌∷◌, arith, refl, ap, ◌∙◌}
-use Rattle.refal_rows.specs.Rows.{put_row}
+use Rattle.std.proofs.Common.{arith, refl, ◌∙◌}
 use Rattle.refal_text.specs.Utf8.{ill}
 use Rattle.refal_lexer.specs.LiteralLaws.{chars_end, chars_close, chars_step, fills_row, fills_end}
 use Rattle.refal_lexer.proofs.literal.put_chars.Goals as goal
@@ -13,8 +12,8 @@ loop-i-preserved c = let x = c.in-Some.ensures in let w = x.within.0 in (
   omega arith,
   x.within.1,
   omega arith,
-  c.put6.auto.rows ∙ c.loop-i.invariant.3,
-  fills_row _ _ _ _ _ _ _ _ _ (chars_step _ _ _ _ _ c.in-Some.c c.loop-i-test.true x.told (λ z. omega arith) x.within.1) (c.put6.ensures ∙ ap (λ (w : ℕ). put_row 6 c.loop-i.rows c.loop-i.k (w ∷ c.in-Some.c.code ∷ 0 ∷ 0 ∷ c.args.start ∷ c.args.end ∷ [])) c.from.ensures) c.loop-i.invariant.4,
+  c.put.auto.rows ∙ c.loop-i.invariant.3,
+  fills_row _ _ _ _ _ _ _ _ _ (chars_step _ _ _ _ _ c.in-Some.c c.loop-i-test.true x.told (λ z. omega arith) x.within.1) c.put.ensures c.loop-i.invariant.4,
 )
 
 pub returns : goal.returns
