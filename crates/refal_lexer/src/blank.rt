@@ -57,6 +57,7 @@ fn white(src: &[u8], at: usize, line: bool) -> Place
     requires { at + length src.now ≤ 16777216 }
     ensures { (result ≡ whites 0 at line src.now) × (at ≤ result.at) × (result.at ≤ at + length src.now) }
 {
+    // By index, since a character has one byte to four.
     let mut i = 0;
     let mut line = line;
     while i < src.len() {

@@ -112,6 +112,7 @@ fn put_next(src: &[u8], c: Cursor, rows: &mut [u32]) -> Result<Cursor, Fault>
         Class::Upper => {
             let scanned = word::name(src, c.at);
             let Ok(token) = scanned else {
+                // The fault as it is.
                 return scanned.map(|_| c);
             };
             Ok(put(token, c.row, rows))

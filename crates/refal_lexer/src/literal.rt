@@ -71,6 +71,7 @@ fn behind(src: &[u8], c: Cursor, q: u8) -> Result<Cursor, Fault>
     requires { (0 < length src.now) × (c.at + length src.now ≤ 16777216) × (c.row ≤ c.at) × (0 < q) }
     ensures { step_told result ≡ end_of c.at c.row (lit_from q 0 1 0 (drop 1 src.now)) }
 {
+    // By index, since a character has one byte to four.
     let mut i = 1;
     let mut n = 0;
     while i < src.len() {
@@ -91,6 +92,7 @@ fn put_chars(src: &[u8], start: usize, end: usize, q: u8, rows: &mut [u32], n: u
     requires { (0 < length src.now) × (n + length src.now ≤ 16777216) × (start ≤ 16777216) × (end ≤ 16777216) × (0 < q) }
     ensures { rows.new ≡ put_tokens rows.old n (char_tokens q start end 0 (drop 1 src.now)) }
 {
+    // By index, as above.
     let mut i = 1;
     let mut k = n;
     while i < src.len() {
