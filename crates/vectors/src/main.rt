@@ -67,23 +67,30 @@ fn put_words<F: FnOnce(&mut [u32], &mut [u64; 7])>(
     println!(rt; "")
 }
 
-// The first rows of so many words each, if there are as many.
-fn first(words: &[u32], rows: u64, width: u64) -> Option<&[u32]> {
-    words.get(..rows.checked_mul(width)? as usize)
+// The rows that a call puts into the words, as many as it answers, of so many words each.
+fn rows<F: FnOnce(&mut [u32], &mut [u64; 7])>(
+    words: &mut [u32],
+    width: u64,
+    call: F,
+) -> Option<&[u32]>
+    requires { F.IsAlwaysCallable call }
+{
+    let mut answer = [0; 7];
+    call(words, &mut answer);
+    words.get(..answer[1].checked_mul(width)? as usize)
 }
 
-// The rows of the input's tokens, in words with room for all.
-fn tokens<'a>(input: &[u8], words: &'a mut [u32; 354]) -> Option<&'a [u32]> {
-    let mut answer = [0; 7];
-    refal5::refal5_read(input, words, &mut answer);
-    first(words, answer[1], 6)
+// The rows of the input's tokens, and those of their nodes, in words with room for all.
+fn tokens<'a>(input: &[u8], words: &'a mut [u32]) -> Option<&'a [u32]> {
+    rows(words, 6, |words, answer| {
+        refal5::refal5_read(input, words, answer)
+    })
 }
 
-// The rows of its nodes.
-fn nodes<'a>(tokens: &[u32], words: &'a mut [u32; 840]) -> Option<&'a [u32]> {
-    let mut answer = [0; 7];
-    refal5::refal5_parse(tokens, words, &mut answer);
-    first(words, answer[1], 7)
+fn nodes<'a>(tokens: &[u32], words: &'a mut [u32]) -> Option<&'a [u32]> {
+    rows(words, 7, |words, answer| {
+        refal5::refal5_parse(tokens, words, answer)
+    })
 }
 
 // The words that stand in a block behind its two digits, as many as both have.
