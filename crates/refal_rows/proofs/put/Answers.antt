@@ -1,27 +1,26 @@
 -- `refal_rows::put` meets its contract.
-use Rattle.std.proofs.Common.{arith, ◌*◌, ◌+◌, ◌-◌, ◌≤◌, ◌++◌, ap, sym, ◌∙◌, List, ℕ, take, drop, ◌≡◌, length, length-drop, length-take-le, drop-drop, append_assoc}
-use Rattle.std.proofs.lemmas.List.Edits.{sets, sets-eq}
-use borrow.Rule.Slice.PartMut.{put_mid}
-use Rattle.refal_rows.specs.Writes.{put_fits, put_not}
+use Rattle.std.proofs.Common.{arith, ◌*◌, ◌+◌, ◌<◌, sym, ap, ◌∙◌, ◌≡◌, ℕ, List, length, take, set, get_or, length-set, length-take-le, take_all, add-one, take-suc}
+use Rattle.std.proofs.lemmas.List.Edits.{sets}
+use Rattle.refal_rows.specs.Writes.{put_fits, put_not, set_after}
 use Rattle.refal_rows.proofs.put.Goals as goal
 
--- k words in the place of those from `at` on
-put_mid-sets : (B vs : List ℕ) (at k : ℕ) → at + k ≤ length B → length vs ≡ k → put_mid at k B vs ≡ sets B at vs
-put_mid-sets B vs at k fits long =
-    rw (drop-drop k at B) (sym (sets-eq vs B at (omega arith) ∙ ap (λ (n : ℕ). take at B ++ vs ++ drop (at + n) B) long ∙ append_assoc (take at B) vs (drop (at + k) B)))
+-- one word more
+put_next : (B l row : List ℕ) (at i : ℕ) → l ≡ sets B at (take i row) → i < length row → set l (at + i) (get_or row i 0) ≡ sets B at (take (i + 1) row)
+put_next B l row at i e h = rw (add-one i, take-suc row i 0 h)
+    (ap (λ (m : List ℕ). set m (at + i) (get_or row i 0)) e ∙ set_after B at i (take i row) (get_or row i 0) (length-take-le i row (omega arith)))
 
-pub returns-then-end-rows : goal.returns-then-end-rows
-returns-then-end-rows g c =
-    let B = c.args.rows.now in
-    let N = g.row.N in
-    let at = N * c.args.m in
-    let e = c.copy_from_slice.ensures in
-    let k : N ≡ at + N - at = omega arith in
-    let room : at + N ≤ length B = c.if-end-rows.true in
-    let long : length c.copy_from_slice.new.self ≡ at + N - at = e.len ∙ length-take-le (at + N - at) (drop at B) (omega (arith, length-drop at B)) in
-    put_mid-sets B c.copy_from_slice.new.self at (at + N - at) (omega arith) long
-    ∙ ap (sets B at) e.after
-    ∙ sym (put_fits N B c.args.m c.args.row c.if-end-rows.true)
+pub loop-i-preserved : goal.loop-i-preserved
+loop-i-preserved g c = let n : length c.args.row ≡ g.row.N = omega arith in record {
+  long = simp length-set c.loop-i.invariant.long;
+  put = put_next c.args.rows.now c.loop-i.rows c.args.row (g.row.N * c.args.m) c.loop-i.i c.loop-i.invariant.put (omega arith);
+}
+
+pub returns-after-loop-i : goal.returns-after-loop-i
+returns-after-loop-i g c =
+    let n : length c.args.row ≡ g.row.N = omega arith in
+    c.loop-i.invariant.put
+    ∙ ap (sets c.args.rows.now (g.row.N * c.args.m)) (take_all c.loop-i.i c.args.row (omega arith))
+    ∙ sym (put_fits g.row.N c.args.rows.now c.args.m c.args.row c.if-end-rows.true)
 
 pub returns-else-end-rows : goal.returns-else-end-rows
 returns-else-end-rows g c = sym (put_not g.row.N c.args.rows.now c.args.m c.args.row (omega arith))
