@@ -38,7 +38,7 @@ fn line_after(b: u8, at: usize, line: bool) -> bool
     b == b'\n' || line && at != 0
 }
 
-// How many bytes the white-space character at the front has, 0 where there is none.
+// How many bytes the white-space character at the front has, 0 where there is none, as the definition has it: a length to add.
 fn white_len(src: &[u8]) -> usize
     requires { 0 < length src.now }
     ensures { (result ≡ white_len src.now) × (result ≤ length src.now) }
@@ -71,7 +71,7 @@ fn white(src: &[u8], at: usize, line: bool) -> Place
     Place { at: at + i, line }
 }
 
-// The end of the block comment at the front, if it has one.
+// The end of the block comment at the front, if it has one. By index, since the byte before each is looked at too.
 fn close(src: &[u8]) -> Option<usize>
     requires { 2 ≤ length src.now }
     ensures told { close_told result ≡ close_to false 2 (drop 2 src.now) }

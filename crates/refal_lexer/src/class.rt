@@ -102,13 +102,14 @@ pub fn is_name(b: u8) -> bool
     Class::of(b).is_name()
 }
 
-// White space of one byte.
+// White space of one byte: std's test leaves out U+000B.
 pub fn is_blank(b: u8) -> bool
     ensures { result ≡ blank b }
 {
     matches!(b, b'\t'..=b'\r' | b' ')
 }
 
+// std has no test of it.
 pub fn is_sign(b: u8) -> bool
     ensures { result ≡ sign b }
 {

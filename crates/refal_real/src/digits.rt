@@ -17,7 +17,7 @@ pub fn trim_start(mut digits: &[u8]) -> &[u8]
     digits
 }
 
-// Digits less the zeros that trail them.
+// Digits less the zeros that trail them. Apart from the zeros that lead, since a pattern says at which end it looks.
 fn trim_end(mut digits: &[u8]) -> &[u8]
     ensures { result.now ≡ trim digits.entry.now }
 {

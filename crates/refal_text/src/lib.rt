@@ -14,7 +14,7 @@ pub struct Char {
     pub len: usize,
 }
 
-// The byte at i, and 0 past the end.
+// The byte at i, and 0 past the end, as the definitions have it: no byte that a scan looks for is 0.
 pub fn byte(src: &[u8], i: usize) -> u8
     ensures { result ≡ get_or src.now i 0 }
 {
