@@ -240,8 +240,8 @@ module _ (n : ℕ) {w B B₁ B₂ : List ℕ} {at left j m i k : ℕ} (Q : Claus
             means = λ b s p. equals_on b s p ∙ N.means b (sofar s) p ∙ end_closed w j' N.ready left b (sofar s) N.x (end_before w j') z p;
           })
 
-      pub sentence_of_parts : {B₄ : List ℕ} {next : ℕ} → next ≡ sentence_end w j' → B₄ ≡ sentence_put w B₃ at j' n m' → SentenceAt w B B₄ at n left next m'
-      sentence_of_parts q put = sentence_at (is_off w j') refl q put
+      pub sentence_of_parts : {B₄ : List ℕ} {from next : ℕ} → from ≡ get_or w (at + 4) 0 → next ≡ sentence_end w j' → B₄ ≡ sentence_put w B₃ from j' n m' → SentenceAt w B B₄ at n left next m'
+      sentence_of_parts s q put = sentence_at (is_off w j') refl q (rw s at put)
 
 -- ---- a block: one sentence more, where neither its `}` nor Eof stands
 module _ {w B₀ B : List ℕ} {at n left i m : ℕ} (I : BlockInv w B₀ B at n left i m) (unclosed : get_or w i 0 ≡ tok_r_brace → ⊥) (unended : get_or w i 0 ≡ tok_eof → ⊥) where
