@@ -32,7 +32,7 @@ use Rattle.refal_parser.specs.PostTerms.{Closing}
 use Rattle.refal_parser.specs.PostBlock.{Opens}
 use Rattle.refal_parser.specs.PostItems.{heading}
 use Rattle.refal_parser.specs.Got.{Got, At, No, error_told, got_told}
-use Rattle.refal_parser.proofs.TokenLaws.{rest_step, ready_next, from_next}
+use Rattle.refal_parser.proofs.TokenLaws.{rest_step, from_next}
 
 -- ---- answers that are known
 pub is_at : {w : List ℕ} {r : Got} {P : ℕ → ℕ → Type 0} {Q : ℕ → ℕ → ℕ → ℕ → ℕ → Type 0} {u : List ℕ} {j m : ℕ} → r ≡ At u j m → u ≡ w → P j m → Cases w r P Q
@@ -86,15 +86,12 @@ begins Call = 1
 begins UnknownVariable = 1
 begins NoTerm = 0
 
--- what begins a term is no Eof, so a token stands after it
+-- what begins a term is no Eof
 pub term_not_eof : (w : List ℕ) (at : ℕ) → begins (term_at w at) ≡ 1 → get_or w at 0 ≡ tok_eof → ⊥
 term_not_eof w at b e =
     let z : begins (term_at w at) ≡ 0 = ap (λ (k : ℕ). begins (term_of k (get_or w (at + 1) 0) (get_or w (at + 2) 0) (get_or w (at + 3) 0))) e in
     let y : ⊥ = omega arith in
     y
-
-pub ready_term : (w : List ℕ) (at : ℕ) (q : Term) → Ready w at → term_at w at ≡ q → begins q ≡ 1 → Ready w (at + 6)
-ready_term w at q r e b = ready_next w at r (term_not_eof w at (ap begins e ∙ b))
 
 -- a token that is not of kind k, where it is of kind l
 pub other : (x k l : ℕ) → x ≡ l → eqb l k ≡ false → x ≡ k → ⊥

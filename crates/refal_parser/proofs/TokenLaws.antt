@@ -19,10 +19,9 @@ use Rattle.refal_ast.specs.Tokens.{Token, tokens_of}
 use Rattle.refal_ast.specs.declared.kinds.UnknownKind.{UnknownKind}
 use Rattle.refal_ast.specs.declared.kinds.TokenKind.{TokenKind}
 use Rattle.refal_ast.specs.declared.kinds.TokenKind.TheVariants as kind
-use Rattle.refal_ast.specs.declared.tokens.Token.{Token as TheToken}
 use Rattle.refal_ast.specs.Check.{good_token, ok_tokens}
 use Rattle.refal_parser.specs.Machine.{next_from, next_to}
-use Rattle.refal_parser.specs.Ready.{rest, tok, after_from, after_to, end_before, Ready, TokenAt}
+use Rattle.refal_parser.specs.Ready.{rest, tok, after_from, after_to, end_before, Ready}
 
 -- six words and what follows
 drop6 : (w : List ℕ) (at : ℕ) → at + 5 < length w →

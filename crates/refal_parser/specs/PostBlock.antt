@@ -4,7 +4,7 @@ use Rattle.std.specs.Prelude.{◌≡◌, ℕ, ◌+◌, ◌-◌, ◌≤◌, ◌<�
 use Rattle.refal_ast.specs.Kinds.{tok_r_brace, tok_comma, tok_equals, tok_semicolon}
 use Rattle.refal_ast.specs.Tree.{Terms, t0, Condition, Conditions, c0, End, Sentence, Sentences, s0, s_more, Body, b_all, b_off, Program, size_condition, size_c, size_end, size_sentence, size_b}
 use Rattle.refal_parser.specs.Machine.{Begun, Block, pattern, within, between, conditioned, equated, ended, Outcome, refuse, opens, begun, with_condition, leave}
-use Rattle.refal_parser.specs.Ready.{tok, end_before, Few, Ready}
+use Rattle.refal_parser.specs.Ready.{tok, end_before, Few}
 use Rattle.refal_parser.specs.Writers.{put_node, sentence_row, w_condition, w_c, w_end, w_sentence, w_b}
 use Rattle.refal_parser.specs.Post.{Cases, runs, Same, Refuses, leads, after, Joint}
 use Rattle.refal_parser.specs.Got.{got_told}
@@ -17,7 +17,6 @@ CondNo w at left a b c d e = (q : Block) (r : Begun) → Refuses w at (condition
 -- ---- a condition, whose comma is at `at`
 pub record CondAt (w B B' : List ℕ) (at n left j m : ℕ) : Type 0 where
   pub x : Condition
-  pub ready : Ready w j
   pub on : at < j
   pub few : Few m j 2
   pub rows : B' ≡ w_condition x n B
@@ -31,7 +30,6 @@ CondPost p B B' left r = Cases p.tokens.now (got_told r) (CondAt p.tokens.now B 
 -- ---- what stands after a sentence's `=`, up to its `;` or, where that is left off, the `}` of its block
 pub record EndingAt (w B B' : List ℕ) (at n left j m : ℕ) : Type 0 where
   pub x : End
-  pub ready : Ready w j
   pub on : at ≤ j
   pub few : Few m j 2
   pub rows : B' ≡ w_end x n B
@@ -79,7 +77,6 @@ reached w i d b (b_off s x) p = after w i p (leave d b (b_off s x) (get_or w (i 
 pub record SentenceAt (w B B' : List ℕ) (at n left j m : ℕ) : Type 0 where
   pub x : Sentence
   pub off : Bool
-  pub ready : Ready w j
   pub on : at < j
   pub stops : Stops off w j m
   pub rows : B' ≡ w_sentence off x n B
@@ -96,7 +93,6 @@ SentencePost p B B' left r = Cases p.tokens.now (got_told r) (SentenceAt p.token
 -- its loop: the conditions from word j on, whose rows begin at row m; B is the rows as the loop begins
 pub record CondsInv (w B B' : List ℕ) (j m left i k : ℕ) : Type 0 where
   pub cs : Conditions
-  pub ready : Ready w i
   pub joint : Joint w i tok_comma tok_equals
   pub on : j ≤ i
   pub few : Few k i 2
@@ -113,7 +109,6 @@ pub record BlockAt (w B B' : List ℕ) (at n left j m : ℕ) : Type 0 where
   pub v : Body
   pub e : ℕ
   pub some : left ≡ 0 → ⊥
-  pub ready : Ready w j
   pub on : at < j
   pub few : Few m j 0
   pub rows : B' ≡ w_b v n B
@@ -134,7 +129,6 @@ is_open (b_off s x) = true
 
 pub record BlockInv (w B B' : List ℕ) (at n left i m : ℕ) : Type 0 where
   pub v : Body
-  pub ready : Ready w i
   pub on : at < i
   pub stops : Stops (is_open v) w i m
   pub same : length B' ≡ length B

@@ -4,7 +4,7 @@ use Rattle.refal_ast.specs.Kinds.{node_function}
 use Rattle.refal_ast.specs.Nodes.{node}
 use Rattle.refal_ast.specs.Tree.{Body, Names, n_one, n_more, Item, Program, p0, p_more, size_b, size_n, size_item, size_p}
 use Rattle.refal_parser.specs.Machine.{Heading, function_of, outside, wants_name, wants_more, named, headed, tree, refuse}
-use Rattle.refal_parser.specs.Ready.{Few, Ready}
+use Rattle.refal_parser.specs.Ready.{Few}
 use Rattle.refal_parser.specs.Writers.{put_node, name_row, w_item, w_n, w_b, w_p}
 use Rattle.refal_parser.specs.Post.{Cases, runs, Same, Refuses}
 use Rattle.refal_parser.specs.Got.{got_told}
@@ -13,7 +13,6 @@ use Rattle.refal_parser.specs.declared.answers.SyntaxError.{SyntaxError}
 
 -- ---- a declaration's name
 pub record NameAt (w B B' : List ℕ) (at n j m : ℕ) : Type 0 where
-  pub ready : Ready w j
   pub next : j ≡ at + 6
   pub count : m ≡ n + 1
   pub rows : B' ≡ put_node B n (name_row (get_or w (at + 2) 0) (get_or w (at + 3) 0) (n + 1))
@@ -30,7 +29,6 @@ NamePost p B B' r = Cases p.tokens.now (got_told r) (NameAt p.tokens.now B B' p.
 -- the loop over the names of the declaration that begins at `at`, whose row is row n; B₁ is the rows as the loop begins, after the first name
 pub record NamesInv (w B₁ B' : List ℕ) (at n i k : ℕ) : Type 0 where
   pub ns : Names
-  pub ready : Ready w i
   pub on : at < i
   pub few : Few k i 0
   pub same : length B' ≡ length B₁
@@ -45,7 +43,6 @@ heading w from name x = record { from = from; entry = x; start = get_or w (name 
 pub record FunctionAt (w B B' : List ℕ) (from name n entry j m : ℕ) : Type 0 where
   pub v : Body
   pub e : ℕ
-  pub ready : Ready w j
   pub on : name < j
   pub few : Few m j 0
   pub rows : B' ≡ put_node (w_b v (n + 1) B) n (node node_function entry (get_or w (name + 2) 0) (get_or w (name + 3) 0) from e m)
@@ -63,7 +60,6 @@ FunctionPost p B B' from entry r =
 -- ---- an item
 pub record ItemAt (w B B' : List ℕ) (at n j m : ℕ) : Type 0 where
   pub x : Item
-  pub ready : Ready w j
   pub on : at < j
   pub few : Few m j 0
   pub rows : B' ≡ w_item x n B
@@ -87,7 +83,6 @@ ProgramPost w B B' r = Cases w (got_told r) (ProgramAt w B B') (λ a b c d e. ru
 -- its loop
 pub record ProgramInv (w B B' : List ℕ) (i m : ℕ) : Type 0 where
   pub t : Program
-  pub ready : Ready w i
   pub few : Few m i 0
   pub same : length B' ≡ length B
   pub rows : B' ≡ w_p t 0 B

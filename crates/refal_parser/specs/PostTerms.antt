@@ -6,7 +6,7 @@ use Rattle.refal_ast.specs.Tokens.{Token}
 use Rattle.refal_ast.specs.Tree.{Term, Terms, t0, t_more, Program, size_term, size_t}
 use Rattle.refal_parser.specs.Begins.{NoTerm}
 use Rattle.refal_parser.specs.Machine.{Argument, Place, State, within, Outcome, refuse, Step, expected, among, closing, only, either, start_term, end_term, first_start, last_end, asked, end_of, step}
-use Rattle.refal_parser.specs.Ready.{tok, term_at, after_from, after_to, end_before, Few, Ready}
+use Rattle.refal_parser.specs.Ready.{tok, term_at, after_from, after_to, end_before, Few}
 use Rattle.refal_parser.specs.Writers.{w_term, w_t, w_terms}
 use Rattle.refal_parser.specs.Post.{Cases, runs, Same, Refuses, after, Joint}
 use Rattle.refal_parser.specs.Got.{got_told}
@@ -16,7 +16,6 @@ use Rattle.refal_parser.specs.declared.answers.SyntaxError.{SyntaxError}
 -- ---- terms up to a token that begins none
 pub record TermsAt (w B B' : List ℕ) (at n left j m : ℕ) : Type 0 where
   pub g : Terms
-  pub ready : Ready w j
   pub none : term_at w j ≡ NoTerm
   pub on : at ≤ j
   pub few : Few m j 2
@@ -36,7 +35,6 @@ TermsPost p B B' left r = Cases p.tokens.now (got_told r) (TermsAt p.tokens.now 
 -- its loop
 pub record TermsInv (w B B' : List ℕ) (at n left i m : ℕ) : Type 0 where
   pub g : Terms
-  pub ready : Ready w i
   pub on : at ≤ i
   pub few : Few m i 2
   pub same : length B' ≡ length B
@@ -51,7 +49,6 @@ abbrev pub Closing : List ℕ → ℕ → ℕ → State → Program → Outcome
 Closing w at want st p = after w at p (closing want (only want st) (tok w at) (after_from w at) (after_to w at))
 
 pub record ClosesAt (w : List ℕ) (at m want j m' : ℕ) : Type 0 where
-  pub ready : Ready w j
   pub next : j ≡ at + 6
   pub rows : m' ≡ m
   pub last : get_or w (at + 5) 0 ≡ end_before w j
@@ -70,7 +67,6 @@ Ends left c want st = (f : Terms) (t : Token) (x y : ℕ) → end_of left c f t 
 pub record Closed (w : List ℕ) (at left want : ℕ) (g : Terms) (j : ℕ) : Type 0 where
   pub a : ℕ
   pub e : ℕ
-  pub ready : Ready w j
   pub on : at < j
   pub first : first_start g a ≡ get_or w (at + 4) 0
   pub last : e ≡ end_before w j
@@ -96,7 +92,6 @@ Asks left c st = (f : Terms) (t : Token) (x y : ℕ) → end_of left c f t x y �
 
 pub record ArgumentAt (w B B' : List ℕ) (at n left j m : ℕ) : Type 0 where
   pub g : Argument
-  pub ready : Ready w j
   pub on : at < j
   pub few : Few m j 0
   pub rows : B' ≡ w_terms g.terms n B
@@ -114,7 +109,6 @@ ArgumentPost p B B' left r = Cases p.tokens.now (got_told r) (ArgumentAt p.token
 -- ---- a term, whose row is row n
 pub record TermGot (w B B' : List ℕ) (at n left j m : ℕ) : Type 0 where
   pub x : Term
-  pub ready : Ready w j
   pub on : at < j
   pub few : Few m j 0
   pub rows : B' ≡ w_term x n B
@@ -131,7 +125,6 @@ TermPost p B B' left r = Cases p.tokens.now (got_told r) (TermGot p.tokens.now B
 
 -- ---- after terms or a block: one of two kinds
 pub record FollowsAt (w : List ℕ) (at m also want j m' : ℕ) : Type 0 where
-  pub ready : Ready w j
   pub stays : j ≡ at
   pub rows : m' ≡ m
   pub joint : Joint w j also want
@@ -154,7 +147,6 @@ pub record Turns (left : ℕ) (c : Place) (also want : ℕ) (st : Terms → Stat
 
 pub record ClauseAt (w B B' : List ℕ) (at n left also want j m : ℕ) : Type 0 where
   pub g : Terms
-  pub ready : Ready w j
   pub on : at ≤ j
   pub few : Few m j 2
   pub rows : B' ≡ w_terms g n B

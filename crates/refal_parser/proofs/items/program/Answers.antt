@@ -10,16 +10,16 @@ use Rattle.refal_parser.proofs.items.program.Goals as goal
 pub loop-place-init : goal.loop-place-init
 unfolding size_p w_p
 loop-place-init c = let S = c.start-place.ensures in
-    (S.tokens, rw (S.begins.0, S.begins.1) (record { t = p0; ready = c.requires; few = omega arith; same = refl; rows = refl; count = refl; means = refl }))
+    (S.tokens, rw (S.begins.0, S.begins.1) (record { t = p0; few = omega arith; same = refl; rows = refl; count = refl; means = refl }))
 
 pub returns-in-Eof : goal.returns-in-Eof
 returns-in-Eof c = let I = c.loop-place.invariant in
     is_at refl I.0 (record {
       t = I.1.t;
-      few = let R = I.1.ready in let v = I.1.few in omega arith;
+      few = let R = c.loop-place.place.ready in let v = I.1.few in omega arith;
       rows = I.1.rows;
       count = I.1.count;
-      means = I.1.means ∙ items_eof _ _ I.1.ready (is_kind (rw I.0 at c.kind.ensures) c.in-Eof.is) I.1.t;
+      means = I.1.means ∙ items_eof _ _ (rw I.0 at c.loop-place.place.ready) (is_kind (rw I.0 at c.kind.ensures) c.in-Eof.is) I.1.t;
     })
 
 pub next-place-requires : goal.next-place-requires
@@ -33,18 +33,18 @@ loop-place-preserved-in-Semicolon c = let I = c.loop-place.invariant in
       I.0,
       record {
         t = I.1.t;
-        ready = rw I.0 at N.0;
         few = let v = I.1.few in omega arith;
         same = I.1.same;
         rows = I.1.rows;
         count = I.1.count;
-        means = I.1.means ∙ items_pass _ _ I.1.ready k₁₆ I.1.t;
+        means = I.1.means ∙ items_pass _ _ (rw I.0 at c.loop-place.place.ready) k₁₆ I.1.t;
       },
     )
 
 pub loop-place-smaller : goal.loop-place-smaller
 loop-place-smaller c = let I = c.loop-place.invariant in
-    let X = got (rw I.0 at c.in_ok-place-in_default.ensures) in let R = X.ready in let q = X.on in omega arith
+    let E = rw I.0 at c.in_ok-place-in_default.ensures in
+    let X = got E in let R = rw (stays E) at c.in_ok-place-in_default.place.ready in let q = X.on in omega arith
 
 pub loop-place-preserved : goal.loop-place-preserved
 loop-place-preserved c = let I = c.loop-place.invariant in
@@ -53,7 +53,6 @@ loop-place-preserved c = let I = c.loop-place.invariant in
       stays E,
       record {
         t = p_more I.1.t X.x;
-        ready = X.ready;
         few = X.few;
         same = c.item.auto.rows ∙ I.1.same;
         rows = more_items 0 _ I.1.t X.x (I.1.count ∙ sym (zero-add (size_p I.1.t))) I.1.rows X.rows;

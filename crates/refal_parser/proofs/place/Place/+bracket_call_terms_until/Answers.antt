@@ -26,7 +26,7 @@ pub bracket-end_before-to-requires : goal.bracket-end_before-to-requires
 bracket-end_before-to-requires t c = let U = got c.in_ok-end.ensures in let h = U.closed.on in omega arith
 
 pub bracket-spanned-requires : goal.bracket-spanned-requires
-bracket-spanned-requires t c = let U = got c.in_ok-end.ensures in let R = U.closed.ready in let f = U.few in omega arith
+bracket-spanned-requires t c = let U = got c.in_ok-end.ensures in let R = c.in_ok-end.end.ready in let f = U.few in omega arith
 
 pub bracket-returns : goal.bracket-returns
 bracket-returns t c = let E = rw c.next-body.ensures.1 at c.in_ok-end.ensures in
@@ -53,25 +53,25 @@ call-until-requires t c = rw (c.next-body.ensures.1, c.next-named.ensures.1) (om
 pub call-returns-in_err-end : goal.call-returns-in_err-end
 call-returns-in_err-end t c = let N = rw c.next-named.ensures.1 at c.token-name.ensures in
     let E = rw (c.next-body.ensures.1, c.next-named.ensures.1) at c.in_err-end.ensures in
-    passed _ _ c.from_residual.ensures.1 (call_no c.args.self.ready c.requires.1 c.if-left-eq0.false (is_kind N.kind c.in-Identifier.is) (not_got E))
+    passed _ _ c.from_residual.ensures.1 (call_no c.args.self.ready c.requires.1 c.if-left-eq0.false c.next-named.ensures.0 (is_kind N.kind c.in-Identifier.is) (not_got E))
 
 pub call-end_before-to-requires : goal.call-end_before-to-requires
 call-end_before-to-requires t c = let U = got c.in_ok-end.ensures in let h = U.closed.on in omega arith
 
 pub call-named-requires : goal.call-named-requires
-call-named-requires t c = let U = got c.in_ok-end.ensures in let R = U.closed.ready in let f = U.few in omega arith
+call-named-requires t c = let U = got c.in_ok-end.ensures in let R = c.in_ok-end.end.ready in let f = U.few in omega arith
 
 pub call-returns : goal.call-returns
 call-returns t c = let N = rw c.next-named.ensures.1 at c.token-name.ensures in
     let E = rw (c.next-body.ensures.1, c.next-named.ensures.1) at c.in_ok-end.ensures in
     let s = stays E in
-    is_at refl s (call_of_terms c.args.self.ready c.requires.1 c.if-left-eq0.false (is_kind N.kind c.in-Identifier.is) _ (got E)
+    is_at refl s (call_of_terms c.args.self.ready c.requires.1 c.if-left-eq0.false c.next-named.ensures.0 (is_kind N.kind c.in-Identifier.is) _ (got E)
     N.start N.len c.token-from.ensures.from (rw s at c.end_before-to.ensures) (put_as _ _ _ c.put.ensures c.named.ensures))
 
 pub terms-loop-symbol-init : goal.terms-loop-symbol-init
 unfolding size_t w_t
 terms-loop-symbol-init t c =
-    (refl, record { g = t0; ready = c.args.self.ready; on = omega arith; few = omega arith; same = refl; rows = refl; count = omega arith; first = refl; last = refl; means = λ x p. refl })
+    (refl, record { g = t0; on = omega arith; few = omega arith; same = refl; rows = refl; count = omega arith; first = refl; last = refl; means = λ x p. refl })
 
 pub terms-next-place-requires : goal.terms-next-place-requires
 terms-next-place-requires t c = let I = c.loop-symbol.invariant in
@@ -83,7 +83,7 @@ pub terms-loop-symbol-preserved-in-Ok-Some-Symbol : goal.terms-loop-symbol-prese
 terms-loop-symbol-preserved-in-Ok-Some-Symbol t c = let I = c.loop-symbol.invariant in
     let T = rw I.0 at c.token-first.ensures in
     let k : term_at c.args.self.tokens.now c.loop-symbol.place.at ≡ Symbol c.in-Ok-Some-Symbol.symbol = search rules in
-    rw c.next-place.ensures.1 (I.0, one_leaf_lem (symbol c.in-Ok-Some-Symbol.symbol) k T.from T.to c.put.auto.rows (put_as _ _ _ c.put.ensures c.symbol.ensures) I.1)
+    rw c.next-place.ensures.1 (I.0, one_leaf_lem (symbol c.in-Ok-Some-Symbol.symbol) (rw I.0 at c.loop-symbol.place.ready) k T.from T.to c.put.auto.rows (put_as _ _ _ c.put.ensures c.symbol.ensures) I.1)
 
 pub terms-next-place-requires-in-Ok-Some-Variable : goal.terms-next-place-requires-in-Ok-Some-Variable
 terms-next-place-requires-in-Ok-Some-Variable t c = let I = c.loop-symbol.invariant in
@@ -97,7 +97,7 @@ terms-loop-symbol-preserved-in-Ok-Some-Variable t c = let I = c.loop-symbol.inva
     let T = rw I.0 at c.token-first.ensures in
     let v = c.in-Ok-Some-Variable in
     let k : term_at c.args.self.tokens.now c.loop-symbol.place.at ≡ Variable v.kind v.start v.len = search rules in
-    rw c.next-place-in-Ok-Some-Variable.ensures.1 (I.0, one_leaf_lem (variable v.kind v.start v.len) k T.from T.to c.put-in-Ok-Some-Variable.auto.rows (put_as _ _ _ c.put-in-Ok-Some-Variable.ensures c.variable.ensures) I.1)
+    rw c.next-place-in-Ok-Some-Variable.ensures.1 (I.0, one_leaf_lem (variable v.kind v.start v.len) (rw I.0 at c.loop-symbol.place.ready) k T.from T.to c.put-in-Ok-Some-Variable.auto.rows (put_as _ _ _ c.put-in-Ok-Some-Variable.ensures c.variable.ensures) I.1)
 
 pub terms-returns-in_err-place-in-Ok-Some-Bracket : goal.terms-returns-in_err-place-in-Ok-Some-Bracket
 terms-returns-in_err-place-in-Ok-Some-Bracket t c = let I = c.loop-symbol.invariant in
@@ -109,7 +109,8 @@ terms-returns-in_err-place-in-Ok-Some-Call t c = let I = c.loop-symbol.invariant
 
 pub terms-loop-symbol-smaller-in-Ok-Some-Bracket : goal.terms-loop-symbol-smaller-in-Ok-Some-Bracket
 terms-loop-symbol-smaller-in-Ok-Some-Bracket t c = let I = c.loop-symbol.invariant in
-    let b = got (rw I.0 at c.in_ok-place-in-Ok-Some-Bracket.ensures) in let R = b.ready in let h = b.on in omega arith
+    let E = rw I.0 at c.in_ok-place-in-Ok-Some-Bracket.ensures in
+    let b = got E in let R = rw (stays E) at c.in_ok-place-in-Ok-Some-Bracket.place.ready in let h = b.on in omega arith
 
 pub terms-loop-symbol-preserved-in-Ok-Some-Bracket : goal.terms-loop-symbol-preserved-in-Ok-Some-Bracket
 terms-loop-symbol-preserved-in-Ok-Some-Bracket t c = let I = c.loop-symbol.invariant in
@@ -118,7 +119,8 @@ terms-loop-symbol-preserved-in-Ok-Some-Bracket t c = let I = c.loop-symbol.invar
 
 pub terms-loop-symbol-smaller : goal.terms-loop-symbol-smaller
 terms-loop-symbol-smaller t c = let I = c.loop-symbol.invariant in
-    let b = got (rw I.0 at c.in_ok-place-in-Ok-Some-Call.ensures) in let R = b.ready in let h = b.on in omega arith
+    let E = rw I.0 at c.in_ok-place-in-Ok-Some-Call.ensures in
+    let b = got E in let R = rw (stays E) at c.in_ok-place-in-Ok-Some-Call.place.ready in let h = b.on in omega arith
 
 pub terms-loop-symbol-preserved : goal.terms-loop-symbol-preserved
 terms-loop-symbol-preserved t c = let I = c.loop-symbol.invariant in
@@ -129,8 +131,10 @@ pub terms-returns-in-Err : goal.terms-returns-in-Err
 terms-returns-in-Err t c = let I = c.loop-symbol.invariant in
     let T = rw I.0 at c.token-first.ensures in
     let k : term_at c.args.self.tokens.now c.loop-symbol.place.at ≡ UnknownVariable = search rules in
-    is_no (rw I.0 at c.taken.ensures) (λ x p. I.1.means x p ∙ term_step _ _ I.1.ready _ x I.1.g _ k p)
+    is_no (rw I.0 at c.taken.ensures) (λ x p. I.1.means x p ∙ term_step _ _ (rw I.0 at c.loop-symbol.place.ready) _ x I.1.g _ k p)
 
 pub until-returns : goal.until-returns
 until-returns t c = let T = got c.in_ok-end.ensures in
-    turned (rw (stays c.in_ok-end.ensures) at c.closes.ensures) (λ j m K. until_of_terms T _ K) (λ a b k d e q. until_no T _ q)
+    let s = stays c.in_ok-end.ensures in
+    let R = rw s at c.in_ok-end.end.ready in
+    turned (rw s at c.closes.ensures) (λ j m K. until_of_terms R T _ K) (λ a b k d e q. until_no R T _ q)

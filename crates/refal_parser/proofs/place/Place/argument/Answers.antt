@@ -9,13 +9,12 @@ pub returns-in_err-end : goal.returns-in_err-end
 returns-in_err-end c = passed _ _ c.from_residual.ensures.1 (λ x st asks p. not_got c.in_err-end.ensures x (λ (f : Terms) (a e : ℕ). st (asked f a e)) asks p)
 
 pub spanned-requires : goal.spanned-requires
-spanned-requires c = let U = got c.in_ok-end.ensures in let R = U.closed.ready in let f = U.few in omega arith
+spanned-requires c = let U = got c.in_ok-end.ensures in let R = c.in_ok-end.end.ready in let f = U.few in omega arith
 
 pub returns : goal.returns
 returns c = let U = got c.in_ok-end.ensures in
     is_at refl (stays c.in_ok-end.ensures) (record {
       g = asked U.g U.closed.a U.closed.e;
-      ready = U.closed.ready;
       on = U.closed.on;
       few = U.few;
       rows = let p = put_as _ _ _ c.put.ensures c.spanned.ensures in let h = U.rows in let k = U.count in cc;

@@ -15,4 +15,4 @@ returns-then-eq c = let w = c.args.self.tokens.now in
     let at₀ = c.args.self.at in
     let k = is_kind c.kind-kind.ensures (same_kind c.if-eq.ensures) in
     let N = c.next.ensures in
-    is_at (ap (λ (p : Place). At p.tokens.now p.at p.row) N.1) refl (record { ready = N.0; next = refl; rows = refl; last = end_before_lem w at₀; means = λ st p. closes_here w at₀ _ st p k })
+    is_at (ap (λ (p : Place). At p.tokens.now p.at p.row) N.1) refl (record { next = refl; rows = refl; last = end_before_lem w at₀; means = λ st p. closes_here w at₀ _ st p k })

@@ -27,7 +27,7 @@ pub end_before-to-requires : goal.end_before-to-requires
 end_before-to-requires c = let B = got c.in_ok-end.ensures in let q = B.on in omega arith
 
 pub function-requires : goal.function-requires
-function-requires c = let B = got c.in_ok-end.ensures in let R = B.ready in let v = B.few in omega arith
+function-requires c = let B = got c.in_ok-end.ensures in let R = c.in_ok-end.end.ready in let v = B.few in omega arith
 
 pub returns : goal.returns
 returns c = let a = c.args in
@@ -39,7 +39,6 @@ returns c = let a = c.args in
     is_at refl s (record {
       v = B.v;
       e = B.e;
-      ready = B.ready;
       on = let q = B.on in omega arith;
       few = B.few;
       rows = whole_function _ _ _ _ B.v B.rows T.start T.len refl ((rw s at c.end_before-to.ensures) ∙ sym B.last) (put_as _ _ _ c.put.ensures c.function.ensures);

@@ -20,7 +20,6 @@ returns-in-Identifier c = let w = c.args.self.tokens.now in
     turned (rw T.from at c.function.ensures)
     (λ j m F. record {
       x = itemFunction (get_or w (at₀ + 4) 0) false (get_or w (at₀ + 2) 0) (get_or w (at₀ + 3) 0) F.v F.e;
-      ready = F.ready;
       on = F.on;
       few = F.few;
       rows = let h = F.rows in let k = F.count in cc;
@@ -40,7 +39,6 @@ returns-in-Identifier-kind c = let w = c.args.self.tokens.now in
     turned (rw (T.from, N.1) at c.function-in-Identifier-kind.ensures)
     (λ j m F. record {
       x = itemFunction (get_or w (at₀ + 4) 0) true (get_or w (at₀ + 6 + 2) 0) (get_or w (at₀ + 6 + 3) 0) F.v F.e;
-      ready = F.ready;
       on = let q = F.on in omega arith;
       few = F.few;
       rows = let h = F.rows in let k = F.count in cc;

@@ -21,7 +21,6 @@ returns c = let R = c.args.self.ready in
     let k₃ = is_kind T.kind c.in-Identifier.is in
     let N = c.next-end.ensures in
     rw N.1 (is_at refl refl (record {
-      ready = N.0;
       next = refl;
       count = refl;
       rows = let p = put_as _ _ _ c.put.ensures (rw N.1 at c.named.ensures) in let s = T.start in let l = T.len in cc;

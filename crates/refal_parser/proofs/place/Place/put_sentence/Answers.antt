@@ -1,5 +1,5 @@
 -- `refal_parser::place::Place::put_sentence` meets its contract: the row of a sentence, by whether a `}` stands where its `;` may.
-use Rattle.std.proofs.Common.{refl, sym, ◌∙◌, arith}
+use Rattle.std.proofs.Common.{refl, sym, ◌∙◌}
 use Rattle.refal_ast.specs.declared.kinds.TokenKind.TheVariants as kind
 use Rattle.refal_parser.proofs.TokenLaws.{not_kind, other_kind}
 use Rattle.refal_parser.proofs.Steps.{other}
