@@ -27,7 +27,8 @@ impl<'t> Place<'t> {
             let whole = end.since(from);
             whole.bare(NodeKind::ConditionBlock).put(rows, asked.row);
             whole.bare(NodeKind::Condition).put(rows, self.row);
-            return end.follows(false, TokenKind::Comma, TokenKind::Equals);
+            end.follows(false, TokenKind::Comma, TokenKind::Equals)?;
+            return Ok(end);
         }
         let (also, want) = (TokenKind::Comma, TokenKind::Equals);
         let end = asked.clause(rows, left, also, want)?;
@@ -57,7 +58,8 @@ impl<'t> Place<'t> {
         let end = asked.block(rows, left)?;
         let whole = end.since(from);
         whole.bare(NodeKind::EndingBlock).put(rows, self.row);
-        end.follows(false, TokenKind::RBrace, TokenKind::Semicolon)
+        end.follows(false, TokenKind::RBrace, TokenKind::Semicolon)?;
+        Ok(end)
     }
 
     // The row of a sentence, whose span begins at `from` and of which all but its `;` ends at the place; where the sentence ends. A

@@ -152,19 +152,14 @@ impl<'t> Place<'t> {
         Ok(end)
     }
 
-    // After terms, or after a block: one of two kinds, which is left to the caller. After terms Eof is 35 and another kind 34; after a
-    // block another kind is 35.
-    pub fn follows(
-        self,
-        terms: bool,
-        also: TokenKind,
-        want: TokenKind,
-    ) -> Result<Place<'t>, SyntaxError>
+    // Whether one of two kinds stands after terms, or after a block. After terms Eof is 35 and another kind 34; after a block another
+    // kind is 35.
+    pub fn follows(self, terms: bool, also: TokenKind, want: TokenKind) -> Result<(), SyntaxError>
         ensures { FollowsPost self.entry terms (token_code also) (token_code want) result }
     {
         let kind = self.kind();
         if kind == also || kind == want {
-            return Ok(self);
+            return Ok(());
         }
         if terms && kind != TokenKind::Eof {
             return Err(self.taken(Reason::NoTerm, None));
@@ -192,6 +187,7 @@ impl<'t> Place<'t> {
             next: end.row,
         };
         spanless.bare(NodeKind::Terms).put(rows, self.row);
-        end.follows(true, also, want)
+        end.follows(true, also, want)?;
+        Ok(end)
     }
 }
