@@ -42,6 +42,7 @@ pub fn digits(src: &[u8], at: usize) -> Whole
     ensures within { result.end ≤ length src.now }
     ensures worth { result.worth ≡ macrodigit (drop at src.now) }
 {
+    // By index: `run_end` and a fold over the run, which proves, reads literals at three quarters of the speed and numbers at four fifths.
     let mut end = at;
     let mut worth = Some(0u32);
     while end < src.len() && src[end].is_ascii_digit() {
