@@ -127,6 +127,7 @@ fn lex(src: &[u8], rows: &mut [u32]) -> Result<usize, Refusal>
             rest.eof().put(rows, c.row);
             return Ok(c.row + 1);
         };
+        // No scan's answer but a cursor, so `?`, which makes the fault a refusal.
         c = put_next(start, c.row, rows)?;
     }
 }
