@@ -53,23 +53,16 @@ fn white_len(src: &[u8]) -> usize
         .map_or(0, |c| c.len)
 }
 
-// The end of the block comment at the front, if it has one. By index, since the byte before each is looked at too.
+// The end of the block comment at the front, if it has one.
 fn close(src: &[u8]) -> Option<usize>
     requires { 2 ≤ length src.now }
     ensures told { close_told result ≡ close_to false 2 (drop 2 src.now) }
     ensures within { IfSome result (λ n. (1 ≤ n) × (n ≤ length src.now)) }
 {
-    let mut i = 2;
-    let mut star = false;
-    while i < src.len() {
-        let b = src[i];
-        i += 1;
-        if star && b == b'/' {
-            return Some(i);
-        }
-        star = b == b'*';
-    }
-    None
+    src[2..]
+        .windows(2)
+        .position(|pair| matches!(pair, b"*/"))
+        .map(|i| i + 4)
 }
 
 // One space, or none, at the front: how many bytes.
