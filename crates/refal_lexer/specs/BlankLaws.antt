@@ -3,7 +3,6 @@ use mir.Val.{bool_byte}
 use Prim.Native.Nat.{ℕ, suc, ◌+◌, ◌<◌, ◌≤◌, zero, ◌-◌}
 use Rattle.std.proofs.Common.{lt-ltb, add-zero, arith, true≢false, ap, ◌∙◌, sym, ap₂, subst, drop_of_length-le, length-drop, drop-cons, drop-drop, take_all}
 use Rattle.std.proofs.Math.Decide.{dec_le}
-use Rattle.std.proofs.Math.Numerals.{add-one}
 use mathlib.Core.List.{List, [], ◌∷◌}
 use Rattle.std.specs.Prelude.{Bool, true, ◌&&◌, ◌≡◌, refl, eqb, length, take}
 use Rattle.std.proofs.Math.Bool.{false}
@@ -65,20 +64,6 @@ module _ (s : List ℕ) (at i : ℕ) (l : Bool) (h : i < length s) where
       let g : suc i + k ≡ i + suc k = omega arith in
       sym (white_here ∙ rw (sym e) (white_skip k (suc (at + i)) (line_after (get_or s i 0) (at + i) l) (drop (suc i) s) (omega arith)
       ∙ ap₂ (λ (x : ℕ) (y : List ℕ). whites 0 x (line_after (get_or s i 0) (at + i) l) y) f (drop-drop k (suc i) s ∙ ap (λ (x : ℕ). drop x s) g)))
-
--- ---- the end of a block comment
-module _ (s : List ℕ) (star : Bool) (i : ℕ) where
-  pub close_end : length s ≤ i → Bare true ≡ close_to star i (drop i s)
-  unfolding close_to
-  close_end h = rw (drop_of_length-le s h)
-
-  pub close_here : i < length s → star && eqb (get_or s i 0) 47 ≡ true → Long (i + 1) ≡ close_to star i (drop i s)
-  unfolding close_to
-  close_here h e = rw (drop-cons s i 0 h, e)
-
-  pub close_step : i < length s → star && eqb (get_or s i 0) 47 ≡ false → close_to (eqb (get_or s i 0) 42) (i + 1) (drop (i + 1) s) ≡ close_to star i (drop i s)
-  unfolding close_to
-  close_step h e = rw (drop-cons s i 0 h, e, add-one i)
 
 -- ---- a comment has a byte or more, and lies within
 abbrev In : ℕ → Comment → Type 0

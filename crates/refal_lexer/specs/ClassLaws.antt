@@ -1,8 +1,6 @@
 -- Laws of classes: what a class says of its byte, and the tests that the table answers.
-use Rattle.std.specs.Prelude.{ℕ, zero, suc, ◌<◌, ◌≤◌, Bool, true, false, not, ◌&&◌, ◌||◌, ◌≡◌, refl, T, leb, ltb, eqb}
-use Rattle.std.proofs.Common.{le-leb, ne_eqb, eqb-true, arith, true≢false, ◌∙◌, sym, subst}
-use Rattle.std.proofs.lemmas.Bool.{lt-leb}
-use Rattle.std.proofs.Math.Decide.{dec_le}
+use Rattle.std.specs.Prelude.{ℕ, zero, suc, ◌<◌, Bool, true, false, not, ◌&&◌, ◌||◌, ◌≡◌, refl, T, leb, ltb, eqb}
+use Rattle.std.proofs.Common.{eqb-true, arith, true≢false, sym}
 use Rattle.refal_rows.specs.Tests.{each_below}
 use Rattle.refal_text.specs.Pick.{split}
 use Rattle.refal_text.specs.White.{white_space}
@@ -59,21 +57,12 @@ class_view b =
     split (ClassIs b) (letter b || eqb b 95) _ _ is_other (λ _.
     split (ClassIs b) (ltb 0 (single_kind b)) _ _ is_single (λ _. is_none)))))))))))))
 
-of_digit : (b : ℕ) → ClassIs b 22 → digit b ≡ true
-of_digit b (is_digit h) = h
-
-pub class_digit : (b : ℕ) → class_of b ≡ 22 → digit b ≡ true
-class_digit b e = of_digit b (subst (ClassIs b) e (class_view b))
-
 quote_some : (b : ℕ) → eqb b 39 || eqb b 34 ≡ true → 0 < b
 quote_some zero h = absurd (true≢false (sym h))
 quote_some (suc b) h = omega arith
 
 of_quote : (b : ℕ) → ClassIs b 3 → 0 < b
 of_quote b (is_quote h) = quote_some b h
-
-pub class_quote : (b : ℕ) → class_of b ≡ 3 → 0 < b
-class_quote b e = of_quote b (subst (ClassIs b) e (class_view b))
 
 -- ---- tests, computed at each byte
 same : Bool → Bool → Bool
@@ -96,22 +85,6 @@ name_class b h = same_is _ _ (each_below (λ (k : ℕ). same (leb 20 (class_of k
 pub blank_white : (b : ℕ) → b < 128 → blank b ≡ white_space b
 unfolding same
 blank_white b h = same_is _ _ (each_below (λ (k : ℕ). same (blank k) (white_space k)) 128 tt b h)
-
-blank_low : (b : ℕ) → blank b ≡ true → b < 128
-blank_low b h = go (dec_le 128 b)
-  where
-    go : Dec (128 ≤ b) → b < 128
-    go (no l) = omega arith
-    go (yes l) =
-        let z : blank b ≡ false = simp (lt-leb b 13 (omega arith), ne_eqb b 32 (λ e. absurd (omega arith)), le-leb 9 b (omega arith)) in
-        let w : true ≡ false = sym h ∙ z in
-        absurd (true≢false w)
-
--- the class of white space of one byte
-pub blank_class : (b : ℕ) → blank b ≡ true → class_of b ≡ 2
-blank_class b h =
-    let l = blank_low b h in
-    simp (lt-leb 128 b l, h)
 
 -- the class of quotes
 pub quote_class : (b : ℕ) → eqb (class_of b) c_quote ≡ true → eqb b 39 || eqb b 34 ≡ true

@@ -1,11 +1,11 @@
 -- Laws of a loop that puts rows: what a turn does, and what is left at its end.
 use Rattle.std.specs.Prelude.{ℕ, ◌+◌, List, ◌≡◌, refl, length}
-use Rattle.std.proofs.Common.{zero-add, add-one, arith, ap, ◌∙◌, sym, subst, length-append}
+use Rattle.std.proofs.Common.{zero-add, arith, ap, ◌∙◌, sym, subst, length-append}
 use Rattle.refal_ast.specs.Answers.{refusal, Answer, Done, Refused}
 use Rattle.refal_ast.specs.Tokens.{Token, token, words}
 use Rattle.refal_rows.specs.Rows.{put_row}
 use Rattle.refal_lexer.specs.Puts.{put_tokens, put_append}
-use Rattle.refal_lexer.specs.Lex.{Stop, Out, more, more_all, stop_bad, eof_at, stopped, stop_answer}
+use Rattle.refal_lexer.specs.Lex.{Stop, Out, more_all, stop_bad, eof_at, stopped, stop_answer}
 
 -- ---- a loop that puts rows: what is still to come from here, o, with n rows put and the words m, leads to what came of all, o₀ and m₀
 pub record Leads (o o₀ : Out) (m m₀ : List ℕ) (n : ℕ) : Type 0 where
@@ -18,11 +18,6 @@ leads_start o m = record { stop = refl; count = zero-add _; words = refl }
 
 pub leads_on : (o p o₀ : Out) (m m₀ : List ℕ) (n : ℕ) → o ≡ p → Leads o o₀ m m₀ n → Leads p o₀ m m₀ n
 leads_on o p o₀ m m₀ n e h = subst (λ (q : Out). Leads q o₀ m m₀ n) e h
-
-pub leads_row : (o p o₀ : Out) (t : Token) (m m' m₀ : List ℕ) (n : ℕ) → o ≡ more t p → m' ≡ put_row 6 m n (words t) → Leads o o₀ m m₀ n → Leads p o₀ m' m₀ (n + 1)
-leads_row o p o₀ t m m' m₀ n e f h =
-    let g : Leads (more t p) o₀ m m₀ n = leads_on o (more t p) o₀ m m₀ n e h in
-    record { stop = g.stop; count = omega (arith, g.count); words = rw (f, add-one) g.words }
 
 pub leads_rows : (o p o₀ : Out) (ts : List Token) (m m' m₀ : List ℕ) (n k : ℕ) → o ≡ more_all ts p → m' ≡ put_tokens m n ts → k ≡ n + length ts → Leads o o₀ m m₀ n → Leads p o₀ m' m₀ k
 leads_rows o p o₀ ts m m' m₀ n k e f i h =

@@ -210,9 +210,6 @@ pub record Fills (ts ts₀ : List Tok) (m m₀ : List ℕ) (n n₀ : ℕ) : Type
   pub count : n + length ts ≡ n₀ + length ts₀
   pub words : put_tokens m n ts ≡ put_tokens m₀ n₀ ts₀
 
-pub fills_start : (ts : List Tok) (m : List ℕ) (n : ℕ) → Fills ts ts m m n n
-fills_start ts m n = record { count = refl; words = refl }
-
 pub fills_row : (ts us ts₀ : List Tok) (t : Tok) (m m' m₀ : List ℕ) (n n₀ : ℕ) → ts ≡ t ∷ us → m' ≡ put_row 6 m n (words t) → Fills ts ts₀ m m₀ n n₀ → Fills us ts₀ m' m₀ (n + 1) n₀
 fills_row ts us ts₀ t m m' m₀ n n₀ e f h =
     let g : Fills (t ∷ us) ts₀ m m₀ n n₀ = subst (λ (x : List Tok). Fills x ts₀ m m₀ n n₀) e h in

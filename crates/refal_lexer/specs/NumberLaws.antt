@@ -1,13 +1,12 @@
 -- Laws of numbers.
-use Rattle.std.specs.Prelude.{ℕ, zero, suc, ◌+◌, ◌-◌, ◌<◌, ◌≤◌, ◌*◌, List, [], ◌∷◌, Bool, true, false, ◌&&◌, ◌≡◌, refl, leb, ltb, eqb, length, drop, get_or, Option, Some, None, option_and_then}
-use Rattle.std.proofs.Common.{le-leb, eq-eqb, ne_eqb, add-zero, le_refl, add-one, arith, true≢false, ap, ap₂, ◌∙◌, sym, drop_of_length-le, drop-cons, drop-drop}
+use Rattle.std.specs.Prelude.{ℕ, suc, ◌+◌, ◌-◌, ◌<◌, ◌≤◌, ◌*◌, List, [], ◌∷◌, Bool, true, false, ◌&&◌, ◌≡◌, refl, leb, ltb, length, drop, get_or, Option, Some, None, option_and_then}
+use Rattle.std.proofs.Common.{le-leb, eq-eqb, ne_eqb, add-zero, le_refl, add-one, arith, true≢false, ap, ◌∙◌, sym, drop_of_length-le, drop-cons}
 use Rattle.std.proofs.lemmas.Bool.{lt-leb}
 use Rattle.std.proofs.Math.Decide.{dec_le}
 use Rattle.refal_rows.specs.Tests.{and_right}
 use Rattle.refal_text.specs.Pick.{pick, split}
-use Rattle.refal_text.specs.Span.{span}
 use Rattle.refal_lexer.specs.Classes.{digit, sign}
-use Rattle.refal_lexer.specs.Numbers.{value, macrodigit, ends, digits_at, sign_bytes, part, point_at, exponent_at, whole_scan, number_of, digits_end, number_scan, Part}
+use Rattle.refal_lexer.specs.Numbers.{value, macrodigit, ends, sign_bytes, part, point_at, exponent_at, whole_scan, number_of, digits_end, number_scan, Part}
 use Rattle.refal_lexer.specs.BlankLaws.{nonzero_in}
 use Rattle.refal_lexer.specs.Scans.{Scan, Token, Bad}
 
@@ -94,9 +93,6 @@ pub counted_step : (v : Option ℕ) (s : List ℕ) (i : ℕ) → i < length s �
 counted_step v s i h e = rw (drop-cons s i 0 h, e, add-one i)
 
 -- ---- the part at i that a mark begins
-eqb_sum : (a n : ℕ) → eqb (a + n) a ≡ eqb n 0
-eqb_sum a zero = eq-eqb (a + 0) a (add-zero a)
-eqb_sum a (suc n) = ne_eqb (a + suc n) a (λ e. omega arith) ∙ sym (ne_eqb (suc n) 0 (λ e. omega arith))
 
 -- the bytes of a sign, by the byte b at i
 pub sign_here : (signed : Bool) (s : List ℕ) (i b : ℕ) → b ≡ get_or s i 0 → signed && sign b ≡ true → (i < length s) × (i + 1 ≡ i + sign_bytes signed (drop i s))
@@ -115,15 +111,6 @@ sign_none signed s i b e t = go (dec_le (suc i) (length s))
 pub sign_le : (signed : Bool) (t : List ℕ) → sign_bytes signed t ≤ length t
 sign_le signed [] = le_refl 0
 sign_le signed (b ∷ t) = split (λ (n : ℕ). n ≤ suc (length t)) (signed && sign b) 1 0 (λ _. omega arith) (λ _. omega arith)
-
-pub part_here : (mark : ℕ) (signed : Bool) (s : List ℕ) (i first end : ℕ) (bare : Bool) → i < length s → get_or s i 0 ≡ mark → first ≡ i + 1 + sign_bytes signed (drop (i + 1) s)
-    → end ≡ first + span digit (drop first s) → bare ≡ eqb end first → ends end bare ≡ part mark signed i (drop i s)
-part_here mark signed s i first end bare h e f g k =
-    let n = sign_bytes signed (drop (i + 1) s) in
-    let d : drop first s ≡ drop n (drop (i + 1) s) = ap (λ (j : ℕ). drop j s) f ∙ sym (drop-drop n (i + 1) s) in
-    ap₂ ends g (k ∙ ap (λ (j : ℕ). eqb j first) g ∙ eqb_sum first (span digit (drop first s)))
-    ∙ ap₂ (λ (j : ℕ) (t : List ℕ). digits_at j t) f d
-    ∙ sym (rw (drop-cons s i 0 h, eq-eqb _ _ e, ← add-one i) refl)
 
 pub part_none : (mark : ℕ) (signed : Bool) (s : List ℕ) (i : ℕ) → (get_or s i 0 ≡ mark → ⊥) → ends i false ≡ part mark signed i (drop i s)
 part_none mark signed s i e = go (dec_le (suc i) (length s))

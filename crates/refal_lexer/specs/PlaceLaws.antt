@@ -1,6 +1,6 @@
 -- Where tokens stand: every scan starts at its offset, ends past it and within the bytes, and a token's text lies within its span.
 use Rattle.std.specs.Prelude.{ℕ, zero, suc, ◌+◌, ◌<◌, ◌≤◌, List, [], ◌∷◌, Bool, true, false, ◌||◌, ◌≡◌, refl, leb, ltb, eqb, length, drop, get_or}
-use Rattle.std.proofs.Common.{arith, true≢false, subst, ap, sym, ◌∙◌, length-drop}
+use Rattle.std.proofs.Common.{arith, true≢false, ap, sym, ◌∙◌, length-drop}
 use Rattle.refal_text.specs.Pick.{split}
 use Rattle.refal_text.specs.Span.{span}
 use Rattle.refal_text.specs.SpanLaws.{span_le, span_some}
@@ -123,23 +123,6 @@ placed_class at b s k is_none = (refl, omega arith, omega arith)
 
 pub scan_placed : (at b : ℕ) (s : List ℕ) → Placed at (at + suc (length s)) (class_scan (class_of b) at (b ∷ s))
 scan_placed at b s = placed_class at b s (class_of b) (class_view b)
-
--- ---- what the code found of class k, at the front of s
-abbrev pub Fits : ℕ → Scan → Type 0
-Fits n (Token kind detail text len start end) = (text ≤ n) × (len ≤ n) × (start ≤ n) × (end ≤ n)
-Fits n (Bad number start end) = Unit {0}
-
-fits : (at n : ℕ) (x : Scan) → Placed at n x → Fits n x
-fits at n (Token kind detail text len start end) p = go p.0 p.1 p.2 p.3
-  where
-    go : {t l : ℕ} → start ≡ at → at < end → end ≤ n → TextIn at end t l → (t ≤ n) × (l ≤ n) × (start ≤ n) × (end ≤ n)
-    go a b c text_none = (omega arith, omega arith, omega arith, c)
-    go a b c (text_in x y) = (omega arith, omega arith, omega arith, c)
-fits at n (Bad number start end) p = tt
-
-pub token_fits : (s : List ℕ) (at k : ℕ) (r x : Scan) → 0 < length s → k ≡ class_of (get_or s 0 0) → r ≡ class_scan k at s → r ≡ x → Fits (at + length s) x
-token_fits [] at k r x h e f g = absurd (omega arith)
-token_fits (b ∷ s) at k r x h e f g = fits at (at + suc (length s)) x (subst (Placed at (at + suc (length s))) (sym (f ∙ ap (λ (c : ℕ). class_scan c at (b ∷ s)) e) ∙ g) (scan_placed at b s))
 
 -- ---- the tokens found end past their start and within, and are no more than their bytes
 abbrev pub FoundIn : ℕ → ℕ → Found → Type 0

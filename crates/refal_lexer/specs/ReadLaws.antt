@@ -1,17 +1,13 @@
 -- Laws of the answer: the ways out of `read`, and what each leaves in the words.
-use Rattle.std.specs.Prelude.{ℕ, ◌*◌, ◌/◌, ◌<◌, ◌≤◌, List, ◌++◌, ◌≡◌, refl, length, drop, replicate}
+use Rattle.std.specs.Prelude.{ℕ, ◌*◌, ◌/◌, ◌<◌, ◌≤◌, List, ◌++◌, ◌≡◌, refl, length, drop}
 use Rattle.std.proofs.Common.{le-leb, lt-ltb, le-ltb, arith, ap, ◌∙◌, sym}
 use Rattle.refal_text.specs.Utf8.{well_to}
-use Rattle.refal_ast.specs.Answers.{refusal, Answer, Refusal, Done, Refused}
+use Rattle.refal_ast.specs.Answers.{refusal, Answer, Done, Refused}
 use Rattle.refal_ast.specs.Tokens.{flat}
 use Rattle.refal_lexer.specs.Lex.{Stop, fine, bad, Out, stopped, stop_answer}
 use Rattle.refal_lexer.specs.Source.{source}
 use Rattle.refal_lexer.specs.Puts.{put_tokens, put_flat}
 use Rattle.refal_lexer.specs.Read.{fitted, read_answer, kept, read_rows}
-
-pub read_refused : (s m m' : List ℕ) (r : Refusal) (a : Answer) → a ≡ Refused r → read_answer s (length m) ≡ Refused r → m' ≡ replicate (length m) 0
-    → (a ≡ read_answer s (length m)) × (m' ≡ read_rows s m)
-read_refused s m m' r a b e f = (b ∙ sym e, f ∙ sym (ap (λ (x : Answer). kept x (source s).tokens m) e))
 
 -- the number of tokens is what a good end answers
 count_is : (n : ℕ) (o : Out) → Done n ≡ stop_answer o → length o.tokens ≡ n
@@ -35,9 +31,6 @@ read_done s m m' n d e l f =
 
 pub answer_long : (s : List ℕ) (w : ℕ) → 16777216 < length s → read_answer s w ≡ Refused (refusal 1 0 0 0 0 0)
 answer_long s w h = rw (lt-ltb _ _ h)
-
-pub answer_ill : (s : List ℕ) (w k : ℕ) → length s ≤ 16777216 → k ≡ well_to 0 s → k < length s → read_answer s w ≡ Refused (refusal 2 0 0 k k 0)
-answer_ill s w k h e l = rw (le-ltb _ _ h, ← e, lt-ltb _ _ l)
 
 pub answer_lexed : (s : List ℕ) (w k : ℕ) (a b : Answer) → length s ≤ 16777216 → k ≡ well_to 0 s → length s ≤ k → a ≡ stop_answer (source s) → a ≡ b → read_answer s w ≡ fitted b (w / 6)
 answer_lexed s w k a b h i l e f = rw (le-ltb _ _ h, ← i, le-ltb _ _ l, ← e, f)

@@ -3,7 +3,7 @@ use Rattle.std.specs.Prelude.{ℕ, ◌+◌, Bool, false, List, length, ltb, eqb}
 use Rattle.refal_ast.specs.Answers.{refusal, Answer, Done, Refused}
 use Rattle.refal_lexer.specs.Puts.{put_tokens}
 use Rattle.refal_lexer.specs.declared.Cursor.{Cursor}
-use Rattle.refal_lexer.specs.Scans.{Blank, Past, Open, Step, On, Stop, Scan}
+use Rattle.refal_lexer.specs.Scans.{Step, On, Stop, Scan}
 use Rattle.refal_text.specs.Pick.{pick}
 use Rattle.refal_lexer.specs.Literals.{Lit, closed, newline, unclosed}
 use Rattle.refal_lexer.specs.Tokens.{Found, found, refused, one}
@@ -23,10 +23,6 @@ rows_of (refused number start end) rows row = rows
 abbrev pub answer_of : Step → Answer
 answer_of (On c) = Done c.row
 answer_of (Stop number start end) = Refused (refusal number 0 0 start end 0)
-
-abbrev pub opened_of : Blank → Answer
-opened_of (Past at line) = Done at
-opened_of (Open start end) = Refused (refusal 24 0 0 start end 0)
 
 abbrev pub stop_of : Scan → ℕ → Step
 stop_of s row = step_of (one s) row

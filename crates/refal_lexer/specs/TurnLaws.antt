@@ -1,5 +1,5 @@
 -- Laws of the loop: blanks lead to tokens, a refusal or the end.
-use Rattle.std.specs.Prelude.{ℕ, zero, suc, ◌+◌, ◌-◌, ◌<◌, ◌≤◌, Bool, true, false, List, [], ◌∷◌, ◌≡◌, refl, length, take, drop, get_or}
+use Rattle.std.specs.Prelude.{ℕ, zero, suc, ◌+◌, ◌-◌, ◌<◌, ◌≤◌, Bool, true, false, List, [], ◌∷◌, ◌≡◌, refl, length, drop, get_or}
 use Rattle.std.proofs.Common.{add-zero, arith, ap, ap₂, sym, subst, ◌∙◌, length-drop, drop_of_length-le, drop-cons, drop-drop}
 use Rattle.refal_ast.specs.Answers.{Answer}
 use Rattle.refal_lexer.specs.Carried.{line_after, stop_at, go_on, blanks_from, lex_by}
@@ -13,7 +13,7 @@ use Rattle.refal_lexer.specs.declared.Cursor.{Cursor}
 use Rattle.refal_lexer.specs.Tokens.{Found, found, refused, token_at}
 use Rattle.refal_lexer.specs.Source.{on_found}
 use Rattle.refal_lexer.specs.Steps.{cursor, step_of, rows_of, answer_of}
-use Rattle.refal_lexer.specs.BlankLaws.{comment_in, rest_is}
+use Rattle.refal_lexer.specs.BlankLaws.{comment_in}
 use Rattle.refal_lexer.specs.PlaceLaws.{FoundIn, found_in}
 
 -- what stands at p, where no blank does
@@ -76,9 +76,29 @@ lex_skip zero at line s h = rw (add-zero at) refl
 lex_skip (suc k) at line [] h = absurd (omega arith)
 lex_skip (suc k) at line (b ∷ s) h = lex_skip k (suc at) line s (omega arith) ∙ ap (λ (j : ℕ). lex_by 0 j line (drop k s)) (omega arith)
 
-module _ (s : List ℕ) (at : ℕ) (line : Bool) (w : Blank) (h : at ≤ length s) (e : w ≡ blanks_from 0 at line (take (length s - at) (drop at s))) where
+-- the rest t of s, at x, is that from `at` on
+abbrev pub RestAt : List ℕ → ℕ → ℕ → List ℕ → Type 0
+RestAt s at x t = (x ≡ at) × (t ≡ drop (at - 0) s)
+
+rest_drop : (s : List ℕ) (at x : ℕ) (t : List ℕ) → RestAt s at x t → t ≡ drop at s
+rest_drop s at x t r = r.1 ∙ ap (λ (n : ℕ). drop n s) (omega arith)
+
+-- where a rest is not empty, what starts there is what stands in s
+pub start_at : (s : List ℕ) (at x : ℕ) (t : List ℕ) → RestAt s at x t → (y : ℕ) (u : List ℕ) → (u ≡ t) × (y ≡ x) → 0 < length u → (at < length s) × (token_at y u ≡ token_at at (drop at s))
+start_at s at x t r y u e h =
+    let f : u ≡ drop at s = e.0 ∙ rest_drop s at x t r in
+    let l : length u ≡ length s - at = ap length f ∙ length-drop at s in
+    (omega arith, ap₂ token_at (e.1 ∙ r.0) f)
+
+-- where it is, the source ends
+pub end_at : (s : List ℕ) (at x : ℕ) (t : List ℕ) → RestAt s at x t → length t ≡ 0 → length s ≤ at
+end_at s at x t r h =
+    let l : length t ≡ length s - at = ap length (rest_drop s at x t r) ∙ length-drop at s in
+    omega arith
+
+module _ (s : List ℕ) (at : ℕ) (line : Bool) (w : Blank) (h : at ≤ length s) (x : ℕ) (t : List ℕ) (r : RestAt s at x t) (e : w ≡ blanks_from 0 x line t) where
   led : (x : Blank) → w ≡ x → Led (lex_by 0 at line (drop at s)) 0 at (drop at s) x
-  led x f = subst (Led (lex_by 0 at line (drop at s)) 0 at (drop at s)) (ap (blanks_from 0 at line) (sym (rest_is at s)) ∙ sym e ∙ f) (leads_blanks 0 at line (drop at s) (omega arith))
+  led x f = subst (Led (lex_by 0 at line (drop at s)) 0 at (drop at s)) (sym (e ∙ ap₂ (λ (n : ℕ) (y : List ℕ). blanks_from 0 n line y) (r.0) (rest_drop s at _ _ r)) ∙ f) (leads_blanks 0 at line (drop at s) (omega arith))
 
   pub blanks_never : (start end : ℕ) → w ≡ Open start end → lex_by 0 at line (drop at s) ≡ stop_bad 24 start end
   blanks_never start end f = led (Open start end) f

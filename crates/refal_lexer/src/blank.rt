@@ -1,4 +1,4 @@
-// White space and comments: each scan gets the bytes from its start on, that offset and the flag.
+// White space and comments: each scan gets the flag, whether a star would start a comment.
 ghost use Rattle.std.specs.Prelude.{◌≡◌, IfOk, IfErr, IfSome, false, ◌+◌, ◌≤◌, ◌<◌, length, drop};
 ghost use Rattle.refal_lexer.specs.Carried.{line_after};
 ghost use Rattle.refal_lexer.specs.Blanks.{white_len, close_to, comment_at};
@@ -10,6 +10,7 @@ ghost use Rattle.refal_ast.specs.Answers.{refusal};
 
 use crate::class::{Class, is_blank};
 use crate::runs::run_end;
+use crate::start::{Rest, Start};
 use refal_ast::answers::{Reason, Refusal, Span};
 
 // A place of the source, and whether a star would start a comment there.
@@ -52,78 +53,16 @@ fn white_len(src: &[u8]) -> usize
         .map_or(0, |c| c.len)
 }
 
-// Past the white space at the front of src, whose offset is `at`.
-fn white(src: &[u8], at: usize, line: bool) -> Place
-    requires { at + length src.now ≤ 16777216 }
-    ensures { (result ≡ whites 0 at line src.now) × (at ≤ result.at) × (result.at ≤ at + length src.now) }
-{
-    // By index, since a character has one byte to four.
-    let mut i = 0;
-    let mut line = line;
-    while i < src.len() {
-        let n = white_len(&src[i..]);
-        if n == 0 {
-            break;
-        }
-        line = line_after(src[i], at + i, line);
-        i += n;
-    }
-    Place { at: at + i, line }
-}
-
-// The end of the block comment at the front, if it has one. By index, since the byte before each is looked at too.
+// The end of the block comment at the front, if it has one.
 fn close(src: &[u8]) -> Option<usize>
     requires { 2 ≤ length src.now }
     ensures told { close_told result ≡ close_to false 2 (drop 2 src.now) }
     ensures within { IfSome result (λ n. (1 ≤ n) × (n ≤ length src.now)) }
 {
-    let mut i = 2;
-    let mut star = false;
-    while i < src.len() {
-        let b = src[i];
-        i += 1;
-        if star && b == b'/' {
-            return Some(i);
-        }
-        star = b == b'*';
-    }
-    None
-}
-
-// How many bytes the comment at the front has, if one is there; a star starts one if `line` says so.
-fn comment(src: &[u8], at: usize, line: bool) -> Result<Option<usize>, Unclosed>
-    requires { (0 < length src.now) × (at + length src.now ≤ 16777216) }
-    ensures told { comment_told result ≡ comment_at line src.now }
-    ensures within { IfOk result (λ found. IfSome found (λ n. (1 ≤ n) × (n ≤ length src.now))) }
-    ensures open { IfErr result (λ comment. (comment.0.start ≡ at) × (comment.0.end ≡ at + length src.now)) }
-{
-    let b = src[0];
-    if b == b'*' && line {
-        return Ok(Some(run_end(src, 1, |b| b != b'\n')));
-    }
-    if b == b'/' && refal_text::byte(src, 1) == b'*' {
-        return close(src).map(Some).ok_or(Unclosed(Span {
-            start: at,
-            end: at + src.len(),
-        }));
-    }
-    Ok(None)
-}
-
-// Repeat: white space, a star comment, a block comment.
-fn repeat(src: &[u8], at: usize, line: bool) -> Result<Place, Unclosed>
-    requires { at + length src.now ≤ 16777216 }
-    ensures { blank_told result ≡ blanks_from 0 at line src.now }
-{
-    let mut place = white(src, at, line);
-    while place.at - at < src.len() {
-        let i = place.at - at;
-        let Some(n) = comment(&src[i..], place.at, place.line)? else {
-            break;
-        };
-        place = white(&src[i + n..], place.at + n, false);
-    }
-    Ok(place)
+    src[2..]
+        .windows(2)
+        .position(|pair| matches!(pair, b"*/"))
+        .map(|i| i + 4)
 }
 
 // One space, or none, at the front: how many bytes.
@@ -140,19 +79,75 @@ fn line_behind(n: usize, at: usize, line: bool) -> bool
     line && (n == 0 || at != 0)
 }
 
-// White space and comments. Most tokens have one space before them, or none: that costs no branch, and then the class of a byte tells that
-// there are no more blanks.
-pub fn blanks(src: &[u8], at: usize, line: bool) -> Result<Place, Unclosed>
-    requires { at + length src.now ≤ 16777216 }
-    ensures { blank_told result ≡ blanks_from 0 at line src.now }
-{
-    let n = space_len(src);
-    let place = Place {
-        at: at + n,
-        line: line_behind(n, at, line),
-    };
-    if !Class::of(refal_text::byte(src, n)).begins_blank() {
-        return Ok(place);
+impl Start<'_> {
+    // How many bytes the comment here has, if one is here; a star starts one if `line` says so.
+    fn comment(self, line: bool) -> Result<Option<usize>, Unclosed>
+        ensures told { comment_told result ≡ comment_at line self.entry.src.now }
+        ensures within { IfOk result (λ found. IfSome found (λ n. (1 ≤ n) × (n ≤ length self.entry.src.now))) }
+        ensures open { IfErr result (λ comment. (comment.0.start ≡ self.entry.at) × (comment.0.end ≡ self.entry.at + length self.entry.src.now)) }
+    {
+        let b = self.first();
+        if b == b'*' && line {
+            return Ok(Some(run_end(self.src, 1, |b| b != b'\n')));
+        }
+        if b == b'/' && refal_text::byte(self.src, 1) == b'*' {
+            return close(self.src)
+                .map(Some)
+                .ok_or(Unclosed(self.span(self.src.len())));
+        }
+        Ok(None)
     }
-    repeat(&src[n..], place.at, place.line)
+}
+
+impl Rest<'_> {
+    // Past the white space.
+    fn white(self, line: bool) -> Place
+        ensures { (result ≡ whites 0 self.entry.at line self.entry.src.now) × (self.entry.at ≤ result.at) × (result.at ≤ self.entry.at + length self.entry.src.now) }
+    {
+        // By index, since a character has one byte to four.
+        let mut i = 0;
+        let mut line = line;
+        while i < self.src.len() {
+            let n = white_len(&self.src[i..]);
+            if n == 0 {
+                break;
+            }
+            line = line_after(self.src[i], self.at + i, line);
+            i += n;
+        }
+        Place {
+            at: self.at + i,
+            line,
+        }
+    }
+
+    // Repeat: white space, a star comment, a block comment.
+    fn repeat(self, line: bool) -> Result<Place, Unclosed>
+        ensures { blank_told result ≡ blanks_from 0 self.entry.at line self.entry.src.now }
+    {
+        let mut place = self.white(line);
+        while let Some(start) = self.from(place.at).start() {
+            let Some(n) = start.comment(place.line)? else {
+                break;
+            };
+            place = self.from(place.at + n).white(false);
+        }
+        Ok(place)
+    }
+
+    // White space and comments. Most tokens have one space before them, or none: that costs no branch, and then the class of a byte
+    // tells that there are no more blanks.
+    pub fn blanks(self, line: bool) -> Result<Place, Unclosed>
+        ensures { blank_told result ≡ blanks_from 0 self.entry.at line self.entry.src.now }
+    {
+        let n = space_len(self.src);
+        let place = Place {
+            at: self.at + n,
+            line: line_behind(n, self.at, line),
+        };
+        if !Class::of(refal_text::byte(self.src, n)).begins_blank() {
+            return Ok(place);
+        }
+        self.from(place.at).repeat(place.line)
+    }
 }

@@ -9,9 +9,8 @@ ghost use Rattle.refal_ast.specs.Tokens.{token_width, words};
 ghost use Rattle.refal_ast.specs.Told.{told, reason_code, refusal_told};
 ghost use Rattle.refal_lexer.specs.Lex.{stop_answer};
 ghost use Rattle.refal_lexer.specs.Puts.{put_tokens};
-ghost use Rattle.refal_lexer.specs.Scans.{Bad};
 ghost use Rattle.refal_lexer.specs.Tokens.{token_at};
-ghost use Rattle.refal_lexer.specs.Told.{fault_told, step_told};
+ghost use Rattle.refal_lexer.specs.Told.{step_told};
 ghost use Rattle.refal_lexer.specs.Steps.{cursor, step_of, rows_of};
 ghost use Rattle.refal_lexer.specs.Source.{source};
 ghost use Rattle.refal_lexer.specs.Read.{read_answer, read_rows};
@@ -21,10 +20,12 @@ pub mod class;
 mod literal;
 pub mod number;
 mod runs;
+mod start;
 mod token;
 mod word;
 
 use crate::class::Class;
+use crate::start::{Rest, Start};
 use refal_ast::answers::{Reason, Refusal, Span};
 use refal_ast::kinds::TokenKind;
 use refal_ast::limits::MOST_BYTES;
@@ -35,22 +36,6 @@ use refal_ast::tokens::{Token, WIDTH};
 pub struct Fault {
     pub reason: Reason,
     pub span: Span,
-}
-
-impl Fault {
-    // A fault whose span is the len bytes at `at`.
-    fn over(reason: Reason, at: usize, len: usize) -> Fault
-        requires { at + len ≤ 16777216 }
-        ensures { fault_told result ≡ Bad (reason_code reason) at (at + len) }
-    {
-        Fault {
-            reason,
-            span: Span {
-                start: at,
-                end: at + len,
-            },
-        }
-    }
 }
 
 impl From<Fault> for Refusal {
@@ -70,14 +55,13 @@ pub struct Cursor {
 }
 
 impl Cursor {
-    // Behind len bytes, which are no blanks, and n rows.
-    fn behind(self, len: usize, n: usize) -> Cursor
-        requires { (self.at + len ≤ 16777216) × (self.row + n ≤ 16777217) }
-        ensures { result ≡ cursor (self.at + len) (self.row + n) false }
+    // Behind a token or more: no blanks have passed.
+    fn behind(at: usize, row: usize) -> Cursor
+        ensures { result ≡ cursor at row false }
     {
         Cursor {
-            at: self.at + len,
-            row: self.row + n,
+            at,
+            row,
             line: false,
         }
     }
@@ -90,39 +74,36 @@ fn put(token: Token, row: usize, rows: &mut [u32]) -> Cursor
     ensures rows_after { rows.new ≡ put_row token_width rows.old row (words (token_told token)) }
 {
     token.put(rows, row);
-    Cursor {
-        at: token.to as usize,
-        row: row + 1,
-        line: false,
-    }
+    Cursor::behind(token.to as usize, row + 1)
 }
 
-// The token at the front of src, where c stands, puts its row or rows.
-fn put_next(src: &[u8], c: Cursor, rows: &mut [u32]) -> Result<Cursor, Fault>
-    requires { (0 < length src.now) × (c.at + length src.now ≤ 16777216) × (c.row ≤ c.at) }
-    ensures value { step_told result ≡ step_of (token_at c.at src.now) c.row }
-    ensures rows_after { rows.new ≡ rows_of (token_at c.at src.now) rows.old c.row }
+// The token at the start puts its row or rows, from `row` on.
+fn put_next(start: Start, row: usize, rows: &mut [u32]) -> Result<Cursor, Fault>
+    requires { row ≤ start.at }
+    ensures value { step_told result ≡ step_of (token_at start.entry.at start.entry.src.now) row }
+    ensures rows_after { rows.new ≡ rows_of (token_at start.entry.at start.entry.src.now) rows.old row }
 {
-    let first = src[0];
+    let here = Cursor::behind(start.at, row);
+    let first = start.first();
     let class = Class::of(first);
     match class {
-        Class::Quote => literal::literal(src, c, first, rows),
+        Class::Quote => start.literal(row, first, rows),
         // The two commonest stand apart from the rest, whose scan's answer goes through memory.
-        Class::Single(kind) => Ok(put(token::bare(kind, c.at, 1), c.row, rows)),
+        Class::Single(kind) => Ok(put(start.bare(kind, 1), row, rows)),
         Class::Upper => {
-            let scanned = word::name(src, c.at);
+            let scanned = start.name();
             let Ok(token) = scanned else {
                 // The fault as it is.
-                return scanned.map(|_| c);
+                return scanned.map(|_| here);
             };
-            Ok(put(token, c.row, rows))
+            Ok(put(token, row, rows))
         }
         _ => {
-            let scanned = token::scan(src, c.at, first, class);
+            let scanned = start.scan(class);
             let Ok(token) = scanned else {
-                return scanned.map(|_| c);
+                return scanned.map(|_| here);
             };
-            Ok(put(token, c.row, rows))
+            Ok(put(token, row, rows))
         }
     }
 }
@@ -133,23 +114,21 @@ fn lex(src: &[u8], rows: &mut [u32]) -> Result<usize, Refusal>
     ensures value { told result ≡ stop_answer (source src.now) }
     ensures rows_after { rows.new ≡ put_tokens rows.old 0 (source src.now).tokens }
 {
+    let all = Rest { src, at: 0 };
     let mut c = Cursor {
         at: 0,
         row: 0,
         line: true,
     };
     loop {
-        let place = blank::blanks(&src[c.at..], c.at, c.line)?;
-        if place.at >= src.len() {
-            token::bare(TokenKind::Eof, place.at, 0).put(rows, c.row);
+        let place = all.from(c.at).blanks(c.line)?;
+        let rest = all.from(place.at);
+        let Some(start) = rest.start() else {
+            rest.eof().put(rows, c.row);
             return Ok(c.row + 1);
-        }
-        let here = Cursor {
-            at: place.at,
-            row: c.row,
-            line: place.line,
         };
-        c = put_next(&src[place.at..], here, rows)?;
+        // No scan's answer but a cursor, so `?`, which makes the fault a refusal.
+        c = put_next(start, c.row, rows)?;
     }
 }
 

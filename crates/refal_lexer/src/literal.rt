@@ -9,6 +9,7 @@ ghost use Rattle.refal_lexer.specs.Told.{step_told};
 ghost use Rattle.refal_lexer.specs.Tokens.{literal_at};
 ghost use Rattle.refal_lexer.specs.Steps.{step_of, rows_of, close_of, end_of};
 
+use crate::start::Start;
 use crate::{Cursor, Fault};
 use refal_ast::answers::Reason;
 use refal_ast::kinds::TokenKind;
@@ -54,72 +55,78 @@ fn wide(src: &[u8], i: usize) -> Char
     refal_text::decode(src, i).unwrap_or(Char { code: 0, len: 1 })
 }
 
-// Behind the close of the literal at c, of n characters and len bytes.
-fn close(c: Cursor, n: usize, len: usize) -> Result<Cursor, Fault>
-    requires { (c.at + len ≤ 16777216) × (c.row + n ≤ 16777216) }
-    ensures { step_told result ≡ close_of c.at c.row n len }
-{
-    match n {
-        0 => Err(Fault::over(Reason::LiteralEmpty, c.at, len)),
-        1..=CHARS_MOST => Ok(c.behind(len, n)),
-        _ => Err(Fault::over(Reason::LiteralTooLong, c.at, len)),
-    }
-}
-
-// Behind the literal in quotes q at the front of src, where c stands, or its refusal.
-fn behind(src: &[u8], c: Cursor, q: u8) -> Result<Cursor, Fault>
-    requires { (0 < length src.now) × (c.at + length src.now ≤ 16777216) × (c.row ≤ c.at) × (0 < q) }
-    ensures { step_told result ≡ end_of c.at c.row (lit_from q 0 1 0 (drop 1 src.now)) }
-{
-    // By index, since a character has one byte to four.
-    let mut i = 1;
-    let mut n = 0;
-    while i < src.len() {
-        let Some(x) = lit_char(src, i, q) else {
-            return close(c, n, i + 1);
-        };
-        if src[i] == b'\n' {
-            return Err(Fault::over(Reason::LiteralNewline, c.at, i + 1));
+impl Start<'_> {
+    // Behind the close of the literal at row `row`, of n characters and len bytes.
+    fn close(self, row: usize, n: usize, len: usize) -> Result<Cursor, Fault>
+        requires { (len ≤ length self.src.now) × (row + n ≤ 16777216) }
+        ensures { step_told result ≡ close_of self.entry.at row n len }
+    {
+        match n {
+            0 => Err(self.over(Reason::LiteralEmpty, len)),
+            1..=CHARS_MOST => Ok(Cursor::behind(self.at + len, row + n)),
+            _ => Err(self.over(Reason::LiteralTooLong, len)),
         }
-        i += x.len;
-        n += 1;
     }
-    Err(Fault::over(Reason::LiteralUnclosed, c.at, i))
-}
 
-// A row for each character of the literal in quotes q at the front of src, from row n on; its span is from `start` to `end`.
-fn put_chars(src: &[u8], start: usize, end: usize, q: u8, rows: &mut [u32], n: usize)
-    requires { (0 < length src.now) × (n + length src.now ≤ 16777216) × (start ≤ 16777216) × (end ≤ 16777216) × (0 < q) }
-    ensures { rows.new ≡ put_tokens rows.old n (char_tokens q start end 0 (drop 1 src.now)) }
-{
-    // By index, as above.
-    let mut i = 1;
-    let mut k = n;
-    while i < src.len() {
-        let Some(c) = lit_char(src, i, q) else {
-            return;
-        };
-        let token = Token {
-            kind: TokenKind::Char,
-            detail: c.code,
-            start: 0,
-            len: 0,
-            from: start as u32,
-            to: end as u32,
-        };
-        token.put(rows, k);
-        i += c.len;
-        k += 1;
+    // Behind the literal in quotes q at row `row`, or its refusal.
+    fn behind(self, row: usize, q: u8) -> Result<Cursor, Fault>
+        requires { (row ≤ self.at) × (0 < q) }
+        ensures { step_told result ≡ end_of self.entry.at row (lit_from q 0 1 0 (drop 1 self.entry.src.now)) }
+    {
+        // By index, since a character has one byte to four.
+        let mut i = 1;
+        let mut n = 0;
+        while i < self.src.len() {
+            let Some(x) = lit_char(self.src, i, q) else {
+                return self.close(row, n, i + 1);
+            };
+            if self.src[i] == b'\n' {
+                return Err(self.over(Reason::LiteralNewline, i + 1));
+            }
+            i += x.len;
+            n += 1;
+        }
+        Err(self.over(Reason::LiteralUnclosed, i))
     }
-}
 
-// The literal in quotes q at the front of src, where c stands, puts its rows.
-pub fn literal(src: &[u8], c: Cursor, q: u8, rows: &mut [u32]) -> Result<Cursor, Fault>
-    requires { (0 < length src.now) × (c.at + length src.now ≤ 16777216) × (c.row ≤ c.at) × (0 < q) × (q ≡ get_or src.now 0 0) }
-    ensures value { step_told result ≡ step_of (literal_at c.at src.now) c.row }
-    ensures rows_after { rows.new ≡ rows_of (literal_at c.at src.now) rows.old c.row }
-{
-    let next = behind(src, c, q)?;
-    put_chars(src, c.at, next.at, q, rows, c.row);
-    Ok(next)
+    // A row for each character of the literal in quotes q, from row n on; its span ends at `end`.
+    fn put_chars(self, end: usize, q: u8, rows: &mut [u32], n: usize)
+        requires { (n ≤ self.at) × (end ≤ 16777216) × (0 < q) }
+        ensures { rows.new ≡ put_tokens rows.old n (char_tokens q self.entry.at end 0 (drop 1 self.entry.src.now)) }
+    {
+        // By index, as above.
+        let mut i = 1;
+        let mut k = n;
+        while i < self.src.len() {
+            let Some(c) = lit_char(self.src, i, q) else {
+                return;
+            };
+            let token = Token {
+                kind: TokenKind::Char,
+                detail: c.code,
+                start: 0,
+                len: 0,
+                from: self.at as u32,
+                to: end as u32,
+            };
+            token.put(rows, k);
+            i += c.len;
+            k += 1;
+        }
+    }
+
+    // The literal, whose first quote is q, puts its rows from `row` on.
+    pub fn literal(self, row: usize, q: u8, rows: &mut [u32]) -> Result<Cursor, Fault>
+        requires { (row ≤ self.at) × (0 < q) × (q ≡ get_or self.src.now 0 0) }
+        ensures value { step_told result ≡ step_of (literal_at self.entry.at self.entry.src.now) row }
+        ensures rows_after { rows.new ≡ rows_of (literal_at self.entry.at self.entry.src.now) rows.old row }
+    {
+        let scanned = self.behind(row, q);
+        let Ok(next) = scanned else {
+            // The fault as it is.
+            return scanned;
+        };
+        self.put_chars(next.at, q, rows, row);
+        Ok(next)
+    }
 }

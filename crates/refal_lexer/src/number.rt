@@ -1,4 +1,4 @@
-// Numbers, at the front of src, whose offset is `at`.
+// Numbers. The parts of one are scanned by their place in the bytes lent.
 ghost use Rattle.std.specs.Prelude.{◌≡◌, true, ◌+◌, ◌-◌, ◌*◌, ◌≤◌, ◌<◌, length, drop, get_or};
 ghost use Rattle.refal_text.specs.Span.{span};
 ghost use Rattle.refal_lexer.specs.Classes.{digit};
@@ -9,7 +9,7 @@ ghost use Rattle.refal_lexer.specs.Numbers.{macrodigit, part, sign_bytes, point_
 use crate::Fault;
 use crate::class::is_sign;
 use crate::runs::run_end;
-use crate::token::whole;
+use crate::start::Start;
 use refal_ast::answers::Reason;
 use refal_ast::kinds::TokenKind;
 use refal_ast::tokens::Token;
@@ -42,6 +42,7 @@ pub fn digits(src: &[u8], at: usize) -> Whole
     ensures within { result.end ≤ length src.now }
     ensures worth { result.worth ≡ macrodigit (drop at src.now) }
 {
+    // By index: `run_end` and a fold over the run, which proves, reads literals at three quarters of the speed and numbers at four fifths.
     let mut end = at;
     let mut worth = Some(0u32);
     while end < src.len() && src[end].is_ascii_digit() {
@@ -103,28 +104,32 @@ pub fn power(src: &[u8], at: usize) -> Result<usize, Bare>
     marked(src, at, b'E', true)
 }
 
-// The number whose digits start at `from`: 1 behind a sign, else 0.
-// Inlined: its answer would go through memory.
-#[inline(always)]
-pub fn number(src: &[u8], at: usize, from: usize) -> Result<Token, Fault>
-    requires { (from ≤ length src.now) × (at + length src.now ≤ 16777216) }
-    ensures { scan_told result ≡ number_scan at from src.now }
-{
-    let digits = digits(src, from);
-    let to = fraction(src, digits.end).map_err(|bare| Fault::over(
-        Reason::FractionMissing,
-        at,
-        bare.end,
-    ))?;
-    let len = power(src, to).map_err(|bare| Fault::over(Reason::ExponentMissing, at, bare.end))?;
-    // With neither point nor E it has no sign, and is a macrodigit.
-    if len == digits.end {
-        if from > 0 {
-            return Err(Fault::over(Reason::SignedWhole, at, len));
+impl Start<'_> {
+    // The number whose digits start at `from`: 1 behind a sign, else 0.
+    // Inlined: its answer would go through memory.
+    #[inline(always)]
+    pub fn number(self, from: usize) -> Result<Token, Fault>
+        requires { from ≤ length self.src.now }
+        ensures { scan_told result ≡ number_scan self.entry.at from self.entry.src.now }
+    {
+        let digits = digits(self.src, from);
+        let to = match fraction(self.src, digits.end) {
+            Ok(to) => to,
+            Err(bare) => return Err(self.over(Reason::FractionMissing, bare.end)),
+        };
+        let len = match power(self.src, to) {
+            Ok(len) => len,
+            Err(bare) => return Err(self.over(Reason::ExponentMissing, bare.end)),
+        };
+        // With neither point nor E it has no sign, and is a macrodigit.
+        if len == digits.end {
+            if from > 0 {
+                return Err(self.over(Reason::SignedWhole, len));
+            }
+            if digits.worth.is_none() {
+                return Err(self.over(Reason::MacrodigitTooLarge, len));
+            }
         }
-        if digits.worth.is_none() {
-            return Err(Fault::over(Reason::MacrodigitTooLarge, at, len));
-        }
+        Ok(self.whole(TokenKind::Number, len))
     }
-    Ok(whole(TokenKind::Number, at, len))
 }

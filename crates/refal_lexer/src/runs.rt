@@ -13,11 +13,7 @@ pub fn run_end<F: Fn(u8) -> bool>(src: &[u8], at: usize, test: F) -> usize
     ensures run { result ≡ at + span passes (drop at src.now) }
     ensures within { result ≤ length src.now }
 {
-    let mut i = at;
-    while i < src.len() && test(src[i]) {
-        i += 1;
-    }
-    i
+    at + src[at..].iter().take_while(|b| test(**b)).count()
 }
 
 // Where the bytes of a name end.

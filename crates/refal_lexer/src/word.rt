@@ -1,19 +1,19 @@
-// Names, variables and directives, each at the front of src, whose offset is `at`.
-ghost use Rattle.std.specs.Prelude.{◌≡◌, IfSome, ◌+◌, ◌-◌, ◌≤◌, ◌<◌, length, drop, get_or};
+// Names, variables and directives.
+ghost use Rattle.std.specs.Prelude.{◌≡◌, IfSome, ◌+◌, ◌-◌, ◌≤◌, length, drop};
 ghost use Rattle.refal_text.specs.Span.{span};
+ghost use Rattle.refal_ast.specs.KindCodes.{token_code};
 ghost use Rattle.refal_ast.specs.Kinds.{tok_variable};
 ghost use Rattle.refal_ast.specs.Rows.{token_told};
+ghost use Rattle.refal_ast.specs.Told.{kind_told};
 ghost use Rattle.refal_ast.specs.Tokens.{token};
 ghost use Rattle.refal_lexer.specs.Classes.{name_byte};
-ghost use Rattle.refal_ast.specs.KindCodes.{token_code};
-ghost use Rattle.refal_ast.specs.Told.{kind_told};
 ghost use Rattle.refal_lexer.specs.WordLaws.{word_kind};
 ghost use Rattle.refal_lexer.specs.Told.{scan_told};
 ghost use Rattle.refal_lexer.specs.Words.{name_scan, other_scan, index_of, variable_scan, directive_scan};
 
 use crate::Fault;
 use crate::runs::{name_end, run_end};
-use crate::token::{bare, whole};
+use crate::start::Start;
 use refal_ast::answers::Reason;
 use refal_ast::kinds::TokenKind;
 use refal_ast::tokens::Token;
@@ -23,64 +23,75 @@ const NAME_MOST: usize = 15;
 
 const INDEX_MOST: usize = 15;
 
-// A name that starts with A to Z.
-pub fn name(src: &[u8], at: usize) -> Result<Token, Fault>
-    requires { (0 < length src.now) × (at + length src.now ≤ 16777216) }
-    ensures { scan_told result ≡ name_scan at src.now }
-{
-    let len = name_end(src, 1);
-    if len > NAME_MOST {
-        return Err(Fault::over(Reason::NameTooLong, at, len));
+impl Start<'_> {
+    // A name that starts with A to Z.
+    pub fn name(self) -> Result<Token, Fault>
+        ensures { scan_told result ≡ name_scan self.entry.at self.entry.src.now }
+    {
+        let len = name_end(self.src, 1);
+        if len > NAME_MOST {
+            return Err(self.over(Reason::NameTooLong, len));
+        }
+        Ok(self.whole(TokenKind::Identifier, len))
     }
-    Ok(whole(TokenKind::Identifier, at, len))
-}
 
-// A name that starts otherwise.
-pub fn other(src: &[u8], at: usize) -> Result<Token, Fault>
-    requires { (0 < length src.now) × (at + length src.now ≤ 16777216) }
-    ensures { scan_told result ≡ other_scan at src.now }
-{
-    let len = name_end(src, 1);
-    Err(Fault::over(Reason::NameStart, at, len))
-}
-
-// The variable of letter b, with a point behind it.
-fn index(src: &[u8], at: usize, b: u8) -> Result<Token, Fault>
-    requires { (2 ≤ length src.now) × (at + length src.now ≤ 16777216) }
-    ensures { scan_told result ≡ index_of at b (span name_byte (drop 2 src.now)) }
-{
-    let len = name_end(src, 2);
-    match len - 2 {
-        0 => Err(Fault::over(Reason::IndexMissing, at, len)),
-        1..=INDEX_MOST => Ok(variable_of(b, at, 2, len)),
-        _ => Err(Fault::over(Reason::IndexTooLong, at, len)),
+    // A name that starts otherwise.
+    pub fn other(self) -> Result<Token, Fault>
+        ensures { scan_told result ≡ other_scan self.entry.at self.entry.src.now }
+    {
+        let len = name_end(self.src, 1);
+        Err(self.over(Reason::NameStart, len))
     }
-}
 
-// The variable of letter b and of len bytes, whose index is behind the first `skip`.
-fn variable_of(b: u8, at: usize, skip: usize, len: usize) -> Token
-    requires { (skip ≤ len) × (at + len ≤ 16777216) }
-    ensures { token_told result ≡ token tok_variable b (at + skip) (len - skip) at (at + len) }
-{
-    Token {
-        kind: TokenKind::Variable,
-        detail: u32::from(b),
-        start: (at + skip) as u32,
-        len: (len - skip) as u32,
-        from: at as u32,
-        to: (at + len) as u32,
+    // The variable of letter b, with a point behind it.
+    fn index(self, b: u8) -> Result<Token, Fault>
+        requires { 2 ≤ length self.src.now }
+        ensures { scan_told result ≡ index_of self.entry.at b (span name_byte (drop 2 self.entry.src.now)) }
+    {
+        let len = name_end(self.src, 2);
+        match len - 2 {
+            0 => Err(self.over(Reason::IndexMissing, len)),
+            1..=INDEX_MOST => Ok(self.variable_of(b, 2, len)),
+            _ => Err(self.over(Reason::IndexTooLong, len)),
+        }
     }
-}
 
-// What the letter b, which is s, t or e, starts.
-pub fn variable(src: &[u8], at: usize, b: u8) -> Result<Token, Fault>
-    requires { (0 < length src.now) × (at + length src.now ≤ 16777216) × (b ≡ get_or src.now 0 0) }
-    ensures { scan_told result ≡ variable_scan at src.now }
-{
-    match refal_text::byte(src, 1) {
-        b'.' => index(src, at, b),
-        b'A'..=b'Z' | b'0'..=b'9' => Ok(variable_of(b, at, 1, 2)),
-        _ => other(src, at),
+    // The variable of letter b and of len bytes, whose index is behind the first `skip`.
+    fn variable_of(self, b: u8, skip: usize, len: usize) -> Token
+        requires { (skip ≤ len) × (len ≤ length self.src.now) }
+        ensures { token_told result ≡ token tok_variable b (self.entry.at + skip) (len - skip) self.entry.at (self.entry.at + len) }
+    {
+        Token {
+            kind: TokenKind::Variable,
+            detail: u32::from(b),
+            start: (self.at + skip) as u32,
+            len: (len - skip) as u32,
+            from: self.at as u32,
+            to: (self.at + len) as u32,
+        }
+    }
+
+    // What the first letter starts, which is s, t or e.
+    pub fn variable(self) -> Result<Token, Fault>
+        ensures { scan_told result ≡ variable_scan self.entry.at self.entry.src.now }
+    {
+        let b = self.first();
+        match refal_text::byte(self.src, 1) {
+            b'.' => self.index(b),
+            b'A'..=b'Z' | b'0'..=b'9' => Ok(self.variable_of(b, 1, 2)),
+            _ => self.other(),
+        }
+    }
+
+    // A directive, whose `$` stands first.
+    pub fn directive(self) -> Result<Token, Fault>
+        ensures { scan_told result ≡ directive_scan self.entry.at self.entry.src.now }
+    {
+        let len = run_end(self.src, 1, |b| b.is_ascii_alphabetic());
+        let Some(kind) = declares(&self.src[1..len]) else {
+            return Err(self.over(Reason::UnknownDirective, len));
+        };
+        Ok(self.bare(kind, len))
     }
 }
 
@@ -94,16 +105,4 @@ fn declares(word: &[u8]) -> Option<TokenKind>
         b"EXTERN" | b"EXTRN" | b"EXTERNAL" => Some(TokenKind::Extern),
         _ => None,
     }
-}
-
-// A directive, whose `$` stands first.
-pub fn directive(src: &[u8], at: usize) -> Result<Token, Fault>
-    requires { (0 < length src.now) × (at + length src.now ≤ 16777216) }
-    ensures { scan_told result ≡ directive_scan at src.now }
-{
-    let len = run_end(src, 1, |b| b.is_ascii_alphabetic());
-    let Some(kind) = declares(&src[1..len]) else {
-        return Err(Fault::over(Reason::UnknownDirective, at, len));
-    };
-    Ok(bare(kind, at, len))
 }

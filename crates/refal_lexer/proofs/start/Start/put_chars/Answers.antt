@@ -1,8 +1,8 @@
--- `refal_lexer::literal::put_chars` meets its contract.
+-- `refal_lexer::start::Start::put_chars` meets its contract.
 use Rattle.std.proofs.Common.{arith, refl, ◌∙◌}
 use Rattle.refal_text.specs.Utf8.{ill}
 use Rattle.refal_lexer.specs.LiteralLaws.{chars_end, chars_close, chars_step, fills_row, fills_end}
-use Rattle.refal_lexer.proofs.literal.put_chars.Goals as goal
+use Rattle.refal_lexer.proofs.start.Start.put_chars.Goals as goal
 
 pub returns-in_default : goal.returns-in_default
 returns-in_default c = (fills_end _ _ _ _ _ _ (chars_close _ _ _ _ _ ill c.loop-i-test.true c.in_default.ensures.told refl) c.loop-i.invariant.4).1

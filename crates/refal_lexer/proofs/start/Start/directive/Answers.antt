@@ -1,8 +1,8 @@
--- `refal_lexer::word::directive` meets its contract.
+-- `refal_lexer::start::Start::directive` meets its contract.
 use Rattle.std.proofs.Common.{refl, ap, ◌∙◌}
 use Rattle.refal_lexer.specs.Told.{of_token}
 use Rattle.refal_lexer.specs.WordLaws.{directive_some, directive_none}
-use Rattle.refal_lexer.proofs.word.directive.Goals as goal
+use Rattle.refal_lexer.proofs.start.Start.directive.Goals as goal
 
 pub returns-in_default : goal.returns-in_default
 returns-in_default c = let r = c.run_end-len.ensures in c.over.ensures ∙ directive_none _ _ _ _ r.run r.within c.in_default.ensures.told refl
