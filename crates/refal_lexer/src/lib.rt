@@ -25,6 +25,7 @@ mod token;
 mod word;
 
 use crate::class::Class;
+use crate::literal::Quote;
 use crate::start::{Rest, Start};
 use refal_ast::answers::{Reason, Refusal, Span};
 use refal_ast::kinds::TokenKind;
@@ -87,7 +88,7 @@ fn put_next(start: Start, row: usize, rows: &mut [u32]) -> Result<Cursor, Fault>
     let first = start.first();
     let class = Class::of(first);
     match class {
-        Class::Quote => start.literal(row, first, rows),
+        Class::Quote => start.literal(row, Quote { byte: first }, rows),
         // The two commonest stand apart from the rest, whose scan's answer goes through memory.
         Class::Single(kind) => Ok(put(start.bare(kind, 1), row, rows)),
         Class::Upper => {

@@ -19,31 +19,40 @@ use refal_text::Char;
 // How many characters a literal has at most.
 const CHARS_MOST: usize = 255;
 
-// The character at i of a literal in quotes q, none at the close: the quote doubled is one character, and a byte that is no
-// character counts as one.
-// Inlined: its answer would go through memory.
-#[inline(always)]
-fn lit_char(src: &[u8], i: usize, q: u8) -> Option<Char>
-    requires { (i < length src.now) × (0 < q) }
-    ensures told { char_told result ≡ lit_char q (drop i src.now) }
-    ensures within { IfSome result (λ c. (1 ≤ c.len) × (i + c.len ≤ length src.now)) }
-{
-    let b = src[i];
-    if b == q {
-        let doubled = refal_text::byte(src, i + 1) == q;
-        return doubled.then_some(Char {
-            code: u32::from(b),
-            len: 2,
-        });
+// The quote that a literal begins with, and ends.
+#[derive(Clone, Copy, Debug, PartialEq, Eq)]
+pub struct Quote {
+    pub byte: u8,
+    ghost some: { 0 < byte },
+}
+
+impl Quote {
+    // The character at i of a literal in these quotes, none at the close: the quote doubled is one character, and a byte that is
+    // no character counts as one.
+    // Inlined: its answer would go through memory.
+    #[inline(always)]
+    fn lit_char(self, src: &[u8], i: usize) -> Option<Char>
+        requires { i < length src.now }
+        ensures told { char_told result ≡ lit_char self.byte (drop i src.now) }
+        ensures within { IfSome result (λ c. (1 ≤ c.len) × (i + c.len ≤ length src.now)) }
+    {
+        let b = src[i];
+        if b == self.byte {
+            let doubled = refal_text::byte(src, i + 1) == self.byte;
+            return doubled.then_some(Char {
+                code: u32::from(b),
+                len: 2,
+            });
+        }
+        // The commonest by far: no call.
+        if b.is_ascii() {
+            return Some(Char {
+                code: u32::from(b),
+                len: 1,
+            });
+        }
+        Some(wide(src, i))
     }
-    // The commonest by far: no call.
-    if b.is_ascii() {
-        return Some(Char {
-            code: u32::from(b),
-            len: 1,
-        });
-    }
-    Some(wide(src, i))
 }
 
 // The character at i, past U+007F; a byte that is no character counts as one.
@@ -68,16 +77,16 @@ impl Start<'_> {
         }
     }
 
-    // Behind the literal in quotes q at row `row`, or its refusal.
-    fn behind(self, row: usize, q: u8) -> Result<Cursor, Fault>
-        requires { (row ≤ self.at) × (0 < q) }
-        ensures { step_told result ≡ end_of self.entry.at row (lit_from q 0 1 0 (drop 1 self.entry.src.now)) }
+    // Behind the literal at row `row`, or its refusal.
+    fn behind(self, row: usize, quote: Quote) -> Result<Cursor, Fault>
+        requires { row ≤ self.at }
+        ensures { step_told result ≡ end_of self.entry.at row (lit_from quote.byte 0 1 0 (drop 1 self.entry.src.now)) }
     {
         // By index, since a character has one byte to four.
         let mut i = 1;
         let mut n = 0;
         while i < self.src.len() {
-            let Some(x) = lit_char(self.src, i, q) else {
+            let Some(x) = quote.lit_char(self.src, i) else {
                 return self.close(row, n, i + 1);
             };
             if self.src[i] == b'\n' {
@@ -89,16 +98,16 @@ impl Start<'_> {
         Err(self.over(Reason::LiteralUnclosed, i))
     }
 
-    // A row for each character of the literal in quotes q, from row n on; its span ends at `end`.
-    fn put_chars(self, end: usize, q: u8, rows: &mut [u32], n: usize)
-        requires { (n ≤ self.at) × (end ≤ 16777216) × (0 < q) }
-        ensures { rows.new ≡ put_tokens rows.old n (char_tokens q self.entry.at end 0 (drop 1 self.entry.src.now)) }
+    // A row for each character of the literal, from row n on; its span ends at `end`.
+    fn put_chars(self, end: usize, quote: Quote, rows: &mut [u32], n: usize)
+        requires { (n ≤ self.at) × (end ≤ 16777216) }
+        ensures { rows.new ≡ put_tokens rows.old n (char_tokens quote.byte self.entry.at end 0 (drop 1 self.entry.src.now)) }
     {
         // By index, as above.
         let mut i = 1;
         let mut k = n;
         while i < self.src.len() {
-            let Some(c) = lit_char(self.src, i, q) else {
+            let Some(c) = quote.lit_char(self.src, i) else {
                 return;
             };
             let token = Token {
@@ -115,18 +124,18 @@ impl Start<'_> {
         }
     }
 
-    // The literal, whose first quote is q, puts its rows from `row` on.
-    pub fn literal(self, row: usize, q: u8, rows: &mut [u32]) -> Result<Cursor, Fault>
-        requires { (row ≤ self.at) × (0 < q) × (q ≡ get_or self.src.now 0 0) }
+    // The literal puts its rows from `row` on.
+    pub fn literal(self, row: usize, quote: Quote, rows: &mut [u32]) -> Result<Cursor, Fault>
+        requires { (row ≤ self.at) × (quote.byte ≡ get_or self.src.now 0 0) }
         ensures value { step_told result ≡ step_of (literal_at self.entry.at self.entry.src.now) row }
         ensures rows_after { rows.new ≡ rows_of (literal_at self.entry.at self.entry.src.now) rows.old row }
     {
-        let scanned = self.behind(row, q);
+        let scanned = self.behind(row, quote);
         let Ok(next) = scanned else {
             // The fault as it is.
             return scanned;
         };
-        self.put_chars(next.at, q, rows, row);
+        self.put_chars(next.at, quote, rows, row);
         Ok(next)
     }
 }

@@ -1,4 +1,5 @@
-// Numbers. The parts of one are scanned by their place in the bytes lent.
+// Numbers. The parts of one are scanned by their place in the bytes lent, and not over the bytes from there on: the definitions' places are those of
+// the whole, and each caller would add them again.
 ghost use Rattle.std.specs.Prelude.{◌≡◌, true, ◌+◌, ◌-◌, ◌*◌, ◌≤◌, ◌<◌, length, drop, get_or};
 ghost use Rattle.refal_text.specs.Span.{span};
 ghost use Rattle.refal_lexer.specs.Classes.{digit};

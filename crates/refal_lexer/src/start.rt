@@ -87,7 +87,8 @@ impl Start<'_> {
         self.src[0]
     }
 
-    // The span of the first len bytes.
+    // The span of the first len bytes. A length is a number here and below: a type of its own, which kept that it is no more than the
+    // bytes, would hold these once more.
     #[inline(always)]
     pub fn span(self, len: usize) -> Span
         requires { len ≤ length self.src.now }

@@ -10,7 +10,7 @@ use refal_ast::kinds::TokenKind;
 use refal_ast::tokens::Token;
 
 // Why tokens are no program. A refusal of `parse` may also find nothing, or ask for rows: neither is known before the end.
-#[derive(Clone, Copy)]
+#[derive(Clone, Copy, Debug, PartialEq, Eq)]
 pub struct SyntaxError {
     pub reason: Reason,
     pub expected: Option<TokenKind>,

@@ -6,7 +6,7 @@ use refal_ast::nodes::Node;
 use refal_ast::tree::{Symbol, VariableKind};
 
 // What a node covers: its span, and the rows before the row `next`.
-#[derive(Clone, Copy)]
+#[derive(Clone, Copy, Debug, PartialEq, Eq)]
 pub struct Extent {
     pub from: u32,
     pub to: u32,

@@ -7,8 +7,9 @@ use refal_ast::tokens::{Token, WIDTH};
 
 // The tokens, the word where the next one begins, and the row that is put next. It goes by value: a part of the parser takes the
 // place where it begins, and answers the one where it ends. Beside it go the rows, which are lent and can't be copied with it,
-// and the levels left, which are as many at the end as at the start.
-#[derive(Clone, Copy)]
+// and the levels left, which are as many at the end as at the start. How far rows may be ahead of tokens (`Few`) differs from part to
+// part, so each part asks it and the place does not keep it.
+#[derive(Clone, Copy, Debug, PartialEq, Eq)]
 pub struct Place<'t> {
     pub tokens: &'t [u32],
     pub at: usize,
