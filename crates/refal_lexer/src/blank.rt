@@ -122,6 +122,8 @@ impl Rest<'_> {
     }
 
     // Repeat: white space, a star comment, a block comment.
+    // Not inlined: rules then are read at a steadier speed, wherever the code comes to stand.
+    #[inline(never)]
     fn repeat(self, line: bool) -> Result<Place, Unclosed>
         ensures { blank_told result ≡ blanks_from 0 self.entry.at line self.entry.src.now }
     {
