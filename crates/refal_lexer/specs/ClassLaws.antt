@@ -1,5 +1,5 @@
 -- Laws of classes: what a class says of its byte, and the tests that the table answers.
-use Rattle.std.specs.Prelude.{ℕ, zero, suc, ◌<◌, Bool, true, false, not, ◌&&◌, ◌||◌, ◌≡◌, refl, T, leb, ltb, eqb}
+use Rattle.std.specs.Prelude.{ℕ, ◌<◌, Bool, true, false, not, ◌&&◌, ◌||◌, ◌≡◌, refl, T, leb, ltb, eqb}
 use Rattle.std.proofs.Common.{eqb-true, arith, true≢false, sym}
 use Rattle.refal_rows.specs.Tests.{each_below}
 use Rattle.refal_text.specs.Pick.{split}
@@ -56,13 +56,6 @@ class_view b =
     split (ClassIs b) (variable b) _ _ is_variable (λ _.
     split (ClassIs b) (letter b || eqb b 95) _ _ is_other (λ _.
     split (ClassIs b) (ltb 0 (single_kind b)) _ _ is_single (λ _. is_none)))))))))))))
-
-quote_some : (b : ℕ) → eqb b 39 || eqb b 34 ≡ true → 0 < b
-quote_some zero h = absurd (true≢false (sym h))
-quote_some (suc b) h = omega arith
-
-of_quote : (b : ℕ) → ClassIs b 3 → 0 < b
-of_quote b (is_quote h) = quote_some b h
 
 -- ---- tests, computed at each byte
 same : Bool → Bool → Bool
