@@ -136,10 +136,6 @@ past_white zero at line (b ∷ s) h = go (white_len (b ∷ s)) refl (λ k l. pas
         let z : suc (w.at - suc at) ≡ w.at - at = omega arith in
         record { on = omega arith; same = p.same ∙ ap (λ (n : ℕ). blanks_from 0 w.at w.line (drop n (b ∷ s))) z; stop = ap (λ (n : ℕ). white_len (drop n (b ∷ s))) (sym z) ∙ p.stop }
 
--- ---- the ways out of `white_len`: c is the character at the front
-pub len_none : (s : List ℕ) (c : Char) → c ≡ decode (drop 0 s) → white_space c.code ≡ false → (0 ≡ white_len s) × (0 ≤ length s)
-len_none s c e w = (sym (ap (λ (x : Char). pick (white_space x.code) x.len 0) (sym e) ∙ rw w refl), omega arith)
-
 -- ---- the ways out of `blanks`, at i, where no white space stands
 module _ (s : List ℕ) (at i : ℕ) (l : Bool) (h : i < length s) (w : white_len (drop i s) ≡ 0) where
   blanks_here : blanks_from 0 (at + i) l (drop i s)
