@@ -3,7 +3,7 @@
 -- Laws of each scan: ClassLaws, BlankLaws, SpaceLaws, WordLaws, NumberLaws, LiteralLaws, PlaceLaws. Laws of reading: TurnCases, LexLaws, TurnLaws, ReadLaws.
 -- That the flag is 01's rule for stars: LineLaws, StarLaws. Telling cases of that rule: StarCases.
 -- Telling cases of the sign after a number's `E`: ExponentCases.
--- What tokens are: ShapeLaws, TokenLaws. Where they stand: OrderLaws; on character boundaries: Boundaries, BoundaryLaws, EndLaws, ReadBoundaries.
+-- How many tokens: TokenLaws. Where they stand: OrderLaws; on character boundaries: Boundaries, BoundaryLaws, EndLaws, ReadBoundaries.
 pub mod Classes
 pub mod Stars
 pub mod Scans
@@ -33,7 +33,6 @@ pub mod ReadLaws
 pub mod LineLaws
 pub mod BoundaryLaws
 pub mod Boundaries
-pub mod ShapeLaws
 pub mod TokenLaws
 pub mod EndLaws
 pub mod StarLaws

@@ -2,7 +2,7 @@
 use Rattle.std.specs.Prelude.{ℕ, suc, ◌+◌, ◌*◌, ◌≤◌, List, [], ◌∷◌, ◌++◌, ◌≡◌, refl, length, drop}
 use Rattle.std.proofs.Common.{arith, add-zero, append-nil, ◌∙◌, subst}
 use Rattle.refal_rows.specs.Rows.{put_row}
-use Rattle.refal_rows.specs.Writes.{Writes, none, then, row, whole, placed, sized, length_put}
+use Rattle.refal_rows.specs.Writes.{Writes, none, then, row, whole, placed, sized}
 use Rattle.refal_ast.specs.Tokens.{Token, words, flat}
 
 abbrev pub put_tokens : List ℕ → ℕ → List Token → List ℕ
@@ -24,7 +24,3 @@ puts (t ∷ ts) n = sized (let e : 1 + length ts ≡ suc (length ts) = omega ari
 
 pub put_flat : (m : List ℕ) (ts : List Token) → 6 * length ts ≤ length m → put_tokens m 0 ts ≡ flat ts ++ drop (6 * length ts) m
 put_flat m ts h = whole m (puts ts 0) h
-
-pub length_puts : (m : List ℕ) (n : ℕ) (ts : List Token) → length (put_tokens m n ts) ≡ length m
-length_puts m n [] = refl
-length_puts m n (t ∷ ts) = length_puts (put_row 6 m n (words t)) (suc n) ts ∙ length_put 6 m n (words t)
