@@ -22,7 +22,8 @@ flat_nodes_lem (k ∷ d ∷ s ∷ []) h = absurd (omega arith)
 flat_nodes_lem (k ∷ d ∷ s ∷ l ∷ []) h = absurd (omega arith)
 flat_nodes_lem (k ∷ d ∷ s ∷ l ∷ a ∷ []) h = absurd (omega arith)
 flat_nodes_lem (k ∷ d ∷ s ∷ l ∷ a ∷ b ∷ []) h = absurd (omega arith)
-flat_nodes_lem (k ∷ d ∷ s ∷ l ∷ a ∷ b ∷ x ∷ w) h = ap (λ (y : List ℕ). k ∷ d ∷ s ∷ l ∷ a ∷ b ∷ x ∷ y) (flat_nodes_lem w (omega arith))
+flat_nodes_lem (k ∷ d ∷ s ∷ l ∷ a ∷ b ∷ x ∷ []) h = absurd (omega arith)
+flat_nodes_lem (k ∷ d ∷ s ∷ l ∷ a ∷ b ∷ x ∷ q ∷ w) h = ap (λ (y : List ℕ). k ∷ d ∷ s ∷ l ∷ a ∷ b ∷ x ∷ q ∷ y) (flat_nodes_lem w (omega arith))
 
 -- how many nodes a list of words holds
 pub count_nodes : (w : List ℕ) → length (nodes_of w) ≡ length w / node_width
@@ -34,7 +35,8 @@ count_nodes (k ∷ d ∷ s ∷ []) = refl
 count_nodes (k ∷ d ∷ s ∷ l ∷ []) = refl
 count_nodes (k ∷ d ∷ s ∷ l ∷ a ∷ []) = refl
 count_nodes (k ∷ d ∷ s ∷ l ∷ a ∷ b ∷ []) = refl
-count_nodes (k ∷ d ∷ s ∷ l ∷ a ∷ b ∷ x ∷ w) = let ih = count_nodes w in omega arith
+count_nodes (k ∷ d ∷ s ∷ l ∷ a ∷ b ∷ x ∷ []) = refl
+count_nodes (k ∷ d ∷ s ∷ l ∷ a ∷ b ∷ x ∷ q ∷ w) = let ih = count_nodes w in omega arith
 
 -- a word behind a row
 behind : (x : Node) (w : List ℕ) (i column : ℕ) → word_at (node_words x ++ w) (suc i) column ≡ word_at w i column
@@ -51,6 +53,7 @@ node_behind x w i = λ j. record {
   from = behind x w i 4 j;
   to = behind x w i 5 j;
   next = behind x w i 6 j;
+  parent = behind x w i 7 j;
 }
 
 -- row i is node i
@@ -63,6 +66,7 @@ node_at_lem (k ∷ d ∷ s ∷ []) i y h = absurd (omega arith)
 node_at_lem (k ∷ d ∷ s ∷ l ∷ []) i y h = absurd (omega arith)
 node_at_lem (k ∷ d ∷ s ∷ l ∷ a ∷ []) i y h = absurd (omega arith)
 node_at_lem (k ∷ d ∷ s ∷ l ∷ a ∷ b ∷ []) i y h = absurd (omega arith)
-node_at_lem (k ∷ d ∷ s ∷ l ∷ a ∷ b ∷ x ∷ w) zero y h = refl
-node_at_lem (k ∷ d ∷ s ∷ l ∷ a ∷ b ∷ x ∷ w) (suc i) y h =
-    node_at_lem w i y (omega arith) ∙ sym (node_behind (record { kind = k; detail = d; start = s; len = l; from = a; to = b; next = x }) w i)
+node_at_lem (k ∷ d ∷ s ∷ l ∷ a ∷ b ∷ x ∷ []) i y h = absurd (omega arith)
+node_at_lem (k ∷ d ∷ s ∷ l ∷ a ∷ b ∷ x ∷ q ∷ w) zero y h = refl
+node_at_lem (k ∷ d ∷ s ∷ l ∷ a ∷ b ∷ x ∷ q ∷ w) (suc i) y h =
+    node_at_lem w i y (omega arith) ∙ sym (node_behind (record { kind = k; detail = d; start = s; len = l; from = a; to = b; next = x; parent = q }) w i)
