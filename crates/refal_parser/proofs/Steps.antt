@@ -13,7 +13,7 @@ use Rattle.std.proofs.Common.{Result, Ok, Err, IsErrAnd}
 use Rattle.refal_rows.specs.Rows.{put_row}
 use Rattle.refal_ast.specs.KindCodes.{token_code}
 use Rattle.refal_ast.specs.Told.{reason_code, kind_told}
-use Rattle.refal_parser.specs.declared.answers.Place.{Place as ThePlace}
+use Rattle.refal_parser.specs.declared.place.Place.{Place as ThePlace}
 use Rattle.refal_parser.specs.declared.answers.SyntaxError.{SyntaxError}
 use Rattle.refal_ast.specs.Tokens.{Token, token}
 use Rattle.refal_ast.specs.Nodes.{node_width, node_words}
@@ -32,18 +32,20 @@ use Rattle.refal_parser.specs.PostTerms.{Closing}
 use Rattle.refal_parser.specs.PostBlock.{Opens}
 use Rattle.refal_parser.specs.PostItems.{heading}
 use Rattle.refal_parser.specs.Got.{Got, At, No, error_told, got_told}
-use Rattle.refal_parser.proofs.TokenLaws.{rest_step, ready_next, from_next}
+use Rattle.refal_parser.proofs.TokenLaws.{rest_step, from_next}
 
 -- ---- answers that are known
-pub is_at : {r : Got} {P : ℕ → ℕ → Type 0} {Q : ℕ → ℕ → ℕ → ℕ → ℕ → Type 0} {j m : ℕ} → r ≡ At j m → P j m → Cases r P Q
-is_at {r} {P} {Q} {j} {m} e p = record {
-  at = λ j' m' e'. let u : j ≡ j' = cc in let v : m ≡ m' = cc in subst (λ (x : ℕ). P x m') u (subst (λ (x : ℕ). P j x) v p);
+pub is_at : {w : List ℕ} {r : Got} {P : ℕ → ℕ → Type 0} {Q : ℕ → ℕ → ℕ → ℕ → ℕ → Type 0} {u : List ℕ} {j m : ℕ} → r ≡ At u j m → u ≡ w → P j m → Cases w r P Q
+is_at {w} {r} {P} {Q} {u} {j} {m} e s p = record {
+  same = λ u' j' m' e'. let h : u ≡ u' = cc in sym h ∙ s;
+  at = λ u' j' m' e'. let h : j ≡ j' = cc in let k : m ≡ m' = cc in subst (λ (x : ℕ). P x m') h (subst (λ (x : ℕ). P j x) k p);
   no = λ a b c d x e'. let z : ◌≡◌ {A = ℕ} 0 1 = cc in let y : ⊥ = omega arith in absurd y;
 }
 
-pub is_no : {r : Got} {P : ℕ → ℕ → Type 0} {Q : ℕ → ℕ → ℕ → ℕ → ℕ → Type 0} {a b c d e : ℕ} → r ≡ No a b c d e → Q a b c d e → Cases r P Q
-is_no {r} {P} {Q} {a} {b} {c} {d} {e} q p = record {
-  at = λ j m e'. let z : ◌≡◌ {A = ℕ} 0 1 = cc in let y : ⊥ = omega arith in absurd y;
+pub is_no : {w : List ℕ} {r : Got} {P : ℕ → ℕ → Type 0} {Q : ℕ → ℕ → ℕ → ℕ → ℕ → Type 0} {a b c d e : ℕ} → r ≡ No a b c d e → Q a b c d e → Cases w r P Q
+is_no {w} {r} {P} {Q} {a} {b} {c} {d} {e} q p = record {
+  same = λ u j m e'. let z : ◌≡◌ {A = ℕ} 0 1 = cc in let y : ⊥ = omega arith in absurd y;
+  at = λ u j m e'. let z : ◌≡◌ {A = ℕ} 0 1 = cc in let y : ⊥ = omega arith in absurd y;
   no = λ a' b' c' d' x' e'.
       let u₁ : a ≡ a' = cc in let u₂ : b ≡ b' = cc in let u₃ : c ≡ c' = cc in let u₄ : d ≡ d' = cc in let u₅ : e ≡ x' = cc in
       subst (λ (x : ℕ). Q x b' c' d' x') u₁
@@ -51,17 +53,25 @@ is_no {r} {P} {Q} {a} {b} {c} {d} {e} q p = record {
 }
 
 -- what is known of an answer that is a place, and of one that is a refusal
-pub got : {j m : ℕ} {P : ℕ → ℕ → Type 0} {Q : ℕ → ℕ → ℕ → ℕ → ℕ → Type 0} → Cases (At j m) P Q → P j m
-got h = h.at _ _ refl
+pub got : {w u : List ℕ} {j m : ℕ} {P : ℕ → ℕ → Type 0} {Q : ℕ → ℕ → ℕ → ℕ → ℕ → Type 0} → Cases w (At u j m) P Q → P j m
+got h = h.at _ _ _ refl
 
-pub not_got : {a b c d e : ℕ} {P : ℕ → ℕ → Type 0} {Q : ℕ → ℕ → ℕ → ℕ → ℕ → Type 0} → Cases (No a b c d e) P Q → Q a b c d e
+pub stays : {w u : List ℕ} {j m : ℕ} {P : ℕ → ℕ → Type 0} {Q : ℕ → ℕ → ℕ → ℕ → ℕ → Type 0} → Cases w (At u j m) P Q → u ≡ w
+stays h = h.same _ _ _ refl
+
+pub not_got : {w : List ℕ} {a b c d e : ℕ} {P : ℕ → ℕ → Type 0} {Q : ℕ → ℕ → ℕ → ℕ → ℕ → Type 0} → Cases w (No a b c d e) P Q → Q a b c d e
 not_got h = h.no _ _ _ _ _ refl
 
 -- what a `?` passes on
-pub passed : (r : Result ThePlace SyntaxError) (e : SyntaxError) {P : ℕ → ℕ → Type 0} {Q : ℕ → ℕ → ℕ → ℕ → ℕ → Type 0} → IsErrAnd r (λ x. x ≡ e) →
-    Q (reason_code e.reason) (kind_told e.expected) (token_code e.found) e.span.start e.span.end → Cases (got_told r) P Q
+pub passed : {w : List ℕ} (r : Result ThePlace SyntaxError) (e : SyntaxError) {P : ℕ → ℕ → Type 0} {Q : ℕ → ℕ → ℕ → ℕ → ℕ → Type 0} → IsErrAnd r (λ x. x ≡ e) →
+    Q (reason_code e.reason) (kind_told e.expected) (token_code e.found) e.span.start e.span.end → Cases w (got_told r) P Q
 passed (Ok p) e h q = absurd h
-passed (Err x) e {P} {Q} h q = subst (λ (y : SyntaxError). Cases (error_told y) P Q) (sym h) (is_no refl q)
+passed {w} (Err x) e {P} {Q} h q = subst (λ (y : SyntaxError). Cases w (error_told y) P Q) (sym h) (is_no refl q)
+
+-- what holds of an answer says more of it
+pub turned : {w : List ℕ} {r : Got} {P P' : ℕ → ℕ → Type 0} {Q Q' : ℕ → ℕ → ℕ → ℕ → ℕ → Type 0} → Cases w r P Q → ((j m : ℕ) → P j m → P' j m) →
+    ((a b c d e : ℕ) → Q a b c d e → Q' a b c d e) → Cases w r P' Q'
+turned h p q = record { same = h.same; at = λ u j m e. p j m (h.at u j m e); no = λ a b c d x e. q a b c d x (h.no a b c d x e) }
 
 -- ---- rows that are put
 pub put_as : (B : List ℕ) {B' : List ℕ} (m : ℕ) (x : TheNode) {row : List ℕ} → B' ≡ put_row node_width B m (node_words (node_told x)) → node_words (node_told x) ≡ row → B' ≡ put_node B m row
@@ -76,15 +86,12 @@ begins Call = 1
 begins UnknownVariable = 1
 begins NoTerm = 0
 
--- what begins a term is no Eof, so a token stands after it
-term_not_eof : (w : List ℕ) (at : ℕ) → begins (term_at w at) ≡ 1 → get_or w at 0 ≡ tok_eof → ⊥
+-- what begins a term is no Eof
+pub term_not_eof : (w : List ℕ) (at : ℕ) → begins (term_at w at) ≡ 1 → get_or w at 0 ≡ tok_eof → ⊥
 term_not_eof w at b e =
     let z : begins (term_at w at) ≡ 0 = ap (λ (k : ℕ). begins (term_of k (get_or w (at + 1) 0) (get_or w (at + 2) 0) (get_or w (at + 3) 0))) e in
     let y : ⊥ = omega arith in
     y
-
-pub ready_term : (w : List ℕ) (at : ℕ) (q : Term) → Ready w at → term_at w at ≡ q → begins q ≡ 1 → Ready w (at + 6)
-ready_term w at q r e b = ready_next w at r (term_not_eof w at (ap begins e ∙ b))
 
 -- a token that is not of kind k, where it is of kind l
 pub other : (x k l : ℕ) → x ≡ l → eqb l k ≡ false → x ≡ k → ⊥
@@ -265,7 +272,7 @@ module _ (w : List ℕ) (at : ℕ) where
     unfolding kinded
     items_entry e = run_kind outside tok_entry e
 
-    pub items_name : get_or w at 0 ≡ tok_identifier → Same w at outside (at + 6) (headed (heading w at at false))
+    pub items_name : get_or w at 0 ≡ tok_identifier → Same w at outside (at + 6) (headed (heading w (get_or w (at + 4) 0) at false))
     unfolding kinded
     items_name e = run_kind outside tok_identifier e
 

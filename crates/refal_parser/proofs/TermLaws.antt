@@ -16,17 +16,13 @@ use Rattle.refal_parser.specs.Post.{runs, Same, Refuses, after, Joint}
 use Rattle.refal_parser.specs.PostTerms.{TermsAt, TermsInv, Closing, ClosesAt, Ends, ClosedNo, UntilAt, TermGot, FollowsAt, Turns, ClauseAt, ClauseNo}
 use Rattle.refal_parser.proofs.TokenLaws.{end_before_lem}
 use Rattle.refal_parser.proofs.Rows.{more_terms, size_terms, whole_bracket, size_bracket, whole_call, size_call}
-use Rattle.refal_parser.proofs.Steps.{begins, ready_term, term_step, run_at_lem, two_here, leveled, moved, bracket_open, call_open, call_name}
+use Rattle.refal_parser.proofs.Steps.{term_step, run_at_lem, two_here, leveled, moved, bracket_open, call_open, call_name}
 
 -- ---- the machine at a leaf
 -- what a token that is a leaf begins
 abbrev pub leaf_term : Leaf → Term
 leaf_term (symbol z) = the_symbol z
 leaf_term (variable v s l) = Variable v s l
-
-leaf_begins : (x : Leaf) → begins (leaf_term x) ≡ 1
-leaf_begins (symbol z) = refl
-leaf_begins (variable v s l) = refl
 
 module _ (w : List ℕ) (i d : ℕ) (c : Place) (f : Terms) (p : Program) where
   leaf_here : (x : Leaf) → after w i p (in_terms d c f (tok w i) (after_from w i) (after_to w i) (leaf_term x))
@@ -41,14 +37,10 @@ module _ (w : List ℕ) (i d : ℕ) (c : Place) (f : Terms) (p : Program) where
       ∙ ap (λ (y : ℕ). runs w (i + 6) p (within d c (t_more f (leaf x y (get_or w (i + 5) 0))))) (sym ea)
       ∙ ap (λ (y : ℕ). runs w (i + 6) p (within d c (t_more f (leaf x a y)))) (sym eb)
 
-pub ready_leaf : (w : List ℕ) (i : ℕ) (x : Leaf) → Ready w i → term_at w i ≡ leaf_term x → Ready w (i + 6)
-ready_leaf w i x r e = ready_term w i (leaf_term x) r e (leaf_begins x)
-
 -- ---- a term more
 pub one_term : {w B₀ B B' : List ℕ} {at n left i m j m' : ℕ} → length B' ≡ length B → TermGot w B B' i m left j m' → TermsInv w B₀ B at n left i m → TermsInv w B₀ B' at n left j m'
 one_term {w} {B₀} {B} {B'} {at} {n} {left} {i} {m} {j} {m'} same T I = record {
   g = t_more I.g T.x;
-  ready = T.ready;
   on = let h = T.on in let k = I.on in omega arith;
   few = let h = T.few in omega arith;
   same = same ∙ I.same;
@@ -72,7 +64,6 @@ pub leaf_got : {w B B' : List ℕ} {i m left a b : ℕ} (x : Leaf) → Ready w i
     B' ≡ put_node B m (leaf_row x a b (m + 1)) → TermGot w B B' i m left (i + 6) (m + 1)
 leaf_got {w} {B} {B'} {i} {m} {left} {a} {b} x r few e ea eb put = record {
   x = leaf x a b;
-  ready = ready_leaf w i x r e;
   on = omega arith;
   few = omega arith;
   rows = leaf_rows x a b m B B' put;
@@ -82,17 +73,17 @@ leaf_got {w} {B} {B'} {i} {m} {left} {a} {b} x r few e ea eb put = record {
   means = λ c f p. term_step w i r left c f (leaf_term x) e p ∙ leaf_step w i left c f p x ea eb;
 }
 
-pub one_leaf_lem : {w B₀ B B' : List ℕ} {at n left i m a b : ℕ} (x : Leaf) → term_at w i ≡ leaf_term x → a ≡ get_or w (i + 4) 0 → b ≡ get_or w (i + 5) 0 → length B' ≡ length B →
+pub one_leaf_lem : {w B₀ B B' : List ℕ} {at n left i m a b : ℕ} (x : Leaf) → Ready w i → term_at w i ≡ leaf_term x → a ≡ get_or w (i + 4) 0 → b ≡ get_or w (i + 5) 0 → length B' ≡ length B →
     B' ≡ put_node B m (leaf_row x a b (m + 1)) → TermsInv w B₀ B at n left i m → TermsInv w B₀ B' at n left (i + 6) (m + 1)
-one_leaf_lem x e ea eb same put I = one_term same (leaf_got x I.ready I.few e ea eb put) I
+one_leaf_lem x R e ea eb same put I = one_term same (leaf_got x R I.few e ea eb put) I
 
 -- ---- terms and what closes them
-module _ {w B B' : List ℕ} {at n left j m : ℕ} (T : TermsAt w B B' at n left j m) (want : ℕ) where
+module _ {w B B' : List ℕ} {at n left j m : ℕ} (R : Ready w j) (T : TermsAt w B B' at n left j m) (want : ℕ) where
   closed : (c : Place) (st : Terms → ℕ → ℕ → State) → Ends left c want st → (p : Program) →
       runs w at p (within left c t0) ≡ Closing w j want (st T.g (get_or w (j + 4) 0) (get_or w (j + 5) 0)) p
   closed c st h p =
       T.means c p
-      ∙ term_step w j T.ready left c T.g NoTerm T.none p
+      ∙ term_step w j R left c T.g NoTerm T.none p
       ∙ ap (λ (y : Step). after w j p y) (h T.g (tok w j) (after_from w j) (after_to w j))
 
   pub until_no : {a b c d e : ℕ} → ((st : State) (p : Program) → Closing w j want st p ≡ refuse a b c d e) → ClosedNo w at left want a b c d e
@@ -104,7 +95,6 @@ module _ {w B B' : List ℕ} {at n left j m : ℕ} (T : TermsAt w B B' at n left
     closed = record {
       a = get_or w (j + 4) 0;
       e = get_or w (j + 5) 0;
-      ready = K.ready;
       on = let a = T.on in let b = K.next in omega arith;
       first = T.first;
       last = K.last;
@@ -116,12 +106,12 @@ module _ {w B B' : List ℕ} {at n left j m : ℕ} (T : TermsAt w B B' at n left
   }
 
 -- ---- terms up to one of two kinds, with their row
-module _ (n : ℕ) {w B B' : List ℕ} {at left also want j m : ℕ} (T : TermsAt w B B' at (n + 1) left j m) where
+module _ (n : ℕ) {w B B' : List ℕ} {at left also want j m : ℕ} (R : Ready w j) (T : TermsAt w B B' at (n + 1) left j m) where
   turned : (c : Place) (st : Terms → State) (t : Turns left c also want st) (p : Program) →
       runs w at p (within left c t0) ≡ after w j p (closing want (either also (t.u T.g (tok w j) (after_from w j)) want (t.v T.g (tok w j) (after_from w j))) (tok w j) (after_from w j) (after_to w j))
   turned c st t p =
       T.means c p
-      ∙ term_step w j T.ready left c T.g NoTerm T.none p
+      ∙ term_step w j R left c T.g NoTerm T.none p
       ∙ ap (λ (y : Step). after w j p y) (t.place T.g (tok w j) (after_from w j) (after_to w j))
 
   pub clause_no : {a b c d e : ℕ} → ((u v : Step) (p : Program) → after w j p (closing want (either also u want v) (tok w j) (after_from w j) (after_to w j)) ≡ refuse a b c d e) →
@@ -131,7 +121,6 @@ module _ (n : ℕ) {w B B' : List ℕ} {at left also want j m : ℕ} (T : TermsA
   pub clause_of_terms : {B'' : List ℕ} {j' m' : ℕ} → FollowsAt w j m also want j' m' → B'' ≡ w_terms T.g n B → ClauseAt w B B'' at n left also want j' m'
   clause_of_terms {B''} {j'} {m'} K put = record {
     g = T.g;
-    ready = K.ready;
     on = let a = T.on in let b = K.stays in omega arith;
     few = let a = T.few in let b = K.stays in let d = K.rows in omega arith;
     rows = put;
@@ -142,7 +131,7 @@ module _ (n : ℕ) {w B B' : List ℕ} {at left also want j m : ℕ} (T : TermsA
         ∙ ap (λ (y : Step). after w j p y)
         (two_here w j also want (t.u T.g (tok w j) (after_from w j)) (t.v T.g (tok w j) (after_from w j)) _ _ (subst (λ (i : ℕ). Joint w i also want) K.stays K.joint)
         ∙ sym (t.state T.g (tok w j) (after_from w j) (after_to w j)))
-        ∙ sym (run_at_lem w j T.ready (st T.g) p)
+        ∙ sym (run_at_lem w j R (st T.g) p)
         ∙ moved w j j' (st T.g) K.stays p;
   }
 
@@ -160,7 +149,6 @@ module _ {w : List ℕ} {at left : ℕ} (R : Ready w at) (begun : term_at w at �
       B₂ ≡ put_node B₁ n (span_row node_bracket from to m) → TermGot w B B₂ at n left j m
   bracket_of_terms n {B} {B₁} {B₂} {j} {m} {from} {to} U s e put = record {
     x = bracket (get_or w (at + 4) 0) U.g U.closed.e;
-    ready = U.closed.ready;
     on = let h = U.closed.on in omega arith;
     few = U.few;
     rows = whole_bracket _ _ n U.g U.count B (let h = U.rows in let l = U.closed.last in cc);
@@ -173,7 +161,7 @@ module _ {w : List ℕ} {at left : ℕ} (R : Ready w at) (begun : term_at w at �
   }
 
 -- ---- a call, whose name stands after its `<`
-module _ {w : List ℕ} {at left : ℕ} (R : Ready w at) (begun : term_at w at ≡ Call) (some : left ≡ 0 → ⊥) (name : get_or w (at + 6) 0 ≡ tok_identifier) where
+module _ {w : List ℕ} {at left : ℕ} (R : Ready w at) (begun : term_at w at ≡ Call) (some : left ≡ 0 → ⊥) (R' : Ready w (at + 6)) (name : get_or w (at + 6) 0 ≡ tok_identifier) where
   abbrev called : Place → Terms → Terms → ℕ → State
   called x f g e = within (suc (left - 1)) x (t_more f (call (get_or w (at + 4) 0) (get_or w (at + 6 + 2) 0) (get_or w (at + 6 + 3) 0) g e))
 
@@ -181,7 +169,7 @@ module _ {w : List ℕ} {at left : ℕ} (R : Ready w at) (begun : term_at w at �
   inside x f = in_call x f (get_or w (at + 4) 0) (get_or w (at + 6 + 2) 0) (get_or w (at + 6 + 3) 0)
 
   opened : (x : Place) (f : Terms) → Same w at (within left x f) (at + 6 + 6) (within (left - 1) (inside x f) t0)
-  opened x f p = call_open w at R left x f begun some p ∙ call_name w (at + 6) (ready_term w at Call R begun refl) (left - 1) x f (get_or w (at + 4) 0) name p
+  opened x f p = call_open w at R left x f begun some p ∙ call_name w (at + 6) R' (left - 1) x f (get_or w (at + 4) 0) name p
 
   pub call_no : {a b c d e : ℕ} → ClosedNo w (at + 6 + 6) (left - 1) tok_r_angle a b c d e → (x : Place) (f : Terms) → Refuses w at (within left x f) a b c d e
   call_no h x f p = opened x f p ∙ h (inside x f) (λ (g : Terms) (a e : ℕ). called x f g e) (λ h t y z. refl) p
@@ -191,7 +179,6 @@ module _ {w : List ℕ} {at left : ℕ} (R : Ready w at) (begun : term_at w at �
       B₂ ≡ put_node B₁ n (node node_call 0 start len from to m) → TermGot w B B₂ at n left j m
   call_of_terms n {B} {B₁} {B₂} {j} {m} {start} {len} {from} {to} U s l a e put = record {
     x = call (get_or w (at + 4) 0) (get_or w (at + 6 + 2) 0) (get_or w (at + 6 + 3) 0) U.g U.closed.e;
-    ready = U.closed.ready;
     on = let h = U.closed.on in omega arith;
     few = U.few;
     rows = whole_call _ _ n U.g U.count _ _ B (let h = U.rows in let k = U.closed.last in cc);

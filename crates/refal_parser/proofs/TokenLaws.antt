@@ -19,10 +19,9 @@ use Rattle.refal_ast.specs.Tokens.{Token, tokens_of}
 use Rattle.refal_ast.specs.declared.kinds.UnknownKind.{UnknownKind}
 use Rattle.refal_ast.specs.declared.kinds.TokenKind.{TokenKind}
 use Rattle.refal_ast.specs.declared.kinds.TokenKind.TheVariants as kind
-use Rattle.refal_ast.specs.declared.tokens.Token.{Token as TheToken}
 use Rattle.refal_ast.specs.Check.{good_token, ok_tokens}
 use Rattle.refal_parser.specs.Machine.{next_from, next_to}
-use Rattle.refal_parser.specs.Ready.{rest, tok, after_from, after_to, end_before, Ready, TokenAt}
+use Rattle.refal_parser.specs.Ready.{rest, tok, after_from, after_to, end_before, Ready}
 
 -- six words and what follows
 drop6 : (w : List ℕ) (at : ℕ) → at + 5 < length w →
@@ -172,12 +171,12 @@ alike_kind {k} {l} e = differs_false the_type (search rules) k l (sym e)
 pub unlike_kind : {k l : TokenKind} → true ≡ not (sameb the_type k l) → k ≡ l → ⊥
 unlike_kind {k} {l} e = differs_true the_type k l (sym e)
 
--- it is of the kind k, or not
-pub is_kind : {w : List ℕ} {at : ℕ} {t : TheToken} {k : TokenKind} → TokenAt w at t → t.kind ≡ k → get_or w at 0 ≡ token_code k
-is_kind r e = sym r.kind ∙ ap token_code e
+-- a kind k is another, by its number x, or not
+pub is_kind : {x : ℕ} {k l : TokenKind} → token_code k ≡ x → k ≡ l → x ≡ token_code l
+is_kind r e = sym r ∙ ap token_code e
 
-pub not_kind : {w : List ℕ} {at : ℕ} {t : TheToken} {k : TokenKind} → TokenAt w at t → (t.kind ≡ k → ⊥) → get_or w at 0 ≡ token_code k → ⊥
-not_kind {w} {at} {t} {k} r n e = n (same_code t.kind k (r.kind ∙ e))
+pub not_kind : {x : ℕ} {k l : TokenKind} → token_code k ≡ x → (k ≡ l → ⊥) → x ≡ token_code l → ⊥
+not_kind {x} {k} {l} r n e = n (same_code k l (r ∙ e))
 
 -- the end of the token before
 pub end_before_lem : (w : List ℕ) (at : ℕ) → get_or w (at + 5) 0 ≡ end_before w (at + 6)

@@ -1,17 +1,22 @@
--- What a part of the parser answers, in numbers: the word and the row where it ends; or a refusal: number, expected, found, span.
-use Rattle.std.specs.Prelude.{ℕ, Result, Ok, Err}
+-- Places; and what a part of the parser answers: the tokens, the word and the row where it ends; or a refusal in numbers: number, expected, found, span.
+use Rattle.std.specs.Prelude.{ℕ, ◌+◌, List, Result, Ok, Err}
 use Rattle.refal_ast.specs.KindCodes.{token_code}
 use Rattle.refal_ast.specs.Told.{reason_code, kind_told}
-use Rattle.refal_parser.specs.declared.answers.Place.{Place}
+use Rattle.refal_parser.specs.declared.place.Place.{Place}
 use Rattle.refal_parser.specs.declared.answers.SyntaxError.{SyntaxError}
+use Rattle.refal_parser.specs.Ready.{Ready}
+
+-- the place after the token at the place p, with another row
+abbrev pub after_token : (p : Place) (row : ℕ) → Ready p.tokens.now (p.at + 6) → Place
+after_token p row ready = record { tokens = p.tokens; at = p.at + 6; row = row; ready = ready }
 
 pub data Got : Type 0 where
-  At : ℕ → ℕ → Got
+  At : List ℕ → ℕ → ℕ → Got
   No : ℕ → ℕ → ℕ → ℕ → ℕ → Got
 
 abbrev pub error_told : SyntaxError → Got
 error_told e = No (reason_code e.reason) (kind_told e.expected) (token_code e.found) e.span.start e.span.end
 
 abbrev pub got_told : Result Place SyntaxError → Got
-got_told (Ok p) = At p.at p.row
+got_told (Ok p) = At p.tokens.now p.at p.row
 got_told (Err e) = error_told e

@@ -6,9 +6,10 @@ use Rattle.refal_parser.specs.Machine.{State, Outcome, refuse, Step, follow, run
 use Rattle.refal_parser.specs.Ready.{rest, after_from, after_to}
 use Rattle.refal_parser.specs.Got.{Got, At, No}
 
--- what holds of an answer, by what it is
-pub record Cases (r : Got) (P : ℕ → ℕ → Type 0) (Q : ℕ → ℕ → ℕ → ℕ → ℕ → Type 0) : Type 0 where
-  pub at : (j m : ℕ) → r ≡ At j m → P j m
+-- what holds of an answer, by what it is: a place is one in the tokens w
+pub record Cases (w : List ℕ) (r : Got) (P : ℕ → ℕ → Type 0) (Q : ℕ → ℕ → ℕ → ℕ → ℕ → Type 0) : Type 0 where
+  pub same : (u : List ℕ) (j m : ℕ) → r ≡ At u j m → u ≡ w
+  pub at : (u : List ℕ) (j m : ℕ) → r ≡ At u j m → P j m
   pub no : (a b c d e : ℕ) → r ≡ No a b c d e → Q a b c d e
 
 -- the machine from word i on, after the items p, in the state st

@@ -1,13 +1,15 @@
--- Contracts of the functions that parse conditions, sentences and blocks. `at` is the word of the first token, n the first row; an answer gives the
--- word j and the row m after.
-use Rattle.std.specs.Prelude.{◌≡◌, ℕ, ◌+◌, ◌-◌, ◌≤◌, ◌<◌, Bool, true, false, List, eqb, length, get_or}
+-- Contracts of the functions that parse conditions, sentences and blocks. They begin at the place p: at the word `at` of the tokens w, with row n; an
+-- answer gives the word j and the row m after.
+use Rattle.std.specs.Prelude.{◌≡◌, ℕ, ◌+◌, ◌-◌, ◌≤◌, ◌<◌, Bool, true, false, List, eqb, length, get_or, Result}
 use Rattle.refal_ast.specs.Kinds.{tok_r_brace, tok_comma, tok_equals, tok_semicolon}
 use Rattle.refal_ast.specs.Tree.{Terms, t0, Condition, Conditions, c0, End, Sentence, Sentences, s0, s_more, Body, b_all, b_off, Program, size_condition, size_c, size_end, size_sentence, size_b}
 use Rattle.refal_parser.specs.Machine.{Begun, Block, pattern, within, between, conditioned, equated, ended, Outcome, refuse, opens, begun, with_condition, leave}
-use Rattle.refal_parser.specs.Ready.{tok, end_before, Few, Ready}
+use Rattle.refal_parser.specs.Ready.{tok, end_before, Few}
 use Rattle.refal_parser.specs.Writers.{put_node, sentence_row, w_condition, w_c, w_end, w_sentence, w_b}
 use Rattle.refal_parser.specs.Post.{Cases, runs, Same, Refuses, leads, after, Joint}
-use Rattle.refal_parser.specs.Got.{Got}
+use Rattle.refal_parser.specs.Got.{got_told}
+use Rattle.refal_parser.specs.declared.place.Place.{Place}
+use Rattle.refal_parser.specs.declared.answers.SyntaxError.{SyntaxError}
 
 abbrev pub CondNo : List ℕ → ℕ → ℕ → ℕ → ℕ → ℕ → ℕ → ℕ → Type 0
 CondNo w at left a b c d e = (q : Block) (r : Begun) → Refuses w at (conditioned left q r) a b c d e
@@ -15,7 +17,6 @@ CondNo w at left a b c d e = (q : Block) (r : Begun) → Refuses w at (condition
 -- ---- a condition, whose comma is at `at`
 pub record CondAt (w B B' : List ℕ) (at n left j m : ℕ) : Type 0 where
   pub x : Condition
-  pub ready : Ready w j
   pub on : at < j
   pub few : Few m j 2
   pub rows : B' ≡ w_condition x n B
@@ -23,13 +24,12 @@ pub record CondAt (w B B' : List ℕ) (at n left j m : ℕ) : Type 0 where
   pub joint : Joint w j tok_comma tok_equals
   pub means : (b : Block) (r : Begun) → Same w at (conditioned left b r) j (conditioned left b (with_condition r x))
 
-abbrev pub CondPost : List ℕ → List ℕ → List ℕ → ℕ → ℕ → ℕ → Got → Type 0
-CondPost w B B' at n left r = Cases r (CondAt w B B' at n left) (CondNo w at left)
+abbrev pub CondPost : Place → List ℕ → List ℕ → ℕ → Result Place SyntaxError → Type 0
+CondPost p B B' left r = Cases p.tokens.now (got_told r) (CondAt p.tokens.now B B' p.at p.row left) (CondNo p.tokens.now p.at left)
 
 -- ---- what stands after a sentence's `=`, up to its `;` or, where that is left off, the `}` of its block
 pub record EndingAt (w B B' : List ℕ) (at n left j m : ℕ) : Type 0 where
   pub x : End
-  pub ready : Ready w j
   pub on : at ≤ j
   pub few : Few m j 2
   pub rows : B' ≡ w_end x n B
@@ -40,10 +40,10 @@ pub record EndingAt (w B B' : List ℕ) (at n left j m : ℕ) : Type 0 where
 abbrev pub EndingNo : List ℕ → ℕ → ℕ → ℕ → ℕ → ℕ → ℕ → ℕ → Type 0
 EndingNo w at left a b c d e = (q : Block) (r : Begun) → Refuses w at (equated left q r (end_before w at)) a b c d e
 
-abbrev pub EndingPost : List ℕ → List ℕ → List ℕ → ℕ → ℕ → ℕ → Got → Type 0
-EndingPost w B B' at n left r = Cases r (EndingAt w B B' at n left) (EndingNo w at left)
+abbrev pub EndingPost : Place → List ℕ → List ℕ → ℕ → Result Place SyntaxError → Type 0
+EndingPost p B B' left r = Cases p.tokens.now (got_told r) (EndingAt p.tokens.now B B' p.at p.row left) (EndingNo p.tokens.now p.at left)
 
--- ---- the row of the sentence that begins at `at`, of which all but its `;` ends before word i: the `;` is left off where a `}` stands there
+-- ---- the row of a sentence whose span begins at a, of which all but its `;` ends before word i: the `;` is left off where a `}` stands there
 abbrev pub pick_word : Bool → ℕ → ℕ → ℕ
 pick_word true i j = i
 pick_word false i j = j
@@ -56,7 +56,7 @@ abbrev pub sentence_end : List ℕ → ℕ → ℕ
 sentence_end w i = pick_word (is_off w i) i (i + 6)
 
 abbrev pub sentence_put : List ℕ → List ℕ → ℕ → ℕ → ℕ → ℕ → List ℕ
-sentence_put w B at i n m = put_node B n (sentence_row (is_off w i) (get_or w (at + 4) 0) (end_before w (sentence_end w i)) m)
+sentence_put w B a i n m = put_node B n (sentence_row (is_off w i) a (end_before w (sentence_end w i)) m)
 
 -- ---- a sentence
 -- the sentences s with x, whose `;` is left off or not
@@ -77,7 +77,6 @@ reached w i d b (b_off s x) p = after w i p (leave d b (b_off s x) (get_or w (i 
 pub record SentenceAt (w B B' : List ℕ) (at n left j m : ℕ) : Type 0 where
   pub x : Sentence
   pub off : Bool
-  pub ready : Ready w j
   pub on : at < j
   pub stops : Stops off w j m
   pub rows : B' ≡ w_sentence off x n B
@@ -85,15 +84,15 @@ pub record SentenceAt (w B B' : List ℕ) (at n left j m : ℕ) : Type 0 where
   pub means : (b : Block) (s : Sentences) (p : Program) →
       runs w at p (within left (pattern b s (get_or w (at + 4) 0)) t0) ≡ reached w j left b (added off s x) p
 
-abbrev pub SentencePost : List ℕ → List ℕ → List ℕ → ℕ → ℕ → ℕ → Got → Type 0
-SentencePost w B B' at n left r =
-    Cases r (SentenceAt w B B' at n left)
-    (λ a b c d e. (q : Block) (s : Sentences) → Refuses w at (within left (pattern q s (get_or w (at + 4) 0)) t0) a b c d e)
+abbrev pub SentenceNo : List ℕ → ℕ → ℕ → ℕ → ℕ → ℕ → ℕ → ℕ → Type 0
+SentenceNo w at left a b c d e = (q : Block) (s : Sentences) → Refuses w at (within left (pattern q s (get_or w (at + 4) 0)) t0) a b c d e
+
+abbrev pub SentencePost : Place → List ℕ → List ℕ → ℕ → Result Place SyntaxError → Type 0
+SentencePost p B B' left r = Cases p.tokens.now (got_told r) (SentenceAt p.tokens.now B B' p.at p.row left) (SentenceNo p.tokens.now p.at left)
 
 -- its loop: the conditions from word j on, whose rows begin at row m; B is the rows as the loop begins
 pub record CondsInv (w B B' : List ℕ) (j m left i k : ℕ) : Type 0 where
   pub cs : Conditions
-  pub ready : Ready w i
   pub joint : Joint w i tok_comma tok_equals
   pub on : j ≤ i
   pub few : Few k i 2
@@ -110,7 +109,6 @@ pub record BlockAt (w B B' : List ℕ) (at n left j m : ℕ) : Type 0 where
   pub v : Body
   pub e : ℕ
   pub some : left ≡ 0 → ⊥
-  pub ready : Ready w j
   pub on : at < j
   pub few : Few m j 0
   pub rows : B' ≡ w_b v n B
@@ -118,8 +116,11 @@ pub record BlockAt (w B B' : List ℕ) (at n left j m : ℕ) : Type 0 where
   pub last : e ≡ end_before w j
   pub means : (b : Block) (p : Program) → Opens w at left b p ≡ leads w j p (leave (left - 1) b v e)
 
-abbrev pub BlockPost : List ℕ → List ℕ → List ℕ → ℕ → ℕ → ℕ → Got → Type 0
-BlockPost w B B' at n left r = Cases r (BlockAt w B B' at n left) (λ a b c d e. (q : Block) (p : Program) → Opens w at left q p ≡ refuse a b c d e)
+abbrev pub BlockNo : List ℕ → ℕ → ℕ → ℕ → ℕ → ℕ → ℕ → ℕ → Type 0
+BlockNo w at left a b c d e = (q : Block) (p : Program) → Opens w at left q p ≡ refuse a b c d e
+
+abbrev pub BlockPost : Place → List ℕ → List ℕ → ℕ → Result Place SyntaxError → Type 0
+BlockPost p B B' left r = Cases p.tokens.now (got_told r) (BlockAt p.tokens.now B B' p.at p.row left) (BlockNo p.tokens.now p.at left)
 
 -- its loop
 abbrev pub is_open : Body → Bool
@@ -128,7 +129,6 @@ is_open (b_off s x) = true
 
 pub record BlockInv (w B B' : List ℕ) (at n left i m : ℕ) : Type 0 where
   pub v : Body
-  pub ready : Ready w i
   pub on : at < i
   pub stops : Stops (is_open v) w i m
   pub same : length B' ≡ length B

@@ -1,20 +1,21 @@
--- Contracts of the functions that parse terms. `at` is the word of the first token, n the first row; an answer gives the word j and the row m after.
-use Rattle.std.specs.Prelude.{◌≡◌, ℕ, ◌+◌, ◌≤◌, ◌<◌, Bool, true, false, List, length, get_or}
+-- Contracts of the functions that parse terms. They begin at the place p: at the word `at` of the tokens w, with row n; an answer gives the word j and the row m after.
+use Rattle.std.specs.Prelude.{◌≡◌, ℕ, ◌+◌, ◌≤◌, ◌<◌, Bool, true, false, List, length, get_or, Result}
 use Rattle.refal_ast.specs.Kinds.{tok_colon}
 use Rattle.refal_ast.specs.Limits.{most_levels}
 use Rattle.refal_ast.specs.Tokens.{Token}
 use Rattle.refal_ast.specs.Tree.{Term, Terms, t0, t_more, Program, size_term, size_t}
 use Rattle.refal_parser.specs.Begins.{NoTerm}
 use Rattle.refal_parser.specs.Machine.{Argument, Place, State, within, Outcome, refuse, Step, expected, among, closing, only, either, start_term, end_term, first_start, last_end, asked, end_of, step}
-use Rattle.refal_parser.specs.Ready.{tok, term_at, after_from, after_to, end_before, Few, Ready}
+use Rattle.refal_parser.specs.Ready.{tok, term_at, after_from, after_to, end_before, Few}
 use Rattle.refal_parser.specs.Writers.{w_term, w_t, w_terms}
 use Rattle.refal_parser.specs.Post.{Cases, runs, Same, Refuses, after, Joint}
-use Rattle.refal_parser.specs.Got.{Got}
+use Rattle.refal_parser.specs.Got.{got_told}
+use Rattle.refal_parser.specs.declared.place.Place.{Place as ThePlace}
+use Rattle.refal_parser.specs.declared.answers.SyntaxError.{SyntaxError}
 
 -- ---- terms up to a token that begins none
 pub record TermsAt (w B B' : List ℕ) (at n left j m : ℕ) : Type 0 where
   pub g : Terms
-  pub ready : Ready w j
   pub none : term_at w j ≡ NoTerm
   pub on : at ≤ j
   pub few : Few m j 2
@@ -28,13 +29,12 @@ pub record TermsAt (w B B' : List ℕ) (at n left j m : ℕ) : Type 0 where
 abbrev pub TermsNo : List ℕ → ℕ → ℕ → ℕ → ℕ → ℕ → ℕ → ℕ → Type 0
 TermsNo w at left a b c d e = (x : Place) → Refuses w at (within left x t0) a b c d e
 
-abbrev pub TermsPost : List ℕ → List ℕ → List ℕ → ℕ → ℕ → ℕ → Got → Type 0
-TermsPost w B B' at n left r = Cases r (TermsAt w B B' at n left) (TermsNo w at left)
+abbrev pub TermsPost : ThePlace → List ℕ → List ℕ → ℕ → Result ThePlace SyntaxError → Type 0
+TermsPost p B B' left r = Cases p.tokens.now (got_told r) (TermsAt p.tokens.now B B' p.at p.row left) (TermsNo p.tokens.now p.at left)
 
 -- its loop
 pub record TermsInv (w B B' : List ℕ) (at n left i m : ℕ) : Type 0 where
   pub g : Terms
-  pub ready : Ready w i
   pub on : at ≤ i
   pub few : Few m i 2
   pub same : length B' ≡ length B
@@ -49,14 +49,16 @@ abbrev pub Closing : List ℕ → ℕ → ℕ → State → Program → Outcome
 Closing w at want st p = after w at p (closing want (only want st) (tok w at) (after_from w at) (after_to w at))
 
 pub record ClosesAt (w : List ℕ) (at m want j m' : ℕ) : Type 0 where
-  pub ready : Ready w j
   pub next : j ≡ at + 6
   pub rows : m' ≡ m
   pub last : get_or w (at + 5) 0 ≡ end_before w j
   pub means : (st : State) (p : Program) → Closing w at want st p ≡ runs w j p st
 
-abbrev pub ClosesPost : List ℕ → ℕ → ℕ → ℕ → Got → Type 0
-ClosesPost w at m want r = Cases r (ClosesAt w at m want) (λ a b c d e. (st : State) (p : Program) → Closing w at want st p ≡ refuse a b c d e)
+abbrev pub ClosesNo : List ℕ → ℕ → ℕ → ℕ → ℕ → ℕ → ℕ → ℕ → Type 0
+ClosesNo w at want a b c d e = (st : State) (p : Program) → Closing w at want st p ≡ refuse a b c d e
+
+abbrev pub ClosesPost : ThePlace → ℕ → Result ThePlace SyntaxError → Type 0
+ClosesPost p want r = Cases p.tokens.now (got_told r) (ClosesAt p.tokens.now p.at p.row want) (ClosesNo p.tokens.now p.at want)
 
 -- ---- terms and the kind that closes them: a place c whose terms f, closed by a token with the span a, e, lead to the state st f a e
 abbrev pub Ends : ℕ → Place → ℕ → (Terms → ℕ → ℕ → State) → Type 0
@@ -65,7 +67,6 @@ Ends left c want st = (f : Terms) (t : Token) (x y : ℕ) → end_of left c f t 
 pub record Closed (w : List ℕ) (at left want : ℕ) (g : Terms) (j : ℕ) : Type 0 where
   pub a : ℕ
   pub e : ℕ
-  pub ready : Ready w j
   pub on : at < j
   pub first : first_start g a ≡ get_or w (at + 4) 0
   pub last : e ≡ end_before w j
@@ -82,8 +83,8 @@ pub record UntilAt (w B B' : List ℕ) (at n left want j m : ℕ) : Type 0 where
   pub rows : B' ≡ w_t g n B
   pub count : m ≡ n + size_t g
 
-abbrev pub UntilPost : List ℕ → List ℕ → List ℕ → ℕ → ℕ → ℕ → ℕ → Got → Type 0
-UntilPost w B B' at n left want r = Cases r (UntilAt w B B' at n left want) (ClosedNo w at left want)
+abbrev pub UntilPost : ThePlace → List ℕ → List ℕ → ℕ → ℕ → Result ThePlace SyntaxError → Type 0
+UntilPost p B B' left want r = Cases p.tokens.now (got_told r) (UntilAt p.tokens.now B B' p.at p.row left want) (ClosedNo p.tokens.now p.at left want)
 
 -- ---- an argument and its `:`, with a Terms row, row n: a place c whose terms, closed by `:`, lead to the state st
 abbrev pub Asks : ℕ → Place → (Argument → State) → Type 0
@@ -91,7 +92,6 @@ Asks left c st = (f : Terms) (t : Token) (x y : ℕ) → end_of left c f t x y �
 
 pub record ArgumentAt (w B B' : List ℕ) (at n left j m : ℕ) : Type 0 where
   pub g : Argument
-  pub ready : Ready w j
   pub on : at < j
   pub few : Few m j 0
   pub rows : B' ≡ w_terms g.terms n B
@@ -103,13 +103,12 @@ pub record ArgumentAt (w B B' : List ℕ) (at n left j m : ℕ) : Type 0 where
 abbrev pub ArgumentNo : List ℕ → ℕ → ℕ → ℕ → ℕ → ℕ → ℕ → ℕ → Type 0
 ArgumentNo w at left a b c d e = (x : Place) (st : Argument → State) → Asks left x st → Refuses w at (within left x t0) a b c d e
 
-abbrev pub ArgumentPost : List ℕ → List ℕ → List ℕ → ℕ → ℕ → ℕ → Got → Type 0
-ArgumentPost w B B' at n left r = Cases r (ArgumentAt w B B' at n left) (ArgumentNo w at left)
+abbrev pub ArgumentPost : ThePlace → List ℕ → List ℕ → ℕ → Result ThePlace SyntaxError → Type 0
+ArgumentPost p B B' left r = Cases p.tokens.now (got_told r) (ArgumentAt p.tokens.now B B' p.at p.row left) (ArgumentNo p.tokens.now p.at left)
 
 -- ---- a term, whose row is row n
 pub record TermGot (w B B' : List ℕ) (at n left j m : ℕ) : Type 0 where
   pub x : Term
-  pub ready : Ready w j
   pub on : at < j
   pub few : Few m j 0
   pub rows : B' ≡ w_term x n B
@@ -118,13 +117,14 @@ pub record TermGot (w B B' : List ℕ) (at n left j m : ℕ) : Type 0 where
   pub last : end_term x ≡ end_before w j
   pub means : (c : Place) (f : Terms) → Same w at (within left c f) j (within left c (t_more f x))
 
-abbrev pub TermPost : List ℕ → List ℕ → List ℕ → ℕ → ℕ → ℕ → Got → Type 0
-TermPost w B B' at n left r =
-    Cases r (TermGot w B B' at n left) (λ a b c d e. (x : Place) (f : Terms) → Refuses w at (within left x f) a b c d e)
+abbrev pub TermNo : List ℕ → ℕ → ℕ → ℕ → ℕ → ℕ → ℕ → ℕ → Type 0
+TermNo w at left a b c d e = (x : Place) (f : Terms) → Refuses w at (within left x f) a b c d e
+
+abbrev pub TermPost : ThePlace → List ℕ → List ℕ → ℕ → Result ThePlace SyntaxError → Type 0
+TermPost p B B' left r = Cases p.tokens.now (got_told r) (TermGot p.tokens.now B B' p.at p.row left) (TermNo p.tokens.now p.at left)
 
 -- ---- after terms or a block: one of two kinds
 pub record FollowsAt (w : List ℕ) (at m also want j m' : ℕ) : Type 0 where
-  pub ready : Ready w j
   pub stays : j ≡ at
   pub rows : m' ≡ m
   pub joint : Joint w j also want
@@ -135,8 +135,8 @@ pub record FollowsNo (w : List ℕ) (at : ℕ) (terms : Bool) (also want a b c x
       after w at p (closing want (either also u want v) (tok w at) (after_from w at) (after_to w at)) ≡ refuse a b c x y
   pub of_block : terms ≡ false → (u v : Step) (p : Program) → after w at p (among (either also u want v) (tok w at) (expected want (tok w at))) ≡ refuse a b c x y
 
-abbrev pub FollowsPost : List ℕ → ℕ → ℕ → Bool → ℕ → ℕ → Got → Type 0
-FollowsPost w at m terms also want r = Cases r (FollowsAt w at m also want) (FollowsNo w at terms also want)
+abbrev pub FollowsPost : ThePlace → Bool → ℕ → ℕ → Result ThePlace SyntaxError → Type 0
+FollowsPost p terms also want r = Cases p.tokens.now (got_told r) (FollowsAt p.tokens.now p.at p.row also want) (FollowsNo p.tokens.now p.at terms also want)
 
 -- ---- terms up to one of two kinds, with a Terms row, row n: a place c that its terms f leave by one of them, and a state that goes on by the same
 pub record Turns (left : ℕ) (c : Place) (also want : ℕ) (st : Terms → State) : Type 0 where
@@ -147,7 +147,6 @@ pub record Turns (left : ℕ) (c : Place) (also want : ℕ) (st : Terms → Stat
 
 pub record ClauseAt (w B B' : List ℕ) (at n left also want j m : ℕ) : Type 0 where
   pub g : Terms
-  pub ready : Ready w j
   pub on : at ≤ j
   pub few : Few m j 2
   pub rows : B' ≡ w_terms g n B
@@ -159,5 +158,5 @@ pub record ClauseAt (w B B' : List ℕ) (at n left also want j m : ℕ) : Type 0
 abbrev pub ClauseNo : List ℕ → ℕ → ℕ → ℕ → ℕ → ℕ → ℕ → ℕ → ℕ → ℕ → Type 0
 ClauseNo w at left also want a b c d e = (x : Place) (st : Terms → State) → Turns left x also want st → Refuses w at (within left x t0) a b c d e
 
-abbrev pub ClausePost : List ℕ → List ℕ → List ℕ → ℕ → ℕ → ℕ → ℕ → ℕ → Got → Type 0
-ClausePost w B B' at n left also want r = Cases r (ClauseAt w B B' at n left also want) (ClauseNo w at left also want)
+abbrev pub ClausePost : ThePlace → List ℕ → List ℕ → ℕ → ℕ → ℕ → Result ThePlace SyntaxError → Type 0
+ClausePost p B B' left also want r = Cases p.tokens.now (got_told r) (ClauseAt p.tokens.now B B' p.at p.row left also want) (ClauseNo p.tokens.now p.at left also want)

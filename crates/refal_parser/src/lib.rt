@@ -10,8 +10,8 @@ mod block;
 mod check;
 mod items;
 mod nodes;
+mod place;
 mod terms;
-mod tokens;
 
 use refal_ast::answers::{Reason, Refusal};
 use refal_ast::nodes::WIDTH;

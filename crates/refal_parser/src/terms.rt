@@ -1,19 +1,17 @@
-// Terms, brackets and calls; and what follows terms. Tokens, rows and the levels left are passed beside the place: of a struct that
-// held them, each contract would have to say that its tokens and levels stay.
+// Terms, brackets and calls; and what follows terms.
 ghost use Rattle.std.specs.Prelude.{◌≡◌, ◌≤◌};
 ghost use Rattle.refal_ast.specs.KindCodes.{token_code};
 ghost use Rattle.refal_parser.specs.Begins.{term_told, Bracket, Call};
 ghost use Rattle.refal_parser.specs.Machine.{term_of};
-ghost use Rattle.refal_parser.specs.Ready.{Few, Ready, term_at};
-ghost use Rattle.refal_parser.specs.Got.{got_told};
+ghost use Rattle.refal_parser.specs.Ready.{Few, term_at};
 ghost use Rattle.refal_parser.specs.PostTerms.{ArgumentPost, ClausePost, ClosesPost, FollowsPost, TermPost, TermsPost, UntilPost};
 
-use crate::answers::{Place, SyntaxError, present, taken};
+use crate::answers::SyntaxError;
 use crate::nodes;
-use crate::tokens::{end_before, token};
+use crate::place::Place;
 use refal_ast::answers::Reason;
 use refal_ast::kinds::{NodeKind, TokenKind};
-use refal_ast::tokens::{Token, WIDTH};
+use refal_ast::tokens::Token;
 use refal_ast::tree::{Symbol, Term, UnknownLetter, VariableKind};
 
 // What a token begins where a term may stand.
@@ -40,178 +38,149 @@ fn term_of(token: Token) -> Result<Option<Term>, UnknownLetter>
     }
 }
 
-// The kind that closes terms, where no term begins: Eof there is 35, another kind 34.
-fn closes(tokens: &[u32], place: Place, want: TokenKind) -> Result<Place, SyntaxError>
-    requires { Ready tokens.now place.at × (token_code want ≤ 16) }
-    ensures { ClosesPost tokens.now place.at place.row (token_code want) (got_told result) }
-{
-    let Place { at, row } = place;
-    let kind = token(tokens, at).kind;
-    if kind == want {
-        return Ok(Place {
-            at: at + WIDTH,
-            row,
-        });
-    }
-    match kind {
-        TokenKind::Eof => Err(present(tokens, at, Reason::OtherKind, Some(want))),
-        _ => Err(taken(tokens, at, Reason::NoTerm, None)),
-    }
-}
-
-// Terms from the place on, up to a token that begins none.
-#[cycle(bracket_call_terms_until)]
-fn terms(tokens: &[u32], rows: &mut [u32], start: Place, left: usize) -> Result<Place, SyntaxError>
-    requires { Ready tokens.now start.at × Few start.row start.at 2 }
-    ensures { TermsPost tokens.now rows.old rows.new start.at start.row left (got_told result) }
-{
-    let mut place = start;
-    loop {
-        let first = token(tokens, place.at);
-        match term_of(first) {
-            Ok(Some(Term::Symbol(symbol))) => {
-                let next = place.row + 1;
-                nodes::symbol(symbol, first.from, first.to, next).put(rows, place.row);
-                place.at += WIDTH;
-                place.row = next;
-            }
-            Ok(Some(Term::Variable { kind, start, len })) => {
-                let next = place.row + 1;
-                nodes::variable(kind, start, len, first.from, first.to, next).put(rows, place.row);
-                place.at += WIDTH;
-                place.row = next;
-            }
-            Ok(Some(Term::Bracket)) => place = bracket(tokens, rows, place, left)?,
-            Ok(Some(Term::Call)) => place = call(tokens, rows, place, left)?,
-            Ok(None) => return Ok(place),
-            Err(_) => return Err(taken(tokens, place.at, Reason::VariableLetter, None)),
+impl<'t> Place<'t> {
+    // The kind that closes terms, where no term begins: Eof there is 35, another kind 34.
+    fn closes(self, want: TokenKind) -> Result<Place<'t>, SyntaxError>
+        requires { token_code want ≤ 16 }
+        ensures { ClosesPost self.entry (token_code want) result }
+    {
+        let kind = self.kind();
+        if kind == want {
+            return Ok(self.next(self.row));
+        }
+        match kind {
+            TokenKind::Eof => Err(self.present(Reason::OtherKind, Some(want))),
+            _ => Err(self.taken(Reason::NoTerm, None)),
         }
     }
-}
 
-// Terms and the kind that closes them.
-#[cycle(bracket_call_terms_until)]
-fn until(
-    tokens: &[u32],
-    rows: &mut [u32],
-    place: Place,
-    left: usize,
-    want: TokenKind,
-) -> Result<Place, SyntaxError>
-    requires { Ready tokens.now place.at × Few place.row place.at 2 × (token_code want ≤ 16) }
-    ensures { UntilPost tokens.now rows.old rows.new place.at place.row left (token_code want) (got_told result) }
-{
-    let end = terms(tokens, rows, place, left)?;
-    closes(tokens, end, want)
-}
-
-// The bracket that opens at the place.
-#[cycle(bracket_call_terms_until)]
-fn bracket(
-    tokens: &[u32],
-    rows: &mut [u32],
-    place: Place,
-    left: usize,
-) -> Result<Place, SyntaxError>
-    requires { Ready tokens.now place.at × Few place.row place.at 2 × (term_at tokens.now place.at ≡ Bracket) }
-    ensures { TermPost tokens.now rows.old rows.new place.at place.row left (got_told result) }
-{
-    let Place { at, row } = place;
-    if left == 0 {
-        return Err(present(tokens, at, Reason::TooDeep, None));
+    // Terms from the place on, up to a token that begins none.
+    #[cycle(bracket_call_terms_until)]
+    fn terms(self, rows: &mut [u32], left: usize) -> Result<Place<'t>, SyntaxError>
+        requires { Few self.row self.at 2 }
+        ensures { TermsPost self.entry rows.old rows.new left result }
+    {
+        let mut place = self;
+        loop {
+            let first = place.token();
+            match term_of(first) {
+                Ok(Some(Term::Symbol(symbol))) => {
+                    let next = place.row + 1;
+                    nodes::symbol(symbol, first.from, first.to, next).put(rows, place.row);
+                    place = place.next(next);
+                }
+                Ok(Some(Term::Variable { kind, start, len })) => {
+                    let next = place.row + 1;
+                    nodes::variable(kind, start, len, first.from, first.to, next).put(
+                        rows, place.row,
+                    );
+                    place = place.next(next);
+                }
+                Ok(Some(Term::Bracket)) => place = place.bracket(rows, left)?,
+                Ok(Some(Term::Call)) => place = place.call(rows, left)?,
+                Ok(None) => return Ok(place),
+                Err(_) => return Err(place.taken(Reason::VariableLetter, None)),
+            }
+        }
     }
-    let body = Place {
-        at: at + WIDTH,
-        row: row + 1,
-    };
-    let end = until(tokens, rows, body, left - 1, TokenKind::RParen)?;
-    let from = token(tokens, at).from;
-    let to = end_before(tokens, end.at);
-    nodes::spanned(NodeKind::Bracket, from, to, end.row).put(rows, row);
-    Ok(end)
-}
 
-// The call that opens at the place.
-#[cycle(bracket_call_terms_until)]
-fn call(tokens: &[u32], rows: &mut [u32], place: Place, left: usize) -> Result<Place, SyntaxError>
-    requires { Ready tokens.now place.at × Few place.row place.at 2 × (term_at tokens.now place.at ≡ Call) }
-    ensures { TermPost tokens.now rows.old rows.new place.at place.row left (got_told result) }
-{
-    let Place { at, row } = place;
-    if left == 0 {
-        return Err(present(tokens, at, Reason::TooDeep, None));
+    // Terms and the kind that closes them.
+    #[cycle(bracket_call_terms_until)]
+    fn until(self, rows: &mut [u32], left: usize, want: TokenKind) -> Result<Place<'t>, SyntaxError>
+        requires { Few self.row self.at 2 × (token_code want ≤ 16) }
+        ensures { UntilPost self.entry rows.old rows.new left (token_code want) result }
+    {
+        let end = self.terms(rows, left)?;
+        end.closes(want)
     }
-    let name_at = at + WIDTH;
-    let name = token(tokens, name_at);
-    let TokenKind::Identifier = name.kind else {
-        let expected = Some(TokenKind::Identifier);
-        return Err(taken(tokens, name_at, Reason::CallName, expected));
-    };
-    let body = Place {
-        at: name_at + WIDTH,
-        row: row + 1,
-    };
-    let end = until(tokens, rows, body, left - 1, TokenKind::RAngle)?;
-    let from = token(tokens, at).from;
-    let to = end_before(tokens, end.at);
-    nodes::named(NodeKind::Call, name.start, name.len, from, to, end.row).put(rows, row);
-    Ok(end)
-}
 
-// An argument: a Terms row, its terms and their `:`.
-pub fn argument(
-    tokens: &[u32],
-    rows: &mut [u32],
-    place: Place,
-    left: usize,
-) -> Result<Place, SyntaxError>
-    requires { Ready tokens.now place.at × Few place.row place.at 1 }
-    ensures { ArgumentPost tokens.now rows.old rows.new place.at place.row left (got_told result) }
-{
-    let Place { at, row } = place;
-    let first = Place { at, row: row + 1 };
-    let end = until(tokens, rows, first, left, TokenKind::Colon)?;
-    nodes::spanned(NodeKind::Terms, 0, 0, end.row).put(rows, row);
-    Ok(end)
-}
-
-// After terms, or after a block: one of two kinds, which is left to the caller. After terms Eof is 35 and another kind 34; after a
-// block another kind is 35.
-pub fn follows(
-    tokens: &[u32],
-    place: Place,
-    terms: bool,
-    also: TokenKind,
-    want: TokenKind,
-) -> Result<Place, SyntaxError>
-    requires { Ready tokens.now place.at }
-    ensures { FollowsPost tokens.now place.at place.row terms (token_code also) (token_code want) (got_told result) }
-{
-    let kind = token(tokens, place.at).kind;
-    if kind == also || kind == want {
-        return Ok(place);
+    // The bracket that opens at the place.
+    #[cycle(bracket_call_terms_until)]
+    fn bracket(self, rows: &mut [u32], left: usize) -> Result<Place<'t>, SyntaxError>
+        requires { Few self.row self.at 2 × (term_at self.tokens.now self.at ≡ Bracket) }
+        ensures { TermPost self.entry rows.old rows.new left result }
+    {
+        if left == 0 {
+            return Err(self.present(Reason::TooDeep, None));
+        }
+        let body = self.next(self.row + 1);
+        let end = body.until(rows, left - 1, TokenKind::RParen)?;
+        let from = self.token().from;
+        let to = end.end_before();
+        nodes::spanned(NodeKind::Bracket, from, to, end.row).put(rows, self.row);
+        Ok(end)
     }
-    if terms && kind != TokenKind::Eof {
-        return Err(taken(tokens, place.at, Reason::NoTerm, None));
-    }
-    Err(present(tokens, place.at, Reason::OtherKind, Some(want)))
-}
 
-// A Terms row and its terms, up to one of two kinds.
-pub fn clause(
-    tokens: &[u32],
-    rows: &mut [u32],
-    place: Place,
-    left: usize,
-    also: TokenKind,
-    want: TokenKind,
-) -> Result<Place, SyntaxError>
-    requires { Ready tokens.now place.at × Few place.row place.at 1 }
-    ensures { ClausePost tokens.now rows.old rows.new place.at place.row left (token_code also) (token_code want) (got_told result) }
-{
-    let Place { at, row } = place;
-    let first = Place { at, row: row + 1 };
-    let end = terms(tokens, rows, first, left)?;
-    nodes::spanned(NodeKind::Terms, 0, 0, end.row).put(rows, row);
-    follows(tokens, end, true, also, want)
+    // The call that opens at the place.
+    #[cycle(bracket_call_terms_until)]
+    fn call(self, rows: &mut [u32], left: usize) -> Result<Place<'t>, SyntaxError>
+        requires { Few self.row self.at 2 × (term_at self.tokens.now self.at ≡ Call) }
+        ensures { TermPost self.entry rows.old rows.new left result }
+    {
+        if left == 0 {
+            return Err(self.present(Reason::TooDeep, None));
+        }
+        let named = self.next(self.row + 1);
+        let name = named.token();
+        let TokenKind::Identifier = name.kind else {
+            let expected = Some(TokenKind::Identifier);
+            return Err(named.taken(Reason::CallName, expected));
+        };
+        let body = named.next(named.row);
+        let end = body.until(rows, left - 1, TokenKind::RAngle)?;
+        let from = self.token().from;
+        let to = end.end_before();
+        nodes::named(NodeKind::Call, name.start, name.len, from, to, end.row).put(rows, self.row);
+        Ok(end)
+    }
+
+    // An argument: a Terms row, its terms and their `:`.
+    pub fn argument(self, rows: &mut [u32], left: usize) -> Result<Place<'t>, SyntaxError>
+        requires { Few self.row self.at 1 }
+        ensures { ArgumentPost self.entry rows.old rows.new left result }
+    {
+        let mut first = self;
+        first.row += 1;
+        let end = first.until(rows, left, TokenKind::Colon)?;
+        nodes::spanned(NodeKind::Terms, 0, 0, end.row).put(rows, self.row);
+        Ok(end)
+    }
+
+    // After terms, or after a block: one of two kinds, which is left to the caller. After terms Eof is 35 and another kind 34; after a
+    // block another kind is 35.
+    pub fn follows(
+        self,
+        terms: bool,
+        also: TokenKind,
+        want: TokenKind,
+    ) -> Result<Place<'t>, SyntaxError>
+        ensures { FollowsPost self.entry terms (token_code also) (token_code want) result }
+    {
+        let kind = self.kind();
+        if kind == also || kind == want {
+            return Ok(self);
+        }
+        if terms && kind != TokenKind::Eof {
+            return Err(self.taken(Reason::NoTerm, None));
+        }
+        Err(self.present(Reason::OtherKind, Some(want)))
+    }
+
+    // A Terms row and its terms, up to one of two kinds.
+    pub fn clause(
+        self,
+        rows: &mut [u32],
+        left: usize,
+        also: TokenKind,
+        want: TokenKind,
+    ) -> Result<Place<'t>, SyntaxError>
+        requires { Few self.row self.at 1 }
+        ensures { ClausePost self.entry rows.old rows.new left (token_code also) (token_code want) result }
+    {
+        let mut first = self;
+        first.row += 1;
+        let end = first.terms(rows, left)?;
+        nodes::spanned(NodeKind::Terms, 0, 0, end.row).put(rows, self.row);
+        end.follows(true, also, want)
+    }
 }
