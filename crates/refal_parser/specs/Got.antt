@@ -1,14 +1,9 @@
--- Places; and what a part of the parser answers: the tokens, the word and the row where it ends; or a refusal in numbers: number, expected, found, span.
-use Rattle.std.specs.Prelude.{ℕ, ◌+◌, List, Result, Ok, Err}
+-- What a part of the parser answers: the tokens, the word and the row where it ends; or a refusal in numbers: number, expected, found, span.
+use Rattle.std.specs.Prelude.{ℕ, List, Result, Ok, Err}
 use Rattle.refal_ast.specs.KindCodes.{token_code}
 use Rattle.refal_ast.specs.Told.{reason_code, kind_told}
 use Rattle.refal_parser.specs.declared.place.Place.{Place}
 use Rattle.refal_parser.specs.declared.answers.SyntaxError.{SyntaxError}
-use Rattle.refal_parser.specs.Ready.{Ready}
-
--- the place after the token at the place p, with another row
-abbrev pub after_token : (p : Place) (row : ℕ) → Ready p.tokens.now (p.at + 6) → Place
-after_token p row ready = record { tokens = p.tokens; at = p.at + 6; row = row; ready = ready }
 
 pub data Got : Type 0 where
   At : List ℕ → ℕ → ℕ → Got

@@ -6,7 +6,6 @@ ghost use Rattle.refal_parser.specs.Post.{Joint};
 ghost use Rattle.refal_parser.specs.PostBlock.{BlockPost, CondPost, EndingPost, SentencePost, sentence_end, sentence_put};
 
 use crate::answers::SyntaxError;
-use crate::nodes;
 use crate::place::Place;
 use refal_ast::answers::Reason;
 use refal_ast::kinds::{NodeKind, TokenKind};
@@ -25,15 +24,15 @@ impl<'t> Place<'t> {
             let mut inside = asked;
             inside.row += 1;
             let end = inside.block(rows, left)?;
-            let to = end.end_before();
-            nodes::spanned(NodeKind::ConditionBlock, from, to, end.row).put(rows, asked.row);
-            nodes::spanned(NodeKind::Condition, from, to, end.row).put(rows, self.row);
+            let whole = end.since(from);
+            whole.bare(NodeKind::ConditionBlock).put(rows, asked.row);
+            whole.bare(NodeKind::Condition).put(rows, self.row);
             return end.follows(false, TokenKind::Comma, TokenKind::Equals);
         }
         let (also, want) = (TokenKind::Comma, TokenKind::Equals);
         let end = asked.clause(rows, left, also, want)?;
-        let to = end.end_before();
-        nodes::spanned(NodeKind::Condition, from, to, end.row).put(rows, self.row);
+        let whole = end.since(from);
+        whole.bare(NodeKind::Condition).put(rows, self.row);
         Ok(end)
     }
 
@@ -56,8 +55,8 @@ impl<'t> Place<'t> {
             return Err(asked.present(Reason::OtherKind, expected));
         };
         let end = asked.block(rows, left)?;
-        let to = end.end_before();
-        nodes::spanned(NodeKind::EndingBlock, from, to, end.row).put(rows, self.row);
+        let whole = end.since(from);
+        whole.bare(NodeKind::EndingBlock).put(rows, self.row);
         end.follows(false, TokenKind::RBrace, TokenKind::Semicolon)
     }
 
@@ -72,8 +71,7 @@ impl<'t> Place<'t> {
     {
         let left_off = self.kind() == TokenKind::RBrace;
         let end = if left_off { self } else { self.next(self.row) };
-        let to = end.end_before();
-        nodes::sentence(left_off, from, to, end.row).put(rows, row);
+        end.since(from).sentence(left_off).put(rows, row);
         end
     }
 

@@ -6,7 +6,7 @@ ghost use Rattle.refal_parser.specs.Ready.{Few, Ready};
 ghost use Rattle.refal_parser.specs.PostItems.{FunctionPost, ItemPost, NamePost, ProgramPost};
 
 use crate::answers::SyntaxError;
-use crate::nodes;
+use crate::nodes::Extent;
 use crate::place::Place;
 use refal_ast::answers::Reason;
 use refal_ast::kinds::{NodeKind, TokenKind};
@@ -27,7 +27,14 @@ impl<'t> Place<'t> {
             return Err(self.taken(Reason::DeclarationName, expected));
         };
         let end = self.next(self.row + 1);
-        nodes::named(NodeKind::Name, name.start, name.len, 0, 0, end.row).put(rows, self.row);
+        let spanless = Extent {
+            from: 0,
+            to: 0,
+            next: end.row,
+        };
+        spanless
+            .named(NodeKind::Name, name.start, name.len)
+            .put(rows, self.row);
         Ok(end)
     }
 
@@ -45,9 +52,10 @@ impl<'t> Place<'t> {
             let expected = Some(TokenKind::Semicolon);
             return Err(place.present(Reason::OtherKind, expected));
         };
-        let from = self.token().from;
-        nodes::spanned(NodeKind::Declaration, from, last.to, place.row).put(rows, self.row);
-        Ok(place.next(place.row))
+        let end = place.next(place.row);
+        let whole = end.since(self.token().from);
+        whole.bare(NodeKind::Declaration).put(rows, self.row);
+        Ok(end)
     }
 
     // The function whose name is at the place, and whose span begins at `from`.
@@ -62,8 +70,10 @@ impl<'t> Place<'t> {
         };
         let end = open.block(rows, BODY)?;
         let name = self.token();
-        let to = end.end_before();
-        nodes::function(entry, name.start, name.len, from, to, end.row).put(rows, self.row);
+        let whole = end.since(from);
+        whole
+            .function(entry, name.start, name.len)
+            .put(rows, self.row);
         Ok(end)
     }
 

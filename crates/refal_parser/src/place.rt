@@ -1,6 +1,7 @@
 // Where the parser stands.
 ghost use Rattle.refal_parser.specs.Ready.{Ready};
 
+use crate::nodes::Extent;
 use refal_ast::kinds::TokenKind;
 use refal_ast::tokens::{Token, WIDTH};
 
@@ -19,7 +20,6 @@ impl<'t> Place<'t> {
     ghost use Rattle.refal_ast.specs.Kinds.{tok_eof};
     ghost use Rattle.refal_ast.specs.KindCodes.{token_code};
     ghost use Rattle.refal_parser.specs.Ready.{Ready, TokenAt, end_before};
-    ghost use Rattle.refal_parser.specs.Got.{after_token};
 
     // The first token's.
     pub fn start(tokens: &'t [u32]) -> Place<'t>
@@ -59,7 +59,7 @@ impl<'t> Place<'t> {
     // The place after the next token, with another row to be put.
     pub fn next(self, row: usize) -> Place<'t>
         requires { get_or self.tokens.now self.at 0 ≡ tok_eof → ⊥ }
-        ensures { (ready : Ready self.entry.tokens.now (self.entry.at + 6)) × (result ≡ after_token self.entry row ready) }
+        ensures { (ready : Ready self.entry.tokens.now (self.entry.at + 6)) × (result ≡ record { tokens = self.entry.tokens; at = self.entry.at + 6; row = row; ready = ready }) }
     {
         Place {
             tokens: self.tokens,
@@ -68,11 +68,15 @@ impl<'t> Place<'t> {
         }
     }
 
-    // The span's end of the token before.
-    pub fn end_before(self) -> u32
-        requires { 1 ≤ self.at }
-        ensures { result ≡ end_before self.entry.tokens.now self.entry.at }
+    // What a node covers that began at `from` and ends before the place.
+    pub fn since(self, from: u32) -> Extent
+        requires { (1 ≤ self.at) × (self.row ≤ 1073741824) }
+        ensures { (few : self.entry.row ≤ 1073741824) × (result ≡ record { from = from; to = end_before self.entry.tokens.now self.entry.at; next = self.entry.row; few = few }) }
     {
-        self.tokens[self.at - 1]
+        Extent {
+            from,
+            to: self.tokens[self.at - 1],
+            next: self.row,
+        }
     }
 }

@@ -7,7 +7,7 @@ ghost use Rattle.refal_parser.specs.Ready.{Few, term_at};
 ghost use Rattle.refal_parser.specs.PostTerms.{ArgumentPost, ClausePost, ClosesPost, FollowsPost, TermPost, TermsPost, UntilPost};
 
 use crate::answers::SyntaxError;
-use crate::nodes;
+use crate::nodes::Extent;
 use crate::place::Place;
 use refal_ast::answers::Reason;
 use refal_ast::kinds::{NodeKind, TokenKind};
@@ -63,18 +63,19 @@ impl<'t> Place<'t> {
         let mut place = self;
         loop {
             let first = place.token();
+            let leaf = Extent {
+                from: first.from,
+                to: first.to,
+                next: place.row + 1,
+            };
             match term_of(first) {
                 Ok(Some(Term::Symbol(symbol))) => {
-                    let next = place.row + 1;
-                    nodes::symbol(symbol, first.from, first.to, next).put(rows, place.row);
-                    place = place.next(next);
+                    leaf.symbol(symbol).put(rows, place.row);
+                    place = place.next(leaf.next);
                 }
                 Ok(Some(Term::Variable { kind, start, len })) => {
-                    let next = place.row + 1;
-                    nodes::variable(kind, start, len, first.from, first.to, next).put(
-                        rows, place.row,
-                    );
-                    place = place.next(next);
+                    leaf.variable(kind, start, len).put(rows, place.row);
+                    place = place.next(leaf.next);
                 }
                 Ok(Some(Term::Bracket)) => place = place.bracket(rows, left)?,
                 Ok(Some(Term::Call)) => place = place.call(rows, left)?,
@@ -105,9 +106,8 @@ impl<'t> Place<'t> {
         }
         let body = self.next(self.row + 1);
         let end = body.until(rows, left - 1, TokenKind::RParen)?;
-        let from = self.token().from;
-        let to = end.end_before();
-        nodes::spanned(NodeKind::Bracket, from, to, end.row).put(rows, self.row);
+        let whole = end.since(self.token().from);
+        whole.bare(NodeKind::Bracket).put(rows, self.row);
         Ok(end)
     }
 
@@ -128,9 +128,10 @@ impl<'t> Place<'t> {
         };
         let body = named.next(named.row);
         let end = body.until(rows, left - 1, TokenKind::RAngle)?;
-        let from = self.token().from;
-        let to = end.end_before();
-        nodes::named(NodeKind::Call, name.start, name.len, from, to, end.row).put(rows, self.row);
+        let whole = end.since(self.token().from);
+        whole
+            .named(NodeKind::Call, name.start, name.len)
+            .put(rows, self.row);
         Ok(end)
     }
 
@@ -142,7 +143,12 @@ impl<'t> Place<'t> {
         let mut first = self;
         first.row += 1;
         let end = first.until(rows, left, TokenKind::Colon)?;
-        nodes::spanned(NodeKind::Terms, 0, 0, end.row).put(rows, self.row);
+        let spanless = Extent {
+            from: 0,
+            to: 0,
+            next: end.row,
+        };
+        spanless.bare(NodeKind::Terms).put(rows, self.row);
         Ok(end)
     }
 
@@ -180,7 +186,12 @@ impl<'t> Place<'t> {
         let mut first = self;
         first.row += 1;
         let end = first.terms(rows, left)?;
-        nodes::spanned(NodeKind::Terms, 0, 0, end.row).put(rows, self.row);
+        let spanless = Extent {
+            from: 0,
+            to: 0,
+            next: end.row,
+        };
+        spanless.bare(NodeKind::Terms).put(rows, self.row);
         end.follows(true, also, want)
     }
 }

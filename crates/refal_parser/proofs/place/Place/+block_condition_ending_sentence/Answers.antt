@@ -82,17 +82,11 @@ condition-returns-in_err-end t c = let E = rw c.next-start.ensures.1 at c.in_ok-
     let s = stays E in
     passed _ _ c.from_residual-in_err-end.ensures.1 (block_no c.args.self.ready c.requires.1 _ (got E) (rw s at c.in_ok-asked.asked.ready) (is_kind (rw s at c.kind.ensures) c.in-LBrace.is) (not_got (rw s at c.in_err-end.ensures)))
 
-pub condition-end_before-to-requires : goal.condition-end_before-to-requires
-condition-end_before-to-requires t c = let B = got c.in_ok-end.ensures in let q = B.on in omega arith
-
-pub condition-spanned-requires : goal.condition-spanned-requires
-condition-spanned-requires t c = let B = got c.in_ok-end.ensures in let Z = c.in_ok-end.end.ready in let v = B.few in omega arith
+pub condition-since-whole-requires : goal.condition-since-whole-requires
+condition-since-whole-requires t c = let B = got c.in_ok-end.ensures in let Z = c.in_ok-end.end.ready in let q = B.on in let v = B.few in (omega arith, omega arith)
 
 pub condition-put-requires : goal.condition-put-requires
 condition-put-requires t c = let A = got c.in_ok-asked.ensures in let R = c.in_ok-asked.asked.ready in let v₁ = A.few in omega arith
-
-pub condition-spanned-requires-in-LBrace : goal.condition-spanned-requires-in-LBrace
-condition-spanned-requires-in-LBrace t c = let B = got c.in_ok-end.ensures in let Z = c.in_ok-end.end.ready in let v = B.few in omega arith
 
 pub condition-returns-in-LBrace : goal.condition-returns-in-LBrace
 condition-returns-in-LBrace t c = let E = rw c.next-start.ensures.1 at c.in_ok-asked.ensures in
@@ -102,8 +96,8 @@ condition-returns-in-LBrace t c = let E = rw c.next-start.ensures.1 at c.in_ok-a
     let S = rw (stays E) at c.in_ok-asked.asked.ready in
     let Y = rw (stays X) at c.in_ok-end.end.ready in
     turned (rw (stays X) at c.follows.ensures)
-    (λ j m K. condition_of_block c.args.self.ready c.requires.1 _ (got E) S k₇ (got X) Y F.from (rw (stays X) at c.end_before-to.ensures) (put_as _ _ _ c.put.ensures c.spanned.ensures)
-    (put_as _ _ _ c.put-in-LBrace.ensures c.spanned-in-LBrace.ensures) K)
+    (λ j m K. condition_of_block c.args.self.ready c.requires.1 _ (got E) S k₇ (got X) Y F.from refl (put_as _ _ _ c.put.ensures (rw (c.since-whole.ensures.1, stays X) at c.bare.ensures))
+    (put_as _ _ _ c.put-in-LBrace.ensures (rw (c.since-whole.ensures.1, stays X) at c.bare-in-LBrace.ensures)) K)
     (λ a z k d e no. follow_no c.args.self.ready c.requires.1 _ (got E) S k₇ (got X) Y (no.of_block refl))
 
 pub condition-clause-requires : goal.condition-clause-requires
@@ -115,20 +109,17 @@ condition-returns-in_err-end-2 t c = let E = rw c.next-start.ensures.1 at c.in_o
     passed _ _ c.from_residual-in_err-end-2.ensures.1 (pattern_no c.args.self.ready c.requires.1 _ (got E) (rw s at c.in_ok-asked.asked.ready) (not_kind (rw s at c.kind.ensures) c.in_default.not-LBrace)
     (not_got (rw s at c.in_err-end-2.ensures)))
 
-pub condition-end_before-to-requires-2 : goal.condition-end_before-to-requires-2
-condition-end_before-to-requires-2 t c = let A = got (rw c.next-start.ensures.1 at c.in_ok-asked.ensures) in
-    let Q = got c.in_ok-end-2.ensures in let o = A.on in let q = Q.on in omega arith
-
-pub condition-spanned-requires-2 : goal.condition-spanned-requires-2
-condition-spanned-requires-2 t c = let Q = got c.in_ok-end-2.ensures in let Z = c.in_ok-end-2.end.ready in let v = Q.few in omega arith
+pub condition-since-whole-requires-2 : goal.condition-since-whole-requires-2
+condition-since-whole-requires-2 t c = let A = got (rw c.next-start.ensures.1 at c.in_ok-asked.ensures) in
+    let Q = got c.in_ok-end-2.ensures in let Z = c.in_ok-end-2.end.ready in let o = A.on in let q = Q.on in let v = Q.few in (omega arith, omega arith)
 
 pub condition-returns : goal.condition-returns
 condition-returns t c = let E = rw c.next-start.ensures.1 at c.in_ok-asked.ensures in
     let s = stays E in
     let Q = rw s at c.in_ok-end-2.ensures in
     let F = rw c.next-start.ensures.1 at c.token-from.ensures in
-    is_at refl (stays Q) (condition_of_terms c.args.self.ready c.requires.1 _ (got E) (rw s at c.in_ok-asked.asked.ready) (not_kind (rw s at c.kind.ensures) c.in_default.not-LBrace) (got Q) F.from (rw (stays Q) at c.end_before-to-2.ensures)
-    (put_as _ _ _ c.put-2.ensures c.spanned-2.ensures))
+    is_at refl (stays Q) (condition_of_terms c.args.self.ready c.requires.1 _ (got E) (rw s at c.in_ok-asked.asked.ready) (not_kind (rw s at c.kind.ensures) c.in_default.not-LBrace) (got Q) F.from refl
+    (put_as _ _ _ c.put-2.ensures (rw (c.since-whole-2.ensures.1, stays Q) at c.bare-2.ensures)))
 
 pub ending-returns-in_default : goal.ending-returns-in_default
 ending-returns-in_default t c = let n = not_kind c.kind.ensures c.in_default.not-Comma in
@@ -166,11 +157,8 @@ ending-returns-in_err-end t c = let E = rw c.next-start.ensures.1 at c.in_ok-ask
     passed _ _ c.from_residual-in_err-end.ensures.1 (end_block_no c.args.self.ready (is_kind c.kind.ensures c.in-Comma.is) _ (got E) (rw s at c.in_ok-asked.asked.ready) (is_kind (rw s at c.kind-2.ensures) c.in-LBrace.is)
     (not_got (rw s at c.in_err-end.ensures)))
 
-pub ending-end_before-to-requires : goal.ending-end_before-to-requires
-ending-end_before-to-requires t c = let B = got c.in_ok-end.ensures in let q = B.on in omega arith
-
-pub ending-spanned-requires : goal.ending-spanned-requires
-ending-spanned-requires t c = let B = got c.in_ok-end.ensures in let Z = c.in_ok-end.end.ready in let v = B.few in omega arith
+pub ending-since-whole-requires : goal.ending-since-whole-requires
+ending-since-whole-requires t c = let B = got c.in_ok-end.ensures in let Z = c.in_ok-end.end.ready in let q = B.on in let v = B.few in (omega arith, omega arith)
 
 pub ending-returns : goal.ending-returns
 ending-returns t c = let E = rw c.next-start.ensures.1 at c.in_ok-asked.ensures in
@@ -181,7 +169,7 @@ ending-returns t c = let E = rw c.next-start.ensures.1 at c.in_ok-asked.ensures 
     let S = rw (stays E) at c.in_ok-asked.asked.ready in
     let Y = rw (stays X) at c.in_ok-end.end.ready in
     turned (rw (stays X) at c.follows.ensures)
-    (λ j m K. ending_of_block c.args.self.ready k₁₃ _ (got E) S k₇ (got X) Y F.from (rw (stays X) at c.end_before-to.ensures) (put_as _ _ _ c.put.ensures c.spanned.ensures) K)
+    (λ j m K. ending_of_block c.args.self.ready k₁₃ _ (got E) S k₇ (got X) Y F.from refl (put_as _ _ _ c.put.ensures (rw (c.since-whole.ensures.1, stays X) at c.bare.ensures)) K)
     (λ a z k d e no. end_follow_no c.args.self.ready k₁₃ _ (got E) S k₇ (got X) Y (no.of_block refl))
 
 pub sentence-returns-in_err-place : goal.sentence-returns-in_err-place

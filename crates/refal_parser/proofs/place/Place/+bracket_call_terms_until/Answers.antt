@@ -22,16 +22,13 @@ pub bracket-returns-in_err-end : goal.bracket-returns-in_err-end
 bracket-returns-in_err-end t c =
     passed _ _ c.from_residual.ensures.1 (bracket_no c.args.self.ready c.requires.1 c.if-left-eq0.false (not_got (rw c.next-body.ensures.1 at c.in_err-end.ensures)))
 
-pub bracket-end_before-to-requires : goal.bracket-end_before-to-requires
-bracket-end_before-to-requires t c = let U = got c.in_ok-end.ensures in let h = U.closed.on in omega arith
-
-pub bracket-spanned-requires : goal.bracket-spanned-requires
-bracket-spanned-requires t c = let U = got c.in_ok-end.ensures in let R = c.in_ok-end.end.ready in let f = U.few in omega arith
+pub bracket-since-whole-requires : goal.bracket-since-whole-requires
+bracket-since-whole-requires t c = let U = got c.in_ok-end.ensures in let R = c.in_ok-end.end.ready in let h = U.closed.on in let f = U.few in (omega arith, omega arith)
 
 pub bracket-returns : goal.bracket-returns
 bracket-returns t c = let E = rw c.next-body.ensures.1 at c.in_ok-end.ensures in
     let s = stays E in
-    is_at refl s (bracket_of_terms c.args.self.ready c.requires.1 c.if-left-eq0.false _ (got E) c.token-from.ensures.from (rw s at c.end_before-to.ensures) (put_as _ _ _ c.put.ensures c.spanned.ensures))
+    is_at refl s (bracket_of_terms c.args.self.ready c.requires.1 c.if-left-eq0.false _ (got E) c.token.ensures.from refl (put_as _ _ _ c.put.ensures (rw (c.since-whole.ensures.1, s) at c.bare.ensures)))
 
 pub call-returns-then-left-eq0 : goal.call-returns-then-left-eq0
 call-returns-then-left-eq0 t c = is_no c.present.ensures (λ x f. call_deep _ _ c.args.self.ready _ x f c.requires.1 c.if-left-eq0.true)
@@ -55,18 +52,18 @@ call-returns-in_err-end t c = let N = rw c.next-named.ensures.1 at c.token-name.
     let E = rw (c.next-body.ensures.1, c.next-named.ensures.1) at c.in_err-end.ensures in
     passed _ _ c.from_residual.ensures.1 (call_no c.args.self.ready c.requires.1 c.if-left-eq0.false c.next-named.ensures.0 (is_kind N.kind c.in-Identifier.is) (not_got E))
 
-pub call-end_before-to-requires : goal.call-end_before-to-requires
-call-end_before-to-requires t c = let U = got c.in_ok-end.ensures in let h = U.closed.on in omega arith
-
-pub call-named-requires : goal.call-named-requires
-call-named-requires t c = let U = got c.in_ok-end.ensures in let R = c.in_ok-end.end.ready in let f = U.few in omega arith
+pub call-since-whole-requires : goal.call-since-whole-requires
+call-since-whole-requires t c = let U = got c.in_ok-end.ensures in let R = c.in_ok-end.end.ready in let h = U.closed.on in let f = U.few in (omega arith, omega arith)
 
 pub call-returns : goal.call-returns
 call-returns t c = let N = rw c.next-named.ensures.1 at c.token-name.ensures in
     let E = rw (c.next-body.ensures.1, c.next-named.ensures.1) at c.in_ok-end.ensures in
     let s = stays E in
     is_at refl s (call_of_terms c.args.self.ready c.requires.1 c.if-left-eq0.false c.next-named.ensures.0 (is_kind N.kind c.in-Identifier.is) _ (got E)
-    N.start N.len c.token-from.ensures.from (rw s at c.end_before-to.ensures) (put_as _ _ _ c.put.ensures c.named.ensures))
+    N.start N.len c.token.ensures.from refl (put_as _ _ _ c.put.ensures (rw (c.since-whole.ensures.1, s) at c.named.ensures)))
+
+pub terms-invariant_of-leaf : goal.terms-invariant_of-leaf
+terms-invariant_of-leaf t c = let R = c.loop-symbol.place.ready in let f = c.loop-symbol.invariant.1.few in record { few = omega arith }
 
 pub terms-loop-symbol-init : goal.terms-loop-symbol-init
 unfolding size_t w_t

@@ -1,6 +1,6 @@
 -- `refal_parser::place::Place::declaration` meets its contract: names parted by commas, then `;`.
 use Rattle.std.proofs.Common.{refl, ◌∙◌, ◌+◌, arith, get_or}
-use Rattle.refal_parser.proofs.TokenLaws.{is_kind, not_kind}
+use Rattle.refal_parser.proofs.TokenLaws.{end_before_lem, is_kind, not_kind}
 use Rattle.refal_ast.specs.Tree.{n_one, n_more, size_n, declaration as itemDeclaration}
 use Rattle.refal_parser.specs.Writers.{w_n}
 use Rattle.refal_parser.proofs.Steps.{got, stays, not_got, is_at, is_no, passed, put_as, other, items_extern, named_comma, named_end, named_none}
@@ -81,8 +81,11 @@ returns-in_default-kind c = let I = c.loop-place.invariant in
     is_no (rw I.0 at c.present.ensures) (λ p. I.1.means p
     ∙ named_none _ _ (rw I.0 at c.loop-place.place.ready) _ I.1.ns (not_kind (rw I.0 at c.kind.ensures) c.in_default.not-Comma) (not_kind L.kind c.in_default-kind.not-Semicolon) p)
 
-pub next-requires-2 : goal.next-requires-2
-next-requires-2 c = other _ _ _ (is_kind c.token-last.ensures.kind c.in-Semicolon.is) refl
+pub next-end-requires : goal.next-end-requires
+next-end-requires c = other _ _ _ (is_kind c.token-last.ensures.kind c.in-Semicolon.is) refl
+
+pub since-whole-requires : goal.since-whole-requires
+since-whole-requires c = let R = c.loop-place.place.ready in let v = c.loop-place.invariant.1.few in rw c.next-end.ensures.1 (omega arith, omega arith)
 
 pub returns : goal.returns
 returns c = let w = c.args.self.tokens.now in
@@ -93,12 +96,12 @@ returns c = let w = c.args.self.tokens.now in
     let F = got (rw c.next.ensures.1 at c.in_ok-place.ensures) in
     let L = rw I.0 at c.token-last.ensures in
     let k₁₆ = is_kind L.kind c.in-Semicolon.is in
-    let N = c.next-2.ensures in
+    let N = c.next-end.ensures in
     rw N.1 (is_at refl I.0 (record {
       x = itemDeclaration (get_or w (at₀ + 4) 0) I.1.ns (get_or w (i₀ + 5) 0);
       on = let g = I.1.on in omega arith;
       few = let v = I.1.few in omega arith;
-      rows = let p = put_as _ _ _ c.put.ensures c.spanned.ensures in let h = I.1.rows b₀ F.rows in let k = I.1.count in let f = c.token-from.ensures.from in let l = L.to in cc;
+      rows = let p = put_as _ _ _ c.put.ensures (rw (c.since-whole.ensures.1, N.1, I.0) at c.bare.ensures) in let h = I.1.rows b₀ F.rows in let k = I.1.count in let f = c.token.ensures.from in let l = end_before_lem w i₀ in cc;
       count = let k = I.1.count in omega arith;
       means = λ p. I.1.means p ∙ named_end _ _ (rw I.0 at c.loop-place.place.ready) (get_or w (at₀ + 4) 0) I.1.ns k₁₆ p;
     }))

@@ -23,11 +23,8 @@ returns-in_err-end c = let a = c.args in
     passed _ _ c.from_residual.ensures.1 (λ x p. head_open _ _ O.0 (heading a.self.tokens.now a.from a.self.at x) (is_kind (rw O.1 at c.kind.ensures) c.in-LBrace.is) p
     ∙ not_got (rw O.1 at c.in_err-end.ensures) (body (heading a.self.tokens.now a.from a.self.at x)) p)
 
-pub end_before-to-requires : goal.end_before-to-requires
-end_before-to-requires c = let B = got c.in_ok-end.ensures in let q = B.on in omega arith
-
-pub function-requires : goal.function-requires
-function-requires c = let B = got c.in_ok-end.ensures in let R = c.in_ok-end.end.ready in let v = B.few in omega arith
+pub since-whole-requires : goal.since-whole-requires
+since-whole-requires c = let B = got c.in_ok-end.ensures in let R = c.in_ok-end.end.ready in let q = B.on in let v = B.few in (omega arith, omega arith)
 
 pub returns : goal.returns
 returns c = let a = c.args in
@@ -41,7 +38,7 @@ returns c = let a = c.args in
       e = B.e;
       on = let q = B.on in omega arith;
       few = B.few;
-      rows = whole_function _ _ _ _ B.v B.rows T.start T.len refl ((rw s at c.end_before-to.ensures) ∙ sym B.last) (put_as _ _ _ c.put.ensures c.function.ensures);
+      rows = whole_function _ _ _ _ B.v B.rows T.start T.len refl (sym B.last) (put_as _ _ _ c.put.ensures (rw (c.since-whole.ensures.1, s) at c.function.ensures));
       count = B.count;
       means = λ x p. head_open _ _ O.0 (heading a.self.tokens.now a.from a.self.at x) (is_kind (rw O.1 at c.kind.ensures) c.in-LBrace.is) p ∙ B.means (body (heading a.self.tokens.now a.from a.self.at x)) p;
     })

@@ -12,8 +12,8 @@ returns-in_default c = let R = c.args.self.ready in
 pub next-end-requires : goal.next-end-requires
 next-end-requires c = other _ _ _ (is_kind c.token-name.ensures.kind c.in-Identifier.is) refl
 
-pub named-requires : goal.named-requires
-named-requires c = let R = c.args.self.ready in let h = c.requires in rw c.next-end.ensures.1 (omega arith)
+pub invariant_of-spanless : goal.invariant_of-spanless
+invariant_of-spanless c = let R = c.args.self.ready in let h = c.requires in rw c.next-end.ensures.1 (record { few = omega arith })
 
 pub returns : goal.returns
 returns c = let R = c.args.self.ready in
