@@ -13,13 +13,13 @@ use Rattle.refal_parser.specs.Machine.{Begun, Argument, Block, pattern, argument
 use Rattle.refal_parser.specs.Machine.{Step, refuse, go, expected, among, either, begun, with_condition, to_terms, to_block, end_block, finished, left_off, leave, last_end}
 use Rattle.refal_parser.specs.Ready.{tok, end_before, Few, Ready}
 use Rattle.refal_parser.specs.Writers.{put_node, span_row, sentence_row, w_s, w_b}
-use Rattle.refal_parser.specs.Post.{runs, Same, Refuses, leads, after}
-use Rattle.refal_parser.specs.PostTerms.{ArgumentNo, ArgumentAt, FollowsAt, Turns, ClauseAt, ClauseNo}
+use Rattle.refal_parser.specs.Post.{runs, Same, Refuses, leads, after, Joint}
+use Rattle.refal_parser.specs.PostTerms.{ArgumentNo, ArgumentAt, Turns, ClauseAt, ClauseNo}
 use Rattle.refal_parser.specs.PostBlock.{Opens, CondNo, CondAt, EndingAt, EndingNo, pick_word, is_off, sentence_end, sentence_put, added, Stops, reached, SentenceAt, CondsInv, BlockAt, is_open, BlockInv}
 use Rattle.refal_parser.proofs.TokenLaws.{ready_next, end_before_lem}
 use Rattle.refal_parser.proofs.Rows.{block_condition, terms_condition, block_ending, terms_ending, whole_sentence, more_conditions, more_sentences}
 use Rattle.refal_parser.proofs.Rows.{size_block_condition, size_terms_condition, size_block_ending, size_terms_ending, size_sentence_lem, size_conditions, size_sentences}
-use Rattle.refal_parser.proofs.Steps.{run_at_lem, other, leveled, moved, cond_start, cond_equals, match_block, match_terms, end_terms_lem, end_start, end_block_lem, end_closed, end_left, block_close, block_eof, block_more}
+use Rattle.refal_parser.proofs.Steps.{run_at_lem, other, leveled, cond_start, cond_equals, match_block, match_terms, end_terms_lem, end_start, end_block_lem, end_closed, end_left, block_close, block_eof, block_more}
 
 -- ---- places that their terms leave by one of two kinds, and the states that go on
 pub turn_pattern : (left : ℕ) (b : Block) (s : Sentences) (a : ℕ) → Turns left (pattern b s a) tok_comma tok_equals (λ (f : Terms). conditioned left b (begun s a f c0))
@@ -81,16 +81,16 @@ module _ {w : List ℕ} {at : ℕ} (R : Ready w at) (comma : get_or w at 0 ≡ t
         pub follow_no : {a b c d e : ℕ} → ((u v : Step) (p : Program) → after w i p (among (either tok_comma u tok_equals v) (tok w i) (expected tok_equals (tok w i))) ≡ refuse a b c d e) → CondNo w at left a b c d e
         follow_no h b r p = block_means b r p ∙ run_at_lem w i Y _ p ∙ h _ _ p
 
-        pub condition_of_block : {q from to j' m' : ℕ} {B₃ B₄ : List ℕ} → from ≡ get_or w (at + 6 + 4) 0 → to ≡ end_before w i → B₃ ≡ put_node B₂ m (span_row node_condition_block from to k n) →
-            B₄ ≡ put_node B₃ n (span_row node_condition from to k q) → FollowsAt w i k tok_comma tok_equals j' m' → CondAt w B B₄ at n q left j' m'
-        condition_of_block {q} {from} {to} {j'} {m'} {B₃} {B₄} s e put put' N = record {
+        pub condition_of_block : {q from to : ℕ} {B₃ B₄ : List ℕ} → from ≡ get_or w (at + 6 + 4) 0 → to ≡ end_before w i → B₃ ≡ put_node B₂ m (span_row node_condition_block from to k n) →
+            B₄ ≡ put_node B₃ n (span_row node_condition from to k q) → Joint w i tok_comma tok_equals → CondAt w B B₄ at n q left i k
+        condition_of_block {q} s e put put' joint = record {
           x = to_block (get_or w (at + 6 + 4) 0) K.g X.v X.e;
-          on = let o = K.on in let q = X.on in let y = N.stays in omega arith;
-          few = let v = X.few in let y = N.stays in let z = N.rows in omega arith;
+          on = let o = K.on in let x = X.on in omega arith;
+          few = let v = X.few in omega arith;
           rows = block_condition n q B K.g.terms s (s ∙ sym K.first) (e ∙ sym X.last) K.rows K.count X.v X.rows X.count put put';
-          count = N.rows ∙ size_block_condition _ _ n K.g.terms K.count _ X.v X.count;
-          joint = N.joint;
-          means = λ b r p. block_means b r p ∙ moved w i j' (conditioned left b (with_condition r (to_block (get_or w (at + 6 + 4) 0) K.g X.v X.e))) N.stays p;
+          count = size_block_condition _ _ n K.g.terms K.count _ X.v X.count;
+          joint = joint;
+          means = block_means;
         }
 
     -- and terms
@@ -139,18 +139,16 @@ module _ {w : List ℕ} {at : ℕ} (R : Ready w at) (comma : get_or w at 0 ≡ t
             EndingNo w at left a b c d e
         end_follow_no h b r p = end_blocked b r p ∙ run_at_lem w i Y _ p ∙ h _ _ p
 
-        pub ending_of_block : {q from to j' m' : ℕ} {B₃ : List ℕ} → from ≡ get_or w (at + 6 + 4) 0 → to ≡ end_before w i → B₃ ≡ put_node B₂ n (span_row node_ending_block from to k q) →
-            FollowsAt w i k tok_r_brace tok_semicolon j' m' → EndingAt w B B₃ at n q left j' m'
-        ending_of_block {q} {from} {to} {j'} {m'} s e put N = record {
+        pub ending_of_block : {q from to : ℕ} {B₃ : List ℕ} → from ≡ get_or w (at + 6 + 4) 0 → to ≡ end_before w i → B₃ ≡ put_node B₂ n (span_row node_ending_block from to k q) →
+            Joint w i tok_r_brace tok_semicolon → EndingAt w B B₃ at n q left i k
+        ending_of_block {q} s e put joint = record {
           x = end_block K.g X.v X.e;
-          on = let o = K.on in let q = X.on in let y = N.stays in omega arith;
-          few = let v = X.few in let y = N.stays in let z = N.rows in omega arith;
+          on = let o = K.on in let x = X.on in omega arith;
+          few = let v = X.few in omega arith;
           rows = block_ending n q B K.g.terms (s ∙ sym K.first) (e ∙ sym X.last) K.rows K.count X.v X.rows X.count put;
-          count = N.rows ∙ size_block_ending _ _ n K.g.terms K.count X.v X.count;
-          joint = N.joint;
-          means = λ b r p. end_blocked b r p
-              ∙ ap (λ (e : ℕ). runs w i p (ended left b r (end_block K.g X.v X.e) e)) (X.last ∙ ap (λ (x : ℕ). end_before w x) (sym N.stays))
-              ∙ moved w i j' (ended left b r (end_block K.g X.v X.e) (end_before w j')) N.stays p;
+          count = size_block_ending _ _ n K.g.terms K.count X.v X.count;
+          joint = joint;
+          means = λ b r p. end_blocked b r p ∙ ap (λ (e : ℕ). runs w i p (ended left b r (end_block K.g X.v X.e) e)) X.last;
         }
 
 -- ---- an end of terms

@@ -108,9 +108,6 @@ opens_some (suc d) t f n = ap (λ (x : ℕ). go (f x)) (sym (sub-one (suc d)))
 pub leveled : (w : List ℕ) (j d : ℕ) (f : ℕ → State) → (d ≡ 0 → ⊥) → Same w j (f (suc (d - 1))) j (f d)
 leveled w j d f n p = ap (λ (x : ℕ). runs w j p (f x)) (back d n)
 
-pub moved : (w : List ℕ) (i j : ℕ) (st : State) → j ≡ i → Same w i st j st
-moved w i j st e p = ap (λ (k : ℕ). runs w k p st) (sym e)
-
 module _ (w : List ℕ) (at : ℕ) where
   -- the token at the word, taken to be of kind k
   kinded : ℕ → Token

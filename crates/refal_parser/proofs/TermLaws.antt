@@ -1,5 +1,5 @@
 -- Terms with one term more, whose rows are put behind theirs; terms that are closed; a bracket and a call from the answers of their parts.
-use mathlib.Core.Path.{◌≡◌, refl, sym, ap, subst, ◌∙◌}
+use mathlib.Core.Path.{◌≡◌, refl, sym, ap, ◌∙◌}
 use Prim.Native.Nat.{ℕ, suc, ◌+◌, ◌-◌}
 use mathlib.Core.List.{List}
 use native.Mathlib.Omega.{arith}
@@ -13,10 +13,10 @@ use Rattle.refal_parser.specs.Ready.{tok, term_at, after_from, after_to, end_bef
 use Rattle.refal_parser.specs.Begins.{Term, Symbol as the_symbol, Variable, Bracket, Call, NoTerm}
 use Rattle.refal_parser.specs.Writers.{put_node, span_row, w_term, w_terms}
 use Rattle.refal_parser.specs.Post.{runs, Same, Refuses, after, Joint}
-use Rattle.refal_parser.specs.PostTerms.{TermsAt, TermsInv, Closing, ClosesAt, Ends, ClosedNo, UntilAt, TermGot, FollowsAt, Turns, ClauseAt, ClauseNo}
+use Rattle.refal_parser.specs.PostTerms.{TermsAt, TermsInv, Closing, ClosesAt, Ends, ClosedNo, UntilAt, TermGot, Turns, ClauseAt, ClauseNo}
 use Rattle.refal_parser.proofs.TokenLaws.{end_before_lem}
 use Rattle.refal_parser.proofs.Rows.{more_terms, size_terms, whole_bracket, size_bracket, whole_call, size_call}
-use Rattle.refal_parser.proofs.Steps.{term_step, run_at_lem, two_here, leveled, moved, bracket_open, call_open, call_name}
+use Rattle.refal_parser.proofs.Steps.{term_step, run_at_lem, two_here, leveled, bracket_open, call_open, call_name}
 
 -- ---- the machine at a leaf
 -- what a token that is a leaf begins
@@ -118,21 +118,20 @@ module _ (n : ℕ) {w B B' : List ℕ} {at left also want j m : ℕ} (R : Ready 
       ClauseNo w at left also want a b c d e
   clause_no h c st t p = turned c st t p ∙ h (t.u T.g (tok w j) (after_from w j)) (t.v T.g (tok w j) (after_from w j)) p
 
-  pub clause_of_terms : {B'' : List ℕ} {q j' m' : ℕ} → FollowsAt w j m also want j' m' → B'' ≡ w_terms T.g n q B → ClauseAt w B B'' at n q left also want j' m'
-  clause_of_terms {B''} {q} {j'} {m'} K put = record {
+  pub clause_of_terms : {B'' : List ℕ} {q : ℕ} → Joint w j also want → B'' ≡ w_terms T.g n q B → ClauseAt w B B'' at n q left also want j m
+  clause_of_terms {B''} joint put = record {
     g = T.g;
-    on = let a = T.on in let b = K.stays in omega arith;
-    few = let a = T.few in let b = K.stays in let d = K.rows in omega arith;
+    on = T.on;
+    few = T.few;
     rows = put;
-    count = K.rows ∙ T.count;
-    last = T.last ∙ ap (λ (i : ℕ). end_before w i) (sym K.stays);
-    joint = K.joint;
+    count = T.count;
+    last = T.last;
+    joint = joint;
     means = λ c st t p. turned c st t p
         ∙ ap (λ (y : Step). after w j p y)
-        (two_here w j also want (t.u T.g (tok w j) (after_from w j)) (t.v T.g (tok w j) (after_from w j)) _ _ (subst (λ (i : ℕ). Joint w i also want) K.stays K.joint)
+        (two_here w j also want (t.u T.g (tok w j) (after_from w j)) (t.v T.g (tok w j) (after_from w j)) _ _ joint
         ∙ sym (t.state T.g (tok w j) (after_from w j) (after_to w j)))
-        ∙ sym (run_at_lem w j R (st T.g) p)
-        ∙ moved w j j' (st T.g) K.stays p;
+        ∙ sym (run_at_lem w j R (st T.g) p);
   }
 
 -- ---- a bracket

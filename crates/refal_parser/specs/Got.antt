@@ -15,3 +15,8 @@ error_told e = No (reason_code e.reason) (kind_told e.expected) (token_code e.fo
 abbrev pub got_told : Result Place SyntaxError → Got
 got_told (Ok p) = At p.tokens.now p.at p.row
 got_told (Err e) = error_told e
+
+-- the same of a part that answers no place, since it ends at the place p where it begins
+abbrev pub kept_told : Place → Result (Unit {0}) SyntaxError → Got
+kept_told p (Ok _) = At p.tokens.now p.at p.row
+kept_told p (Err e) = error_told e

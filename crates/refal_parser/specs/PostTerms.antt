@@ -9,7 +9,7 @@ use Rattle.refal_parser.specs.Machine.{Argument, Place, State, within, Outcome, 
 use Rattle.refal_parser.specs.Ready.{tok, term_at, after_from, after_to, end_before, Few}
 use Rattle.refal_parser.specs.Writers.{w_term, w_t, w_terms}
 use Rattle.refal_parser.specs.Post.{Cases, runs, Same, Refuses, after, Joint}
-use Rattle.refal_parser.specs.Got.{got_told}
+use Rattle.refal_parser.specs.Got.{got_told, kept_told}
 use Rattle.refal_parser.specs.declared.place.Place.{Place as ThePlace}
 use Rattle.refal_parser.specs.declared.place.Level.{Level}
 use Rattle.refal_parser.specs.declared.answers.SyntaxError.{SyntaxError}
@@ -125,19 +125,14 @@ abbrev pub TermPost : ThePlace → List ℕ → List ℕ → Level → Result Th
 TermPost p B B' l r = Cases p.tokens.now (got_told r) (TermGot p.tokens.now B B' p.at p.row l.parent l.left) (TermNo p.tokens.now p.at l.left)
 
 -- ---- after terms or a block: one of two kinds
-pub record FollowsAt (w : List ℕ) (at m also want j m' : ℕ) : Type 0 where
-  pub stays : j ≡ at
-  pub rows : m' ≡ m
-  pub joint : Joint w j also want
-
 -- a refusal after terms, and after a block
 pub record FollowsNo (w : List ℕ) (at : ℕ) (terms : Bool) (also want a b c x y : ℕ) : Type 0 where
   pub of_terms : terms ≡ true → (u v : Step) (p : Program) →
       after w at p (closing want (either also u want v) (tok w at) (after_from w at) (after_to w at)) ≡ refuse a b c x y
   pub of_block : terms ≡ false → (u v : Step) (p : Program) → after w at p (among (either also u want v) (tok w at) (expected want (tok w at))) ≡ refuse a b c x y
 
-abbrev pub FollowsPost : ThePlace → Bool → ℕ → ℕ → Result ThePlace SyntaxError → Type 0
-FollowsPost p terms also want r = Cases p.tokens.now (got_told r) (FollowsAt p.tokens.now p.at p.row also want) (FollowsNo p.tokens.now p.at terms also want)
+abbrev pub FollowsPost : ThePlace → Bool → ℕ → ℕ → Result (Unit {0}) SyntaxError → Type 0
+FollowsPost p terms also want r = Cases p.tokens.now (kept_told p r) (λ j m. Joint p.tokens.now j also want) (FollowsNo p.tokens.now p.at terms also want)
 
 -- ---- terms up to one of two kinds, with a Terms row, row n: a place c that its terms f leave by one of them, and a state that goes on by the same
 pub record Turns (left : ℕ) (c : Place) (also want : ℕ) (st : Terms → State) : Type 0 where

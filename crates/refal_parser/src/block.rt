@@ -19,8 +19,11 @@ impl<'t> Place<'t> {
     {
         let start = self.next(self.row + 1);
         let from = start.token().from;
-        let parent = self.row as u32;
-        let asked = start.argument(rows, Level { parent, ..level })?;
+        let under = Level {
+            parent: self.row as u32,
+            ..level
+        };
+        let asked = start.argument(rows, under)?;
         if let TokenKind::LBrace = asked.kind() {
             let mut inside = asked;
             inside.row += 1;
@@ -29,14 +32,14 @@ impl<'t> Place<'t> {
                 ..level
             };
             let end = inside.block(rows, within)?;
-            let part = end.since(from, parent);
+            let part = end.since(from, under.parent);
             part.bare(NodeKind::ConditionBlock).put(rows, asked.row);
             let whole = end.since(from, level.parent);
             whole.bare(NodeKind::Condition).put(rows, self.row);
-            return end.follows(false, TokenKind::Comma, TokenKind::Equals);
+            end.follows(false, TokenKind::Comma, TokenKind::Equals)?;
+            return Ok(end);
         }
         let (also, want) = (TokenKind::Comma, TokenKind::Equals);
-        let under = Level { parent, ..level };
         let end = asked.clause(rows, under, also, want)?;
         let whole = end.since(from, level.parent);
         whole.bare(NodeKind::Condition).put(rows, self.row);
@@ -68,7 +71,8 @@ impl<'t> Place<'t> {
         let end = asked.block(rows, under)?;
         let whole = end.since(from, level.parent);
         whole.bare(NodeKind::EndingBlock).put(rows, self.row);
-        end.follows(false, TokenKind::RBrace, TokenKind::Semicolon)
+        end.follows(false, TokenKind::RBrace, TokenKind::Semicolon)?;
+        Ok(end)
     }
 
     // The row of a sentence under this parent, whose span begins at `from` and of which all but its `;` ends at the place; where the

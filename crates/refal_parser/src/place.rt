@@ -6,7 +6,8 @@ use refal_ast::kinds::TokenKind;
 use refal_ast::tokens::{Token, WIDTH};
 
 // The tokens, the word where the next one begins, and the row that is put next. It goes by value: a part of the parser takes the
-// place where it begins, and answers the one where it ends.
+// place where it begins, and answers the one where it ends. Beside it go the rows, which are lent and can't be copied with it,
+// and the levels left, which are as many at the end as at the start.
 #[derive(Clone, Copy)]
 pub struct Place<'t> {
     pub tokens: &'t [u32],

@@ -156,11 +156,11 @@ impl<'t> Place<'t> {
     {
         let mut first = self;
         first.row += 1;
-        let inside = Level {
+        let under = Level {
             parent: self.row as u32,
             ..level
         };
-        let end = first.until(rows, inside, TokenKind::Colon)?;
+        let end = first.until(rows, under, TokenKind::Colon)?;
         let spanless = Extent {
             from: 0,
             to: 0,
@@ -171,19 +171,14 @@ impl<'t> Place<'t> {
         Ok(end)
     }
 
-    // After terms, or after a block: one of two kinds, which is left to the caller. After terms Eof is 35 and another kind 34; after a
-    // block another kind is 35.
-    pub fn follows(
-        self,
-        terms: bool,
-        also: TokenKind,
-        want: TokenKind,
-    ) -> Result<Place<'t>, SyntaxError>
+    // Whether one of two kinds stands after terms, or after a block. After terms Eof is 35 and another kind 34; after a block another
+    // kind is 35.
+    pub fn follows(self, terms: bool, also: TokenKind, want: TokenKind) -> Result<(), SyntaxError>
         ensures { FollowsPost self.entry terms (token_code also) (token_code want) result }
     {
         let kind = self.kind();
         if kind == also || kind == want {
-            return Ok(self);
+            return Ok(());
         }
         if terms && kind != TokenKind::Eof {
             return Err(self.taken(Reason::NoTerm, None));
@@ -204,11 +199,11 @@ impl<'t> Place<'t> {
     {
         let mut first = self;
         first.row += 1;
-        let inside = Level {
+        let under = Level {
             parent: self.row as u32,
             ..level
         };
-        let end = first.terms(rows, inside)?;
+        let end = first.terms(rows, under)?;
         let spanless = Extent {
             from: 0,
             to: 0,
@@ -216,6 +211,7 @@ impl<'t> Place<'t> {
             parent: level.parent,
         };
         spanless.bare(NodeKind::Terms).put(rows, self.row);
-        end.follows(true, also, want)
+        end.follows(true, also, want)?;
+        Ok(end)
     }
 }

@@ -94,17 +94,20 @@ condition-since-whole-requires t c = let B = got c.in_ok-end.ensures in let Z = 
 pub condition-put-requires : goal.condition-put-requires
 condition-put-requires t c = let A = got c.in_ok-asked.ensures in let R = c.in_ok-asked.asked.ready in let v₁ = A.few in omega arith
 
+pub condition-returns-in_err-follows : goal.condition-returns-in_err-follows
+condition-returns-in_err-follows t c = let E = rw c.next-start.ensures.1 at c.in_ok-asked.ensures in
+    let X = rw (stays E) at c.in_ok-end.ensures in
+    passed _ _ c.from_residual-in_err-follows.ensures.1 (follow_no c.args.self.ready c.requires.1 _ (got E) (rw (stays E) at c.in_ok-asked.asked.ready) (is_kind (rw (stays E) at c.kind.ensures) c.in-LBrace.is)
+    (got X) (rw (stays X) at c.in_ok-end.end.ready) ((not_got (rw (stays X) at c.in_err-follows.ensures)).of_block refl))
+
 pub condition-returns-in-LBrace : goal.condition-returns-in-LBrace
 condition-returns-in-LBrace t c = let E = rw c.next-start.ensures.1 at c.in_ok-asked.ensures in
     let X = rw (stays E) at c.in_ok-end.ensures in
-    let k₇ = is_kind (rw (stays E) at c.kind.ensures) c.in-LBrace.is in
+    let s = stays X in
     let F = rw c.next-start.ensures.1 at c.token-from.ensures in
-    let S = rw (stays E) at c.in_ok-asked.asked.ready in
-    let Y = rw (stays X) at c.in_ok-end.end.ready in
-    turned (rw (stays X) at c.follows.ensures)
-    (λ j m K. condition_of_block c.args.self.ready c.requires.1 _ (got E) S k₇ (got X) Y F.from refl (put_as _ _ _ c.put.ensures (rw (c.since-part.ensures.1, stays X) at c.bare.ensures))
-    (put_as _ _ _ c.put-in-LBrace.ensures (rw (c.since-whole.ensures.1, stays X) at c.bare-in-LBrace.ensures)) K)
-    (λ a z k d e no. follow_no c.args.self.ready c.requires.1 _ (got E) S k₇ (got X) Y (no.of_block refl))
+    is_at refl s (condition_of_block c.args.self.ready c.requires.1 _ (got E) (rw (stays E) at c.in_ok-asked.asked.ready) (is_kind (rw (stays E) at c.kind.ensures) c.in-LBrace.is)
+    (got X) (rw s at c.in_ok-end.end.ready) F.from refl (put_as _ _ _ c.put.ensures (rw (c.since-part.ensures.1, s) at c.bare.ensures)) (put_as _ _ _ c.put-in-LBrace.ensures (rw (c.since-whole.ensures.1, s) at c.bare-in-LBrace.ensures))
+    (got (rw s at c.in_ok-follows.ensures)))
 
 pub condition-clause-requires : goal.condition-clause-requires
 condition-clause-requires t c = let A = got c.in_ok-asked.ensures in let R = c.in_ok-asked.asked.ready in let o = A.on in let v₁ = A.few in omega arith
@@ -166,17 +169,20 @@ ending-returns-in_err-end t c = let E = rw c.next-start.ensures.1 at c.in_ok-ask
 pub ending-since-whole-requires : goal.ending-since-whole-requires
 ending-since-whole-requires t c = let B = got c.in_ok-end.ensures in let Z = c.in_ok-end.end.ready in let q = B.on in let v = B.few in (omega arith, omega arith)
 
+pub ending-returns-in_err-follows : goal.ending-returns-in_err-follows
+ending-returns-in_err-follows t c = let E = rw c.next-start.ensures.1 at c.in_ok-asked.ensures in
+    let X = rw (stays E) at c.in_ok-end.ensures in
+    passed _ _ c.from_residual-in_err-follows.ensures.1 (end_follow_no c.args.self.ready (is_kind c.kind.ensures c.in-Comma.is) _ (got E) (rw (stays E) at c.in_ok-asked.asked.ready)
+    (is_kind (rw (stays E) at c.kind-2.ensures) c.in-LBrace.is) (got X) (rw (stays X) at c.in_ok-end.end.ready) ((not_got (rw (stays X) at c.in_err-follows.ensures)).of_block refl))
+
 pub ending-returns : goal.ending-returns
 ending-returns t c = let E = rw c.next-start.ensures.1 at c.in_ok-asked.ensures in
     let X = rw (stays E) at c.in_ok-end.ensures in
-    let k₁₃ = is_kind c.kind.ensures c.in-Comma.is in
-    let k₇ = is_kind (rw (stays E) at c.kind-2.ensures) c.in-LBrace.is in
+    let s = stays X in
     let F = rw c.next-start.ensures.1 at c.token-from.ensures in
-    let S = rw (stays E) at c.in_ok-asked.asked.ready in
-    let Y = rw (stays X) at c.in_ok-end.end.ready in
-    turned (rw (stays X) at c.follows.ensures)
-    (λ j m K. ending_of_block c.args.self.ready k₁₃ _ (got E) S k₇ (got X) Y F.from refl (put_as _ _ _ c.put.ensures (rw (c.since-whole.ensures.1, stays X) at c.bare.ensures)) K)
-    (λ a z k d e no. end_follow_no c.args.self.ready k₁₃ _ (got E) S k₇ (got X) Y (no.of_block refl))
+    is_at refl s (ending_of_block c.args.self.ready (is_kind c.kind.ensures c.in-Comma.is) _ (got E) (rw (stays E) at c.in_ok-asked.asked.ready)
+    (is_kind (rw (stays E) at c.kind-2.ensures) c.in-LBrace.is) (got X) (rw s at c.in_ok-end.end.ready) F.from refl
+    (put_as _ _ _ c.put.ensures (rw (c.since-whole.ensures.1, s) at c.bare.ensures)) (got (rw s at c.in_ok-follows.ensures)))
 
 pub sentence-returns-in_err-place : goal.sentence-returns-in_err-place
 sentence-returns-in_err-place t c = passed _ _ c.from_residual.ensures.1 (λ b s p. not_got c.in_err-place.ensures _ _ (turn_pattern _ b s _) p)

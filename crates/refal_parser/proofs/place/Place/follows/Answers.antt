@@ -15,7 +15,7 @@ returns-then-eq c = let a = c.args in
       | then-eq-via-then-eq w ↦ λ n. absurd (n (is_kind T (same_kind w.if-eq.ensures)))
       | then-eq-via-else-eq+then-eq-2 w ↦ λ n. is_kind T (same_kind w.if-eq-2.ensures)
     ] in
-    is_at refl refl (record { stays = refl; rows = refl; joint = j })
+    is_at refl refl j
 
 pub returns-then-ne : goal.returns-then-ne
 returns-then-ne c = let a = c.args in
