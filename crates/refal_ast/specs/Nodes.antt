@@ -1,5 +1,5 @@
 -- Node rows: a node's words, and the nodes whose rows stand in a list of words. The width of a row and its columns are fixed here.
-use Rattle.std.specs.Prelude.{ℕ, ◌+◌, ◌*◌, ◌%◌, ◌≤◌, Bool, ◌||◌, List, [], ◌∷◌, ◌++◌, eqb, length, get_or}
+use Rattle.std.specs.Prelude.{ℕ, ◌+◌, ◌*◌, ◌%◌, ◌≤◌, Bool, ◌||◌, List, [], ◌∷◌, eqb, length, get_or}
 use Rattle.refal_ast.specs.Kinds.{node_name, node_function, node_identifier, node_number, node_variable, node_call}
 
 -- kind, detail, text start and length, span start and end, next: the row after the subtree, parent: the parent's row
@@ -81,11 +81,6 @@ HasRow w i = node_width * (i + 1) ≤ length w
 -- no words beside whole rows
 abbrev pub whole_rows : List ℕ → Bool
 whole_rows w = eqb (length w % node_width) 0
-
--- the rows of a list of nodes, one after the other
-abbrev pub flat_nodes : List Node → List ℕ
-flat_nodes [] = []
-flat_nodes (x ∷ xs) = node_words x ++ flat_nodes xs
 
 -- the nodes whose rows stand in a list of words; words short of a whole row hold none
 unfoldable pub nodes_of : List ℕ → List Node
