@@ -50,8 +50,7 @@ impl<'t> Place<'t> {
         while let TokenKind::Comma = place.kind() {
             place = place.next(place.row).name(rows, parent)?;
         }
-        let last = place.token();
-        let TokenKind::Semicolon = last.kind else {
+        let TokenKind::Semicolon = place.kind() else {
             let expected = Some(TokenKind::Semicolon);
             return Err(place.present(Reason::OtherKind, expected));
         };

@@ -77,12 +77,12 @@ loop-place-preserved c = let w = c.args.self.tokens.now in
 
 pub returns-in_default-kind : goal.returns-in_default-kind
 returns-in_default-kind c = let I = c.loop-place.invariant in
-    let L = rw I.0 at c.token-last.ensures in
+    let L = rw I.0 at c.kind-2.ensures in
     is_no (rw I.0 at c.present.ensures) (λ p. I.1.means p
-    ∙ named_none _ _ (rw I.0 at c.loop-place.place.ready) _ I.1.ns (not_kind (rw I.0 at c.kind.ensures) c.in_default.not-Comma) (not_kind L.kind c.in_default-kind.not-Semicolon) p)
+    ∙ named_none _ _ (rw I.0 at c.loop-place.place.ready) _ I.1.ns (not_kind (rw I.0 at c.kind.ensures) c.in_default.not-Comma) (not_kind L c.in_default-kind.not-Semicolon) p)
 
 pub next-end-requires : goal.next-end-requires
-next-end-requires c = other _ _ _ (is_kind c.token-last.ensures.kind c.in-Semicolon.is) refl
+next-end-requires c = other _ _ _ (is_kind c.kind-2.ensures c.in-Semicolon.is) refl
 
 pub since-whole-requires : goal.since-whole-requires
 since-whole-requires c = let R = c.loop-place.place.ready in let v = c.loop-place.invariant.1.few in rw c.next-end.ensures.1 (omega arith, omega arith)
@@ -94,8 +94,8 @@ returns c = let w = c.args.self.tokens.now in
     let i₀ = c.loop-place.place.at in
     let I = c.loop-place.invariant in
     let F = got (rw c.next.ensures.1 at c.in_ok-place.ensures) in
-    let L = rw I.0 at c.token-last.ensures in
-    let k₁₆ = is_kind L.kind c.in-Semicolon.is in
+    let L = rw I.0 at c.kind-2.ensures in
+    let k₁₆ = is_kind L c.in-Semicolon.is in
     let N = c.next-end.ensures in
     rw N.1 (is_at refl I.0 (record {
       x = itemDeclaration (get_or w (at₀ + 4) 0) I.1.ns (get_or w (i₀ + 5) 0);
