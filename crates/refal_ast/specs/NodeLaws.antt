@@ -1,7 +1,7 @@
 -- Laws of node rows: how many nodes stand in words, and row i among them.
 use Rattle.std.specs.Prelude.{ℕ, zero, suc, ◌+◌, ◌*◌, ◌/◌, List, [], ◌∷◌, ◌++◌, ◌≡◌, refl, length, get_or}
 use Rattle.std.proofs.Common.{sym, ap, ◌∙◌, arith, get_or-append-add}
-use Rattle.refal_ast.specs.Nodes.{Node, node_words, node_width, word_at, node_at, HasRow, nodes_of}
+use Rattle.refal_ast.specs.Nodes.{Node, node_words, node_width, col_kind, col_detail, col_start, col_len, col_from, col_to, col_next, col_parent, word_at, node_at, HasRow, nodes_of}
 
 -- how many nodes a list of words holds
 pub count_nodes : (w : List ℕ) → length (nodes_of w) ≡ length w / node_width
@@ -24,14 +24,14 @@ behind x w i column =
 
 node_behind : (x : Node) (w : List ℕ) (i : ℕ) → node_at (node_words x ++ w) (suc i) ≡ node_at w i
 node_behind x w i = λ j. record {
-  kind = behind x w i 0 j;
-  detail = behind x w i 1 j;
-  start = behind x w i 2 j;
-  len = behind x w i 3 j;
-  from = behind x w i 4 j;
-  to = behind x w i 5 j;
-  next = behind x w i 6 j;
-  parent = behind x w i 7 j;
+  kind = behind x w i col_kind j;
+  detail = behind x w i col_detail j;
+  start = behind x w i col_start j;
+  len = behind x w i col_len j;
+  from = behind x w i col_from j;
+  to = behind x w i col_to j;
+  next = behind x w i col_next j;
+  parent = behind x w i col_parent j;
 }
 
 -- row i is node i

@@ -2,7 +2,7 @@
 use Rattle.std.specs.Prelude.{ℕ, zero, suc, ◌+◌, ◌*◌, ◌-◌, ◌/◌, ◌%◌, ◌≤◌, ◌<◌, Bool, true, false, List, [], ◌∷◌, ◌++◌, ◌≡◌, refl, eqb, length, get_or, drop}
 use Rattle.std.proofs.Common.{append_assoc, append-nil, sym, ap, subst, ◌∙◌, arith, length-append, length-drop, drop_of_length-le, get_or-append-add, get_or-drop, drop-drop, eq-eqb, eqb-true}
 use Rattle.std.proofs.Math.Option.{Option, none, some}
-use Rattle.refal_ast.specs.Nodes.{node_width, no_parent, word_at, HasRow, whole_rows}
+use Rattle.refal_ast.specs.Nodes.{node_width, no_parent, col_kind, col_detail, col_start, col_len, col_from, col_to, col_next, col_parent, word_at, HasRow, whole_rows}
 use Rattle.refal_tree.specs.Forest.{Row, Forest, empty, tree, size_g, row_words, enc_g}
 use Rattle.refal_tree.specs.Ranges.{row_at, next_at, parent_at, joined, linked, Linked, linked_true, Finds, forest_in, forest_from, forest_row, forest_at, pick_forest, forest_of, forest_turn, forest_end, forest_all}
 
@@ -46,7 +46,7 @@ forest_at_lem (tree r f g) P S n q l =
     let w : List ℕ = P ++ ((R ++ (A ++ B)) ++ S) in
     let word : (c : ℕ) → word_at w n c ≡ get_or ((R ++ (A ++ B)) ++ S) c 0 =
     λ (c : ℕ). ap (λ (m : ℕ). get_or w m 0) (let e : node_width * n + c ≡ length P + c = omega arith in e) ∙ get_or-append-add P ((R ++ (A ++ B)) ++ S) c 0 in
-    let here : row_at w n ≡ r = λ t. record { kind = word 0 t; detail = word 1 t; start = word 2 t; len = word 3 t; from = word 4 t; to = word 5 t } in
+    let here : row_at w n ≡ r = λ t. record { kind = word col_kind t; detail = word col_detail t; start = word col_start t; len = word col_len t; from = word col_from t; to = word col_to t } in
     let kids : forest_at w (n + 1) x n ≡ some f =
     ap (λ (v : List ℕ). forest_at v (n + 1) x n) (before_kids P R A B S)
     ∙ forest_at_lem f (P ++ R) (B ++ S) (n + 1) n (let k = length-append P R in let e : length (P ++ R) ≡ node_width * (n + 1) = omega arith in e) in
@@ -55,7 +55,7 @@ forest_at_lem (tree r f g) P S n q l =
     ∙ ap (λ (m : ℕ). forest_at ((P ++ (R ++ A)) ++ (B ++ S)) x m q) (let e : n + (1 + size_g f + size_g g) ≡ x + size_g g = omega arith in e)
     ∙ forest_at_lem g (P ++ (R ++ A)) S x q
     (let k = length-append P (R ++ A) in let m = length_enc f (n + 1) n in let e : length (P ++ (R ++ A)) ≡ node_width * x = omega arith in e) in
-    turn_is w n (n + (1 + size_g f + size_g g)) q x r f g here (word 6) (word 7) (omega arith) (omega arith) kids rest
+    turn_is w n (n + (1 + size_g f + size_g g)) q x r f g here (word col_next) (word col_parent) (omega arith) (omega arith) kids rest
 
 pub forest_enc : (f : Forest) → forest_of (enc_g f 0 no_parent) ≡ some f
 forest_enc f =
@@ -69,7 +69,7 @@ forest_enc f =
 
 -- the first row of a list
 first_row : (l : List ℕ) → node_width ≤ length l
-    → l ≡ get_or l 0 0 ∷ get_or l 1 0 ∷ get_or l 2 0 ∷ get_or l 3 0 ∷ get_or l 4 0 ∷ get_or l 5 0 ∷ get_or l 6 0 ∷ get_or l 7 0 ∷ drop node_width l
+    → l ≡ get_or l col_kind 0 ∷ get_or l col_detail 0 ∷ get_or l col_start 0 ∷ get_or l col_len 0 ∷ get_or l col_from 0 ∷ get_or l col_to 0 ∷ get_or l col_next 0 ∷ get_or l col_parent 0 ∷ drop node_width l
 first_row [] h = absurd (omega arith)
 first_row (k ∷ []) h = absurd (omega arith)
 first_row (k ∷ d ∷ []) h = absurd (omega arith)
@@ -87,7 +87,7 @@ row_there w i h =
     let behind : drop node_width (drop (node_width * i) w) ≡ drop (node_width * (i + 1)) w =
     drop-drop node_width (node_width * i) w ∙ ap (λ (n : ℕ). drop n w) (let e : node_width * i + node_width ≡ node_width * (i + 1) = omega arith in e) in
     first_row (drop (node_width * i) w) (let k = length-drop (node_width * i) w in omega arith)
-    ∙ (λ t. at 0 t ∷ at 1 t ∷ at 2 t ∷ at 3 t ∷ at 4 t ∷ at 5 t ∷ at 6 t ∷ at 7 t ∷ behind t)
+    ∙ (λ t. at col_kind t ∷ at col_detail t ∷ at col_start t ∷ at col_len t ∷ at col_from t ∷ at col_to t ∷ at col_next t ∷ at col_parent t ∷ behind t)
 
 -- rows i to j are a forest's
 pub record Holds (w : List ℕ) (i j q : ℕ) (f : Forest) : Type 0 where
