@@ -2,7 +2,7 @@
 
 use oracle::generate::tokens;
 use oracle::reference::{self, parse, read, write};
-use oracle::terms::Refusal;
+use oracle::terms::{NO_PARENT, NodeRow, Refusal};
 
 fn read_spans(src: &str) -> Vec<(u32, u32, u32)> {
     let tokens = read::tokens(src.as_bytes()).expect(src);
@@ -19,7 +19,7 @@ fn parse_refusal(src: &str) -> Refusal {
     parse::tree(&tokens::flat(&tokens)).expect_err(src)
 }
 
-fn tree(src: &str) -> Vec<[u32; 7]> {
+fn tree(src: &str) -> Vec<NodeRow> {
     let tokens = read::tokens(src.as_bytes()).expect(src);
     parse::tree(&tokens::flat(&tokens)).expect(src)
 }
@@ -142,15 +142,15 @@ fn the_last_semicolon() {
     assert_eq!(
         tree("F{=A}"),
         [
-            [3, 0, 0, 1, 0, 5, 5],
-            [4, 1, 0, 0, 2, 4, 5],
-            [6, 0, 0, 0, 0, 0, 3],
-            [6, 0, 0, 0, 0, 0, 5],
-            [9, 0, 3, 1, 3, 4, 5],
+            [3, 0, 0, 1, 0, 5, 5, NO_PARENT],
+            [4, 1, 0, 0, 2, 4, 5, 0],
+            [6, 0, 0, 0, 0, 0, 3, 1],
+            [6, 0, 0, 0, 0, 0, 5, 1],
+            [9, 0, 3, 1, 3, 4, 5, 3],
         ]
     );
     assert_eq!(written("F{=A}"), "F { = A } ");
-    assert_eq!(tree("F{=}")[1], [4, 1, 0, 0, 2, 3, 4]);
+    assert_eq!(tree("F{=}")[1], [4, 1, 0, 0, 2, 3, 4, 0]);
     assert_eq!(written("F{=}"), "F { = } ");
     let src = "F{=;A,B:{=}=,C:{=D}}";
     let sentences: Vec<_> = tree(src)
@@ -182,6 +182,23 @@ fn where_a_semicolon_may_lack() {
     }
 }
 
+/// Each row names its parent; a row that names another is no lawful tree's.
+#[test]
+fn parents() {
+    let src = "F{,A(B):{=;}=;}";
+    let rows = tree(src);
+    let parents: Vec<u32> = rows.iter().map(|row| row[7]).collect();
+    assert_eq!(parents, [NO_PARENT, 0, 1, 1, 3, 4, 4, 6, 3, 8, 9, 9, 1]);
+    for at in 0..rows.len() {
+        for other in [0, parents[at].wrapping_sub(1), parents[at].wrapping_add(1)] {
+            let mut rows = rows.clone();
+            rows[at][7] = other;
+            let refused = write::text(&rows.concat(), src.as_bytes()).is_err();
+            assert_eq!(refused, other != parents[at], "{at}: {other}");
+        }
+    }
+}
+
 #[test]
 fn depth() {
     for (open, close, found) in [("(", ")", 9), ("<G ", ">", 11)] {
@@ -209,10 +226,10 @@ fn the_program_of_01() {
     assert_eq!(
         tree(src),
         [
-            [3, 1, 7, 2, 0, 13, 4],
-            [4, 0, 0, 0, 10, 12, 4],
-            [6, 0, 0, 0, 0, 0, 3],
-            [6, 0, 0, 0, 0, 0, 4],
+            [3, 1, 7, 2, 0, 13, 4, NO_PARENT],
+            [4, 0, 0, 0, 10, 12, 4, 0],
+            [6, 0, 0, 0, 0, 0, 3, 1],
+            [6, 0, 0, 0, 0, 0, 4, 1],
         ]
     );
     assert_eq!(written(src), "$ENTRY Go { = ; } ");
@@ -233,7 +250,7 @@ fn capacities() {
     let tokens = tokens::flat(&read::tokens(b"F{}").expect("read"));
     assert_eq!(reference::parse(&tokens, &mut rows), [38, 0, 0, 0, 0, 0, 1]);
     assert_eq!(rows, [0; 6]);
-    let tree = [3, 0, 0, 1, 0, 3, 1];
+    let tree = [3, 0, 0, 1, 0, 3, 1, NO_PARENT];
     let mut out = [7; 7];
     assert_eq!(
         reference::write(&tree, b"F", &mut out),
@@ -252,7 +269,7 @@ fn capacities() {
         [41, 0, 0, 0, 0, 0, 0]
     );
     assert_eq!(
-        reference::write(&tree[..6], b"F", &mut out),
+        reference::write(&tree[..7], b"F", &mut out),
         [40, 0, 0, 0, 0, 0, 0]
     );
     let mut out = [7; 3];

@@ -1,28 +1,7 @@
--- Laws of node rows: the nodes of rows, the rows of nodes, and row i among them.
-use Rattle.std.specs.Prelude.{ℕ, zero, suc, ◌+◌, ◌*◌, ◌%◌, ◌/◌, List, [], ◌∷◌, ◌++◌, ◌≡◌, refl, length, get_or}
+-- Laws of node rows: how many nodes stand in words, and row i among them.
+use Rattle.std.specs.Prelude.{ℕ, zero, suc, ◌+◌, ◌*◌, ◌/◌, List, [], ◌∷◌, ◌++◌, ◌≡◌, refl, length, get_or}
 use Rattle.std.proofs.Common.{sym, ap, ◌∙◌, arith, get_or-append-add}
-use Rattle.refal_ast.specs.Nodes.{Node, node_words, node_width, word_at, node_at, HasRow, flat_nodes, nodes_of}
-
-pub nodes_flat : (xs : List Node) (w : List ℕ) → nodes_of (flat_nodes xs ++ w) ≡ xs ++ nodes_of w
-unfolding nodes_of
-nodes_flat [] w = refl
-nodes_flat (x ∷ xs) w = ap (λ (l : List Node). x ∷ l) (nodes_flat xs w)
-
-pub length_nodes : (xs : List Node) → length (flat_nodes xs) ≡ node_width * length xs
-length_nodes [] = refl
-length_nodes (x ∷ xs) = let ih = length_nodes xs in omega arith
-
--- whole rows are the rows of their nodes
-pub flat_nodes_lem : (w : List ℕ) → length w % node_width ≡ 0 → w ≡ flat_nodes (nodes_of w)
-unfolding nodes_of
-flat_nodes_lem [] h = refl
-flat_nodes_lem (k ∷ []) h = absurd (omega arith)
-flat_nodes_lem (k ∷ d ∷ []) h = absurd (omega arith)
-flat_nodes_lem (k ∷ d ∷ s ∷ []) h = absurd (omega arith)
-flat_nodes_lem (k ∷ d ∷ s ∷ l ∷ []) h = absurd (omega arith)
-flat_nodes_lem (k ∷ d ∷ s ∷ l ∷ a ∷ []) h = absurd (omega arith)
-flat_nodes_lem (k ∷ d ∷ s ∷ l ∷ a ∷ b ∷ []) h = absurd (omega arith)
-flat_nodes_lem (k ∷ d ∷ s ∷ l ∷ a ∷ b ∷ x ∷ w) h = ap (λ (y : List ℕ). k ∷ d ∷ s ∷ l ∷ a ∷ b ∷ x ∷ y) (flat_nodes_lem w (omega arith))
+use Rattle.refal_ast.specs.Nodes.{Node, node_words, node_width, col_kind, col_detail, col_start, col_len, col_from, col_to, col_next, col_parent, word_at, node_at, HasRow, nodes_of}
 
 -- how many nodes a list of words holds
 pub count_nodes : (w : List ℕ) → length (nodes_of w) ≡ length w / node_width
@@ -34,7 +13,8 @@ count_nodes (k ∷ d ∷ s ∷ []) = refl
 count_nodes (k ∷ d ∷ s ∷ l ∷ []) = refl
 count_nodes (k ∷ d ∷ s ∷ l ∷ a ∷ []) = refl
 count_nodes (k ∷ d ∷ s ∷ l ∷ a ∷ b ∷ []) = refl
-count_nodes (k ∷ d ∷ s ∷ l ∷ a ∷ b ∷ x ∷ w) = let ih = count_nodes w in omega arith
+count_nodes (k ∷ d ∷ s ∷ l ∷ a ∷ b ∷ x ∷ []) = refl
+count_nodes (k ∷ d ∷ s ∷ l ∷ a ∷ b ∷ x ∷ q ∷ w) = let ih = count_nodes w in omega arith
 
 -- a word behind a row
 behind : (x : Node) (w : List ℕ) (i column : ℕ) → word_at (node_words x ++ w) (suc i) column ≡ word_at w i column
@@ -44,13 +24,14 @@ behind x w i column =
 
 node_behind : (x : Node) (w : List ℕ) (i : ℕ) → node_at (node_words x ++ w) (suc i) ≡ node_at w i
 node_behind x w i = λ j. record {
-  kind = behind x w i 0 j;
-  detail = behind x w i 1 j;
-  start = behind x w i 2 j;
-  len = behind x w i 3 j;
-  from = behind x w i 4 j;
-  to = behind x w i 5 j;
-  next = behind x w i 6 j;
+  kind = behind x w i col_kind j;
+  detail = behind x w i col_detail j;
+  start = behind x w i col_start j;
+  len = behind x w i col_len j;
+  from = behind x w i col_from j;
+  to = behind x w i col_to j;
+  next = behind x w i col_next j;
+  parent = behind x w i col_parent j;
 }
 
 -- row i is node i
@@ -63,6 +44,7 @@ node_at_lem (k ∷ d ∷ s ∷ []) i y h = absurd (omega arith)
 node_at_lem (k ∷ d ∷ s ∷ l ∷ []) i y h = absurd (omega arith)
 node_at_lem (k ∷ d ∷ s ∷ l ∷ a ∷ []) i y h = absurd (omega arith)
 node_at_lem (k ∷ d ∷ s ∷ l ∷ a ∷ b ∷ []) i y h = absurd (omega arith)
-node_at_lem (k ∷ d ∷ s ∷ l ∷ a ∷ b ∷ x ∷ w) zero y h = refl
-node_at_lem (k ∷ d ∷ s ∷ l ∷ a ∷ b ∷ x ∷ w) (suc i) y h =
-    node_at_lem w i y (omega arith) ∙ sym (node_behind (record { kind = k; detail = d; start = s; len = l; from = a; to = b; next = x }) w i)
+node_at_lem (k ∷ d ∷ s ∷ l ∷ a ∷ b ∷ x ∷ []) i y h = absurd (omega arith)
+node_at_lem (k ∷ d ∷ s ∷ l ∷ a ∷ b ∷ x ∷ q ∷ w) zero y h = refl
+node_at_lem (k ∷ d ∷ s ∷ l ∷ a ∷ b ∷ x ∷ q ∷ w) (suc i) y h =
+    node_at_lem w i y (omega arith) ∙ sym (node_behind (record { kind = k; detail = d; start = s; len = l; from = a; to = b; next = x; parent = q }) w i)

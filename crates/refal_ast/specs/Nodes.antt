@@ -1,8 +1,8 @@
 -- Node rows: a node's words, and the nodes whose rows stand in a list of words. The width of a row and its columns are fixed here.
-use Rattle.std.specs.Prelude.{ℕ, ◌+◌, ◌*◌, ◌%◌, ◌≤◌, Bool, ◌||◌, List, [], ◌∷◌, ◌++◌, eqb, length, get_or}
+use Rattle.std.specs.Prelude.{ℕ, ◌+◌, ◌*◌, ◌%◌, ◌≤◌, Bool, ◌||◌, List, [], ◌∷◌, eqb, length, get_or}
 use Rattle.refal_ast.specs.Kinds.{node_name, node_function, node_identifier, node_number, node_variable, node_call}
 
--- kind, detail, text start and length, span start and end, next: the row after the subtree
+-- kind, detail, text start and length, span start and end, next: the row after the subtree, parent: the parent's row
 pub record Node : Type 0 where
   pub kind : ℕ
   pub detail : ℕ
@@ -11,13 +11,18 @@ pub record Node : Type 0 where
   pub from : ℕ
   pub to : ℕ
   pub next : ℕ
+  pub parent : ℕ
+
+-- the parent of a top row
+abbrev pub no_parent : ℕ
+no_parent = 4294967295
 
 -- a node's row
-abbrev pub node : ℕ → ℕ → ℕ → ℕ → ℕ → ℕ → ℕ → List ℕ
-node kind detail start len from to next = kind ∷ detail ∷ start ∷ len ∷ from ∷ to ∷ next ∷ []
+abbrev pub node : ℕ → ℕ → ℕ → ℕ → ℕ → ℕ → ℕ → ℕ → List ℕ
+node kind detail start len from to next parent = kind ∷ detail ∷ start ∷ len ∷ from ∷ to ∷ next ∷ parent ∷ []
 
 abbrev pub node_words : Node → List ℕ
-node_words x = node x.kind x.detail x.start x.len x.from x.to x.next
+node_words x = node x.kind x.detail x.start x.len x.from x.to x.next x.parent
 
 -- the kinds that use their text: Name, Function, Identifier, Number, Variable, Call
 abbrev pub has_text : ℕ → Bool
@@ -25,7 +30,7 @@ has_text k = ((((eqb k node_name || eqb k node_function) || eqb k node_identifie
 
 -- how many words a row has
 abbrev pub node_width : ℕ
-node_width = 7
+node_width = 8
 
 -- the columns of a row
 abbrev pub col_kind : ℕ
@@ -49,6 +54,9 @@ col_to = 5
 abbrev pub col_next : ℕ
 col_next = 6
 
+abbrev pub col_parent : ℕ
+col_parent = 7
+
 -- the word of row i in a column
 abbrev pub word_at : List ℕ → ℕ → ℕ → ℕ
 word_at w i column = get_or w (node_width * i + column) 0
@@ -63,6 +71,7 @@ node_at w i = record {
   from = word_at w i col_from;
   to = word_at w i col_to;
   next = word_at w i col_next;
+  parent = word_at w i col_parent;
 }
 
 -- row i stands whole in the words
@@ -73,11 +82,6 @@ HasRow w i = node_width * (i + 1) ≤ length w
 abbrev pub whole_rows : List ℕ → Bool
 whole_rows w = eqb (length w % node_width) 0
 
--- the rows of a list of nodes, one after the other
-abbrev pub flat_nodes : List Node → List ℕ
-flat_nodes [] = []
-flat_nodes (x ∷ xs) = node_words x ++ flat_nodes xs
-
 -- the nodes whose rows stand in a list of words; words short of a whole row hold none
 unfoldable pub nodes_of : List ℕ → List Node
 nodes_of [] = []
@@ -87,4 +91,5 @@ nodes_of (k ∷ d ∷ s ∷ []) = []
 nodes_of (k ∷ d ∷ s ∷ l ∷ []) = []
 nodes_of (k ∷ d ∷ s ∷ l ∷ a ∷ []) = []
 nodes_of (k ∷ d ∷ s ∷ l ∷ a ∷ b ∷ []) = []
-nodes_of (k ∷ d ∷ s ∷ l ∷ a ∷ b ∷ x ∷ w) = record { kind = k; detail = d; start = s; len = l; from = a; to = b; next = x } ∷ nodes_of w
+nodes_of (k ∷ d ∷ s ∷ l ∷ a ∷ b ∷ x ∷ []) = []
+nodes_of (k ∷ d ∷ s ∷ l ∷ a ∷ b ∷ x ∷ q ∷ w) = record { kind = k; detail = d; start = s; len = l; from = a; to = b; next = x; parent = q } ∷ nodes_of w

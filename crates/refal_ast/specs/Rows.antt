@@ -12,7 +12,7 @@ abbrev pub token_told : TheToken → Token
 token_told t = token (token_code t.kind) t.detail t.start t.len t.from t.to
 
 abbrev pub node_told : TheNode → Node
-node_told x = record { kind = node_code x.kind; detail = x.detail; start = x.start; len = x.len; from = x.from; to = x.to; next = x.next }
+node_told x = record { kind = node_code x.kind; detail = x.detail; start = x.start; len = x.len; from = x.from; to = x.to; next = x.next; parent = x.parent }
 
 -- the result is row i of the words, or an error where its first word is the number of no kind
 abbrev pub ReadsNode : List ℕ → ℕ → Result TheNode UnknownKind → Type 0

@@ -8,7 +8,10 @@ ghost use Rattle.refal_ast.specs.Nodes.{has_text, node_words, node_width, HasRow
 use crate::kinds::{NodeKind, UnknownKind};
 
 // How many words a row has.
-pub const WIDTH: usize = 7;
+pub const WIDTH: usize = 8;
+
+// The parent of a top row.
+pub const NO_PARENT: u32 = 4294967295;
 
 const KIND: usize = 0;
 
@@ -24,6 +27,8 @@ const TO: usize = 5;
 
 const NEXT: usize = 6;
 
+const PARENT: usize = 7;
+
 // A node, as its row has it.
 #[derive(Clone, Copy, Debug, PartialEq, Eq)]
 pub struct Node {
@@ -34,6 +39,7 @@ pub struct Node {
     pub from: u32,
     pub to: u32,
     pub next: u32,
+    pub parent: u32,
 }
 
 impl Node {
@@ -52,6 +58,7 @@ impl Node {
             from: tree[at + FROM],
             to: tree[at + TO],
             next: tree[at + NEXT],
+            parent: tree[at + PARENT],
         })
     }
 
@@ -72,6 +79,7 @@ impl Node {
                 self.from,
                 self.to,
                 self.next,
+                self.parent,
             ],
         );
     }

@@ -13,7 +13,7 @@ use Rattle.refal_ast.specs.Answers.{refusal, pick_answer, Done, Refused}
 use Rattle.refal_ast.specs.Tokens.{Token, tokens_of}
 use Rattle.refal_ast.specs.Check.{well_formed}
 use Rattle.refal_ast.specs.Tree.{Program, size_p, depth_p}
-use Rattle.refal_ast.specs.Nodes.{node_width}
+use Rattle.refal_ast.specs.Nodes.{node_width, no_parent}
 use Rattle.refal_ast.specs.Encode.{enc_p}
 use Rattle.refal_ast.specs.Flatten.{Flat, mark, flat_of, flats_of, Loose}
 use Rattle.refal_ast.specs.Limits.{most_levels}
@@ -33,7 +33,7 @@ use Rattle.refal_demands.proofs.Theorems.{ok_tokens_lem, soundness, completeness
 
 -- how many words a tree's rows have
 pub words_of_lem : (t : Program) → length (enc_p t 0) ≡ node_width * size_p t
-words_of_lem t = ap length (sym (enc_tree t 0)) ∙ length_enc (to_forest t) 0 ∙ ap (λ (n : ℕ). node_width * n) (size_tree t)
+words_of_lem t = ap length (sym (enc_tree t 0)) ∙ length_enc (to_forest t) 0 no_parent ∙ ap (λ (n : ℕ). node_width * n) (size_tree t)
 
 -- what an answer of success says of the outcome
 pub record Success (o : Outcome) (B : List ℕ) (m : ℕ) : Type 0 where

@@ -1,10 +1,11 @@
 -- What parsing gives from an item's edge on depends only on the tokens from there on; its rows come after those of the items before.
 use mathlib.Core.Path.{◌≡◌, refl, sym, ap, ◌∙◌}
-use Prim.Native.Nat.{ℕ, ◌+◌}
+use Prim.Native.Nat.{ℕ, ◌+◌, ◌≤◌}
 use mathlib.Core.List.{List, [], ◌∷◌, ◌++◌, append_assoc, append-nil}
 use native.Mathlib.Omega.{arith}
 use Rattle.refal_ast.specs.Tokens.{Token}
 use Rattle.refal_ast.specs.Tree.{Program, p0, p_more, size_p}
+use Rattle.refal_ast.specs.Nodes.{no_parent}
 use Rattle.refal_ast.specs.Encode.{enc_item, enc_p}
 use Rattle.refal_parser.specs.Machine.{State, outside, Step, go, made, over, stop, step, follow, next_from, next_to, run}
 use Rattle.refal_demands.specs.Edge.{join_p, before, shift}
@@ -44,8 +45,8 @@ rows_join p (p_more q x) n =
     ∙ append_assoc (enc_p p n) (enc_p q (n + size_p p)) (enc_item x (n + size_p p + size_p q))
 
 -- In all: the rows of the items before, then the rows of what stands from there on as a list of its own, shifted.
-pub edge_rows : (p q : Program) → enc_p (join_p p q) 0 ≡ enc_p p 0 ++ shift (size_p p) (enc_p q 0)
-edge_rows p q = rows_join p q 0 ∙ ap (λ (l : List ℕ). enc_p p 0 ++ l) (ap (λ (n : ℕ). enc_p q n) e ∙ rows_shifted q 0 (size_p p))
+pub edge_rows : (p q : Program) → size_p q ≤ no_parent → enc_p (join_p p q) 0 ≡ enc_p p 0 ++ shift (size_p p) (enc_p q 0)
+edge_rows p q l = rows_join p q 0 ∙ ap (λ (l : List ℕ). enc_p p 0 ++ l) (ap (λ (n : ℕ). enc_p q n) e ∙ rows_shifted q 0 (size_p p) (omega arith))
   where
     e : 0 + size_p p ≡ size_p p + 0
     e = omega arith

@@ -15,7 +15,8 @@ use Rattle.refal_parser.specs.Machine.{run}
 use Rattle.refal_parser.specs.Parse.{parsed}
 use Rattle.refal_ast.specs.Flatten.{flatten_t, flatten_c, flatten_s, flatten_p}
 use Rattle.refal_ast.specs.Nodes.{nodes_of}
-use Rattle.refal_tree.specs.Forest.{size_g, join_g, cut, forest_n, forest_of}
+use Rattle.refal_tree.specs.Forest.{size_g}
+use Rattle.refal_tree.specs.Ranges.{forest_in, forest_at, forest_of}
 use Rattle.refal_tree.specs.Rules.{ok_g}
 use Rattle.refal_tree.specs.Typed.{get_t, get_b, get_sentence, get_tail, get_block, get_condition, get_right, get_n, get_ns, get_p}
 use Rattle.refal_tree.specs.Lawful.{tree_of, lawful}
@@ -26,6 +27,6 @@ use Rattle.refal_writer.specs.Write.{written, write_answer, write_bytes}
 
 pub table_holds : AllHold table
 unfolding table tokens_of ok_tokens well_formed size_t size_c size_s size_n size_p enc_t enc_c enc_s enc_n enc_p run parsed decode well_to close_to lit_char lit_from
-    char_tokens lex01 only_white flatten_t flatten_c flatten_s flatten_p size_g join_g cut nodes_of forest_n forest_of ok_g get_t get_b get_sentence get_tail get_block get_condition get_right get_n
+    char_tokens lex01 only_white flatten_t flatten_c flatten_s flatten_p size_g nodes_of forest_in forest_at forest_of ok_g get_t get_b get_sentence get_tail get_block get_condition get_right get_n
     get_ns get_p tree_of lawful body spelling text spells row_spelled nodes_spelled all_spelled written write_answer write_bytes digits row_lines
 table_holds = refl

@@ -3,7 +3,7 @@ use Rattle.std.specs.Prelude.{◌≡◌, ℕ, ◌+◌, List, [], ◌∷◌, ◌+
 use Rattle.refal_ast.specs.Kinds.{tok_entry, tok_identifier, tok_variable, tok_number, tok_char, tok_l_brace, tok_r_brace, tok_comma, tok_colon, tok_equals, tok_semicolon, tok_eof}
 use Rattle.refal_ast.specs.Kinds.{node_function, node_sentence, node_condition, node_terms, node_condition_block, node_identifier}
 use Rattle.refal_ast.specs.Answers.{refusal, Answer, Done, Refused}
-use Rattle.refal_ast.specs.Nodes.{node}
+use Rattle.refal_ast.specs.Nodes.{no_parent, node}
 use Rattle.refal_lexer.specs.Read.{read_answer, read_rows}
 use Rattle.refal_parser.specs.Parse.{parse_answer, parse_rows}
 use Rattle.refal_writer.specs.Write.{write_answer, write_bytes}
@@ -60,8 +60,8 @@ abbrev pub variable : ℕ → ℕ → List ℕ
 variable a b = tok_variable ∷ 115 ∷ (a + 1) ∷ 1 ∷ a ∷ b ∷ []
 
 -- a Terms row, which has no span
-abbrev pub terms : ℕ → List ℕ
-terms next = node node_terms 0 0 0 0 0 next
+abbrev pub terms : ℕ → ℕ → List ℕ
+terms next parent = node node_terms 0 0 0 0 0 next parent
 
 -- the words lent to each call: fourteen token rows, or twelve node rows, and three words, each word 9
 abbrev pub lent : List ℕ
@@ -96,7 +96,8 @@ tokens2 = name 1 0 1 ++ (sign tok_l_brace 1 2 ++ (sign tok_equals 2 3 ++ (name 1
 
 -- its five rows
 abbrev pub nodes2 : List ℕ
-nodes2 = node node_function 0 0 1 0 5 5 ++ (node node_sentence 1 0 0 2 4 5 ++ (terms 3 ++ (terms 5 ++ node node_identifier 0 3 1 3 4 5)))
+nodes2 =
+    node node_function 0 0 1 0 5 5 no_parent ++ (node node_sentence 1 0 0 2 4 5 0 ++ (terms 3 1 ++ (terms 5 1 ++ node node_identifier 0 3 1 3 4 5 3)))
 
 -- `F { = A } `
 abbrev pub written2 : List ℕ
@@ -121,23 +122,23 @@ tokens4 = sign tok_entry 0 6 ++ (name 2 7 9 ++ (sign tok_l_brace 9 10 ++ (sign t
 
 -- its four rows
 abbrev pub nodes4 : List ℕ
-nodes4 = node node_function 1 7 2 0 13 4 ++ (node node_sentence 0 0 0 10 12 4 ++ (terms 3 ++ terms 4))
+nodes4 = node node_function 1 7 2 0 13 4 no_parent ++ (node node_sentence 0 0 0 10 12 4 0 ++ (terms 3 1 ++ terms 4 1))
 
--- `0 3 1 0 13 4`
+-- `0 3 1 0 13 4 4294967295`
 abbrev pub line0 : List ℕ → List ℕ
-line0 l = 48 ∷ 32 ∷ 51 ∷ 32 ∷ 49 ∷ 32 ∷ 48 ∷ 32 ∷ 49 ∷ 51 ∷ 32 ∷ 52 ∷ 10 ∷ l
+line0 l = 48 ∷ 32 ∷ 51 ∷ 32 ∷ 49 ∷ 32 ∷ 48 ∷ 32 ∷ 49 ∷ 51 ∷ 32 ∷ 52 ∷ 32 ∷ 52 ∷ 50 ∷ 57 ∷ 52 ∷ 57 ∷ 54 ∷ 55 ∷ 50 ∷ 57 ∷ 53 ∷ 10 ∷ l
 
--- `1 4 0 10 12 4`
+-- `1 4 0 10 12 4 0`
 abbrev pub line1 : List ℕ → List ℕ
-line1 l = 49 ∷ 32 ∷ 52 ∷ 32 ∷ 48 ∷ 32 ∷ 49 ∷ 48 ∷ 32 ∷ 49 ∷ 50 ∷ 32 ∷ 52 ∷ 10 ∷ l
+line1 l = 49 ∷ 32 ∷ 52 ∷ 32 ∷ 48 ∷ 32 ∷ 49 ∷ 48 ∷ 32 ∷ 49 ∷ 50 ∷ 32 ∷ 52 ∷ 32 ∷ 48 ∷ 10 ∷ l
 
--- `2 6 0 0 0 3`
+-- `2 6 0 0 0 3 1`
 abbrev pub line2 : List ℕ → List ℕ
-line2 l = 50 ∷ 32 ∷ 54 ∷ 32 ∷ 48 ∷ 32 ∷ 48 ∷ 32 ∷ 48 ∷ 32 ∷ 51 ∷ 10 ∷ l
+line2 l = 50 ∷ 32 ∷ 54 ∷ 32 ∷ 48 ∷ 32 ∷ 48 ∷ 32 ∷ 48 ∷ 32 ∷ 51 ∷ 32 ∷ 49 ∷ 10 ∷ l
 
--- `3 6 0 0 0 4`
+-- `3 6 0 0 0 4 1`
 abbrev pub line3 : List ℕ → List ℕ
-line3 l = 51 ∷ 32 ∷ 54 ∷ 32 ∷ 48 ∷ 32 ∷ 48 ∷ 32 ∷ 48 ∷ 32 ∷ 52 ∷ 10 ∷ l
+line3 l = 51 ∷ 32 ∷ 54 ∷ 32 ∷ 48 ∷ 32 ∷ 48 ∷ 32 ∷ 48 ∷ 32 ∷ 52 ∷ 32 ∷ 49 ∷ 10 ∷ l
 
 -- `$ENTRY Go { = ; } `
 abbrev pub written4 : List ℕ
@@ -175,27 +176,26 @@ table =
     ∷ parsing tokens1 lent (Refused (refusal 32 tok_identifier 7 1 2 0)) zeroed
     -- `F{=A}`: its Sentence 2-4, the `;` left off; its written text is `F { = A } `
     ∷ reading source2 lent (Done 6) (tokens2 ++ replicate 51 9)
-    ∷ parsing tokens2 lent (Done 5) (nodes2 ++ replicate 52 9)
+    ∷ parsing tokens2 lent (Done 5) (nodes2 ++ replicate 47 9)
     ∷ writing nodes2 source2 (replicate 12 9) (Done 10) (written2 ++ replicate 2 9)
     -- `F{A,B:{=;}=;}`: 12 nodes; Condition and block 4-10, outer Sentence 2-12
     ∷ reading source3 lent (Done 14) (tokens3 ++ replicate 3 9)
-    ∷ parsing tokens3 lent (Done 12)
-    (node node_function 0 0 1 0 13 12
-    ++ (node node_sentence 0 0 0 2 12 12
-    ++ (terms 4
-    ++ (node node_identifier 0 2 1 2 3 4
-    ++ (node node_condition 0 0 0 4 10 11
-    ++ (terms 7
-    ++ (node node_identifier 0 4 1 4 5 7
-    ++ (node node_condition_block 0 0 0 4 10 11
-    ++ (node node_sentence 0 0 0 7 9 11
-    ++ (terms 10
-    ++ (terms 11
-    ++ (terms 12
-    ++ replicate 3 9))))))))))))
+    ∷ parsing tokens3 (replicate 96 9) (Done 12)
+    (node node_function 0 0 1 0 13 12 no_parent
+    ++ (node node_sentence 0 0 0 2 12 12 0
+    ++ (terms 4 1
+    ++ (node node_identifier 0 2 1 2 3 4 2
+    ++ (node node_condition 0 0 0 4 10 11 1
+    ++ (terms 7 4
+    ++ (node node_identifier 0 4 1 4 5 7 5
+    ++ (node node_condition_block 0 0 0 4 10 11 4
+    ++ (node node_sentence 0 0 0 7 9 11 7
+    ++ (terms 10 8
+    ++ (terms 11 8
+    ++ terms 12 1)))))))))))
     -- `$ENTRY Go{=;}`: four rows
     ∷ reading source4 lent (Done 7) (tokens4 ++ replicate 45 9)
-    ∷ parsing tokens4 lent (Done 4) (nodes4 ++ replicate 59 9)
+    ∷ parsing tokens4 lent (Done 4) (nodes4 ++ replicate 55 9)
     -- its written text is `$ENTRY Go { = ; } `, 18 bytes
     ∷ writing nodes4 source4 (replicate 20 9) (Done 18) (written4 ++ replicate 2 9)
     -- all that `tree` prints of it: four lines

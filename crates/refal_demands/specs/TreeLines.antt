@@ -1,5 +1,5 @@
 -- What the program `tree` prints on a source, as document 01's worked table says it: a line for each row, with row, kind, detail, span start, span
--- end and next; or `refused`, number, span start, span end. Numbers are in decimal, parted by spaces.
+-- end, next and parent; or `refused`, number, span start, span end. Numbers are in decimal, parted by spaces.
 use Rattle.std.specs.Prelude.{ℕ, suc, zero, ◌+◌, ◌*◌, ◌/◌, ◌%◌, List, [], ◌∷◌, ◌++◌, leb, length, take, replicate}
 use Rattle.refal_rows.specs.Rows.{pick_list}
 use Rattle.refal_ast.specs.Answers.{refusal, Refusal, Answer, Done, Refused}
@@ -19,9 +19,10 @@ decimal n = digits 20 n []
 abbrev pub number : ℕ → ℕ → List ℕ
 number n after = decimal n ++ (after ∷ [])
 
--- row i: row, kind, detail, span start, span end, next, newline
-abbrev pub row_line : ℕ → ℕ → ℕ → ℕ → ℕ → ℕ → List ℕ
-row_line i kind detail from to next = number i 32 ++ (number kind 32 ++ (number detail 32 ++ (number from 32 ++ (number to 32 ++ number next 10))))
+-- row i: row, kind, detail, span start, span end, next, parent, newline
+abbrev pub row_line : ℕ → ℕ → ℕ → ℕ → ℕ → ℕ → ℕ → List ℕ
+row_line i kind detail from to next parent =
+    number i 32 ++ (number kind 32 ++ (number detail 32 ++ (number from 32 ++ (number to 32 ++ (number next 32 ++ number parent 10)))))
 
 -- the lines of the rows that stand in a list of words, the first being row i
 unfoldable pub row_lines : ℕ → List ℕ → List ℕ
@@ -32,7 +33,8 @@ row_lines i (k ∷ d ∷ s ∷ []) = []
 row_lines i (k ∷ d ∷ s ∷ l ∷ []) = []
 row_lines i (k ∷ d ∷ s ∷ l ∷ a ∷ []) = []
 row_lines i (k ∷ d ∷ s ∷ l ∷ a ∷ b ∷ []) = []
-row_lines i (k ∷ d ∷ s ∷ l ∷ a ∷ b ∷ n ∷ w) = row_line i k d a b n ++ row_lines (i + 1) w
+row_lines i (k ∷ d ∷ s ∷ l ∷ a ∷ b ∷ n ∷ []) = []
+row_lines i (k ∷ d ∷ s ∷ l ∷ a ∷ b ∷ n ∷ q ∷ w) = row_line i k d a b n q ++ row_lines (i + 1) w
 
 -- `refused`, the number, the span
 abbrev pub refused_line : Refusal → List ℕ

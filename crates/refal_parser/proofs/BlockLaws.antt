@@ -57,7 +57,7 @@ module _ {w : List ℕ} {at : ℕ} (R : Ready w at) (comma : get_or w at 0 ≡ t
       ∙ h (argument b r (get_or w (at + 6 + 4) 0)) (λ (g : Argument). matched left b r (get_or w (at + 6 + 4) 0) g) (λ h t y z. refl) p
 
   -- ---- an argument
-  module _ (n : ℕ) {B B₁ : List ℕ} {left j m : ℕ} (K : ArgumentAt w B B₁ (at + 6) (n + 1) left j m) (S : Ready w j) where
+  module _ (n : ℕ) {B B₁ : List ℕ} {left j m : ℕ} (K : ArgumentAt w B B₁ (at + 6) (n + 1) n left j m) (S : Ready w j) where
     argued : (b : Block) (r : Begun) → Same w at (conditioned left b r) j (matched left b r (get_or w (at + 6 + 4) 0) K.g)
     argued b r p =
         cond_start w at R left b r after_comma comma p
@@ -71,7 +71,7 @@ module _ {w : List ℕ} {at : ℕ} (R : Ready w at) (comma : get_or w at 0 ≡ t
       pub block_no : {a b c d e : ℕ} → ((q : Block) (p : Program) → Opens w j left q p ≡ refuse a b c d e) → CondNo w at left a b c d e
       block_no h b r p = opened b r p ∙ h (in_condition b r (get_or w (at + 6 + 4) 0) K.g) p
 
-      module _ {B₂ : List ℕ} {i k : ℕ} (X : BlockAt w B₁ B₂ j (m + 1) left i k) (Y : Ready w i) where
+      module _ {B₂ : List ℕ} {i k : ℕ} (X : BlockAt w B₁ B₂ j (m + 1) m left i k) (Y : Ready w i) where
         block_means : (b : Block) (r : Begun) → Same w at (conditioned left b r) i (conditioned left b (with_condition r (to_block (get_or w (at + 6 + 4) 0) K.g X.v X.e)))
         block_means b r p =
             opened b r p
@@ -81,13 +81,13 @@ module _ {w : List ℕ} {at : ℕ} (R : Ready w at) (comma : get_or w at 0 ≡ t
         pub follow_no : {a b c d e : ℕ} → ((u v : Step) (p : Program) → after w i p (among (either tok_comma u tok_equals v) (tok w i) (expected tok_equals (tok w i))) ≡ refuse a b c d e) → CondNo w at left a b c d e
         follow_no h b r p = block_means b r p ∙ run_at_lem w i Y _ p ∙ h _ _ p
 
-        pub condition_of_block : {from to : ℕ} {B₃ B₄ : List ℕ} → from ≡ get_or w (at + 6 + 4) 0 → to ≡ end_before w i → B₃ ≡ put_node B₂ m (span_row node_condition_block from to k) →
-            B₄ ≡ put_node B₃ n (span_row node_condition from to k) → Joint w i tok_comma tok_equals → CondAt w B B₄ at n left i k
-        condition_of_block s e put put' joint = record {
+        pub condition_of_block : {q from to : ℕ} {B₃ B₄ : List ℕ} → from ≡ get_or w (at + 6 + 4) 0 → to ≡ end_before w i → B₃ ≡ put_node B₂ m (span_row node_condition_block from to k n) →
+            B₄ ≡ put_node B₃ n (span_row node_condition from to k q) → Joint w i tok_comma tok_equals → CondAt w B B₄ at n q left i k
+        condition_of_block {q} s e put put' joint = record {
           x = to_block (get_or w (at + 6 + 4) 0) K.g X.v X.e;
-          on = let o = K.on in let q = X.on in omega arith;
+          on = let o = K.on in let x = X.on in omega arith;
           few = let v = X.few in omega arith;
-          rows = block_condition n B K.g.terms s (s ∙ sym K.first) (e ∙ sym X.last) K.rows K.count X.v X.rows X.count put put';
+          rows = block_condition n q B K.g.terms s (s ∙ sym K.first) (e ∙ sym X.last) K.rows K.count X.v X.rows X.count put put';
           count = size_block_condition _ _ n K.g.terms K.count _ X.v X.count;
           joint = joint;
           means = block_means;
@@ -101,14 +101,14 @@ module _ {w : List ℕ} {at : ℕ} (R : Ready w at) (comma : get_or w at 0 ≡ t
       pub pattern_no : {a b c d e : ℕ} → ClauseNo w j left tok_comma tok_equals a b c d e → CondNo w at left a b c d e
       pattern_no h b r p = matches b r p ∙ h _ _ (turn_matching left b r (get_or w (at + 6 + 4) 0) K.g) p
 
-      pub condition_of_terms : {B₂ B₃ : List ℕ} {i k from to : ℕ} → ClauseAt w B₁ B₂ j m left tok_comma tok_equals i k → from ≡ get_or w (at + 6 + 4) 0 → to ≡ end_before w i →
-          B₃ ≡ put_node B₂ n (span_row node_condition from to k) → CondAt w B B₃ at n left i k
-      condition_of_terms Q s e put = record {
+      pub condition_of_terms : {B₂ B₃ : List ℕ} {q i k from to : ℕ} → ClauseAt w B₁ B₂ j m n left tok_comma tok_equals i k → from ≡ get_or w (at + 6 + 4) 0 → to ≡ end_before w i →
+          B₃ ≡ put_node B₂ n (span_row node_condition from to k q) → CondAt w B B₃ at n q left i k
+      condition_of_terms {q = q} Q s e put = record {
         x = to_terms (get_or w (at + 6 + 4) 0) K.g Q.g;
         on = let o = K.on in let q = Q.on in omega arith;
         few = Q.few;
         rows = let l = ap (λ (z : ℕ). last_end Q.g z) K.last ∙ Q.last in
-            terms_condition n B K.g.terms s (e ∙ sym l) K.rows K.count Q.g Q.rows Q.count put;
+            terms_condition n q B K.g.terms s (e ∙ sym l) K.rows K.count Q.g Q.rows Q.count put;
         count = size_terms_condition _ _ n K.g.terms K.count Q.g Q.count;
         joint = Q.joint;
         means = λ b r p. matches b r p ∙ Q.means _ _ (turn_matching left b r (get_or w (at + 6 + 4) 0) K.g) p;
@@ -119,7 +119,7 @@ module _ {w : List ℕ} {at : ℕ} (R : Ready w at) (comma : get_or w at 0 ≡ t
   end_argument_no left h b r p = end_start w at R left b r (end_before w at) comma p ∙ h (ending b r) (λ (g : Argument). blocked left b r g) (λ h t y z. refl) p
 
   -- ---- an argument
-  module _ (n : ℕ) {B B₁ : List ℕ} {left j m : ℕ} (K : ArgumentAt w B B₁ (at + 6) (n + 1) left j m) (S : Ready w j) where
+  module _ (n : ℕ) {B B₁ : List ℕ} {left j m : ℕ} (K : ArgumentAt w B B₁ (at + 6) (n + 1) n left j m) (S : Ready w j) where
     pub end_argued : (b : Block) (r : Begun) → Same w at (equated left b r (end_before w at)) j (blocked left b r K.g)
     end_argued b r p = end_start w at R left b r (end_before w at) comma p ∙ K.means (ending b r) (λ (g : Argument). blocked left b r g) (λ h t y z. refl) p
 
@@ -131,7 +131,7 @@ module _ {w : List ℕ} {at : ℕ} (R : Ready w at) (comma : get_or w at 0 ≡ t
       pub end_block_no : {a b c d e : ℕ} → ((q : Block) (p : Program) → Opens w j left q p ≡ refuse a b c d e) → EndingNo w at left a b c d e
       end_block_no h b r p = end_opened b r p ∙ h (in_ending b r K.g) p
 
-      module _ {B₂ : List ℕ} {i k : ℕ} (X : BlockAt w B₁ B₂ j m left i k) (Y : Ready w i) where
+      module _ {B₂ : List ℕ} {i k : ℕ} (X : BlockAt w B₁ B₂ j m n left i k) (Y : Ready w i) where
         end_blocked : (b : Block) (r : Begun) → Same w at (equated left b r (end_before w at)) i (ended left b r (end_block K.g X.v X.e) X.e)
         end_blocked b r p = end_opened b r p ∙ X.means (in_ending b r K.g) p ∙ leveled w i left (λ (d : ℕ). ended d b r (end_block K.g X.v X.e) X.e) X.some p
 
@@ -139,13 +139,13 @@ module _ {w : List ℕ} {at : ℕ} (R : Ready w at) (comma : get_or w at 0 ≡ t
             EndingNo w at left a b c d e
         end_follow_no h b r p = end_blocked b r p ∙ run_at_lem w i Y _ p ∙ h _ _ p
 
-        pub ending_of_block : {from to : ℕ} {B₃ : List ℕ} → from ≡ get_or w (at + 6 + 4) 0 → to ≡ end_before w i → B₃ ≡ put_node B₂ n (span_row node_ending_block from to k) →
-            Joint w i tok_r_brace tok_semicolon → EndingAt w B B₃ at n left i k
-        ending_of_block s e put joint = record {
+        pub ending_of_block : {q from to : ℕ} {B₃ : List ℕ} → from ≡ get_or w (at + 6 + 4) 0 → to ≡ end_before w i → B₃ ≡ put_node B₂ n (span_row node_ending_block from to k q) →
+            Joint w i tok_r_brace tok_semicolon → EndingAt w B B₃ at n q left i k
+        ending_of_block {q} s e put joint = record {
           x = end_block K.g X.v X.e;
-          on = let o = K.on in let q = X.on in omega arith;
+          on = let o = K.on in let x = X.on in omega arith;
           few = let v = X.few in omega arith;
-          rows = block_ending n B K.g.terms (s ∙ sym K.first) (e ∙ sym X.last) K.rows K.count X.v X.rows X.count put;
+          rows = block_ending n q B K.g.terms (s ∙ sym K.first) (e ∙ sym X.last) K.rows K.count X.v X.rows X.count put;
           count = size_block_ending _ _ n K.g.terms K.count X.v X.count;
           joint = joint;
           means = λ b r p. end_blocked b r p ∙ ap (λ (e : ℕ). runs w i p (ended left b r (end_block K.g X.v X.e) e)) X.last;
@@ -156,12 +156,12 @@ module _ {w : List ℕ} {at : ℕ} (R : Ready w at) (none : get_or w at 0 ≡ to
   pub end_terms_no : {left a b c d e : ℕ} → ClauseNo w at left tok_r_brace tok_semicolon a b c d e → EndingNo w at left a b c d e
   end_terms_no {left} h b r p = end_terms_lem w at R left b r (end_before w at) none p ∙ h _ _ (turn_result left b r (end_before w at)) p
 
-  pub ending_of_terms : {B B' : List ℕ} {n left j m : ℕ} → ClauseAt w B B' at n left tok_r_brace tok_semicolon j m → EndingAt w B B' at n left j m
-  ending_of_terms {B} {B'} {n} {left} {j} {m} K = record {
+  pub ending_of_terms : {B B' : List ℕ} {n q left j m : ℕ} → ClauseAt w B B' at n q left tok_r_brace tok_semicolon j m → EndingAt w B B' at n q left j m
+  ending_of_terms {B} {B'} {n} {q} {left} {j} {m} K = record {
     x = e_terms K.g;
     on = K.on;
     few = K.few;
-    rows = terms_ending K.g n B K.rows;
+    rows = terms_ending K.g n q B K.rows;
     count = size_terms_ending K.g n K.count;
     joint = K.joint;
     means = λ b r p. end_terms_lem w at R left b r (end_before w at) none p
@@ -170,20 +170,20 @@ module _ {w : List ℕ} {at : ℕ} (R : Ready w at) (none : get_or w at 0 ≡ to
   }
 
 -- ---- one condition more
-pub one_condition : {w B₀ B B' : List ℕ} {j m left i k i' k' : ℕ} → length B' ≡ length B → CondAt w B B' i k left i' k' → CondsInv w B₀ B j m left i k → CondsInv w B₀ B' j m left i' k'
-one_condition {w} {B₀} {B} {B'} {j} {m} same X I = record {
+pub one_condition : {w B₀ B B' : List ℕ} {j m q left i k i' k' : ℕ} → length B' ≡ length B → CondAt w B B' i k q left i' k' → CondsInv w B₀ B j m q left i k → CondsInv w B₀ B' j m q left i' k'
+one_condition {w} {B₀} {B} {B'} {j} {m} {q} same X I = record {
   cs = c_more I.cs X.x;
   joint = X.joint;
   on = let h = X.on in let g = I.on in omega arith;
   few = X.few;
   same = same ∙ I.same;
-  rows = more_conditions m B₀ I.cs X.x I.count I.rows X.rows;
+  rows = more_conditions m B₀ q I.cs X.x I.count I.rows X.rows;
   count = size_conditions m I.cs X.x I.count X.count;
   means = λ b s a f p. I.means b s a f p ∙ X.means b (begun s a f I.cs) p;
 }
 
 -- ---- a sentence: its pattern and conditions
-module _ (n : ℕ) {w B B₁ B₂ : List ℕ} {at left j m i k : ℕ} (Q : ClauseAt w B B₁ at (n + 1) left tok_comma tok_equals j m) (I : CondsInv w B₁ B₂ j m left i k) where
+module _ (n : ℕ) {w B B₁ B₂ : List ℕ} {at left j m i k : ℕ} (Q : ClauseAt w B B₁ at (n + 1) n left tok_comma tok_equals j m) (I : CondsInv w B₁ B₂ j m n left i k) where
   abbrev sofar : Sentences → Begun
   sofar s = begun s (get_or w (at + 4) 0) Q.g I.cs
 
@@ -206,41 +206,41 @@ module _ (n : ℕ) {w B B₁ B₂ : List ℕ} {at left j m i k : ℕ} (Q : Claus
     pub ending_no : {a b c d e : ℕ} → EndingNo w (i + 6) left a b c d e → (q : Block) (s : Sentences) → Refuses w at (within left (pattern q s (get_or w (at + 4) 0)) t0) a b c d e
     ending_no h b s p = equals_on b s p ∙ h b (sofar s) p
 
-    module _ {B₃ : List ℕ} {j' m' : ℕ} (N : EndingAt w B₂ B₃ (i + 6) k left j' m') (Y : Ready w j') where
+    module _ {B₃ : List ℕ} {j' m' q : ℕ} (N : EndingAt w B₂ B₃ (i + 6) k n left j' m') (Y : Ready w j') where
       -- by whether a `}` stands where the `;` may
       sentence_at : (off : Bool) → eqb (get_or w j' 0) tok_r_brace ≡ off → {B₄ : List ℕ} {next : ℕ} → next ≡ pick_word off j' (j' + 6) →
-          B₄ ≡ put_node B₃ n (sentence_row off (get_or w (at + 4) 0) (end_before w (pick_word off j' (j' + 6))) m') → SentenceAt w B B₄ at n left next m'
-      sentence_at true e {B₄} {next} q put = subst (λ (x : ℕ). SentenceAt w B B₄ at n left x m') (sym q) (record {
+          B₄ ≡ put_node B₃ n (sentence_row off (get_or w (at + 4) 0) (end_before w (pick_word off j' (j' + 6))) m' q) → SentenceAt w B B₄ at n q left next m'
+      sentence_at true e {B₄} {next} z put = subst (λ (x : ℕ). SentenceAt w B B₄ at n q left x m') (sym z) (record {
         x = sentence (get_or w (at + 4) 0) Q.g I.cs N.x (end_before w j');
         off = true;
         on = let h₁ = Q.on in let h₂ = I.on in let h₃ = N.on in omega arith;
         stops = (eqb-true (get_or w j' 0) tok_r_brace e, N.few);
-        rows = whole_sentence _ _ n Q.g Q.count true B I.cs N.x I.count N.count (let h₁ = Q.rows in let h₂ = I.rows in let h₃ = N.rows in cc);
+        rows = whole_sentence _ _ n Q.g Q.count true q B I.cs N.x I.count N.count (let h₁ = Q.rows in let h₂ = I.rows in let h₃ = N.rows in cc);
         count = size_sentence_lem _ _ n Q.g Q.count I.cs N.x I.count N.count;
         means = λ b s p. equals_on b s p ∙ N.means b (sofar s) p ∙ end_left w j' Y left b (sofar s) N.x (end_before w j') (eqb-true (get_or w j' 0) tok_r_brace e) p;
       })
-      sentence_at false e {B₄} {next} q put =
+      sentence_at false e {B₄} {next} y put =
           let z = N.joint (eqb-false (get_or w j' 0) tok_r_brace e) in
-          subst (λ (x : ℕ). SentenceAt w B B₄ at n left x m') (sym q) (record {
+          subst (λ (x : ℕ). SentenceAt w B B₄ at n q left x m') (sym y) (record {
             x = sentence (get_or w (at + 4) 0) Q.g I.cs N.x (get_or w (j' + 5) 0);
             off = false;
             on = let h₁ = Q.on in let h₂ = I.on in let h₃ = N.on in omega arith;
             stops = let f = N.few in omega arith;
-            rows = whole_sentence _ _ n Q.g Q.count false B I.cs N.x I.count N.count (let h₁ = Q.rows in let h₂ = I.rows in let h₃ = N.rows in let h₄ = end_before_lem w j' in cc);
+            rows = whole_sentence _ _ n Q.g Q.count false q B I.cs N.x I.count N.count (let h₁ = Q.rows in let h₂ = I.rows in let h₃ = N.rows in let h₄ = end_before_lem w j' in cc);
             count = size_sentence_lem _ _ n Q.g Q.count I.cs N.x I.count N.count;
             means = λ b s p. equals_on b s p ∙ N.means b (sofar s) p ∙ end_closed w j' Y left b (sofar s) N.x (end_before w j') z p;
           })
 
-      pub sentence_of_parts : {B₄ : List ℕ} {from next : ℕ} → from ≡ get_or w (at + 4) 0 → next ≡ sentence_end w j' → B₄ ≡ sentence_put w B₃ from j' n m' → SentenceAt w B B₄ at n left next m'
-      sentence_of_parts s q put = sentence_at (is_off w j') refl q (rw s at put)
+      pub sentence_of_parts : {B₄ : List ℕ} {from next : ℕ} → from ≡ get_or w (at + 4) 0 → next ≡ sentence_end w j' → B₄ ≡ sentence_put w B₃ from j' n m' q → SentenceAt w B B₄ at n q left next m'
+      sentence_of_parts s e put = sentence_at (is_off w j') refl e (rw s at put)
 
 -- ---- a block: one sentence more, where neither its `}` nor Eof stands
-module _ {w B₀ B : List ℕ} {at n left i m : ℕ} (R : Ready w i) (I : BlockInv w B₀ B at n left i m) (unclosed : get_or w i 0 ≡ tok_r_brace → ⊥) (unended : get_or w i 0 ≡ tok_eof → ⊥) where
+module _ {w B₀ B : List ℕ} {at n q left i m : ℕ} (R : Ready w i) (I : BlockInv w B₀ B at n q left i m) (unclosed : get_or w i 0 ≡ tok_r_brace → ⊥) (unended : get_or w i 0 ≡ tok_eof → ⊥) where
   -- all its sentences have their `;`
   pub record Sofar : Type 0 where
     pub s : Sentences
     pub few : Few m i 0
-    pub rows : B ≡ w_s s n B₀
+    pub rows : B ≡ w_s s n q B₀
     pub count : m ≡ n + size_s s
     pub means : (b : Block) (p : Program) → Opens w at left b p ≡ runs w i p (between (left - 1) b s)
 
@@ -248,7 +248,7 @@ module _ {w B₀ B : List ℕ} {at n left i m : ℕ} (R : Ready w i) (I : BlockI
   unfolding w_b size_b
   sofar_all = by I.v I.stops I.rows I.count I.means
     where
-      by : (v : Body) → Stops (is_open v) w i m → B ≡ w_b v n B₀ → m ≡ n + size_b v → ((b : Block) (p : Program) → Opens w at left b p ≡ reached w i (left - 1) b v p) → Sofar
+      by : (v : Body) → Stops (is_open v) w i m → B ≡ w_b v n q B₀ → m ≡ n + size_b v → ((b : Block) (p : Program) → Opens w at left b p ≡ reached w i (left - 1) b v p) → Sofar
       by (b_all s) f r c h = record { s = s; few = f; rows = r; count = c; means = h }
       by (b_off s x) f r c h = absurd (unclosed f.0)
 
@@ -256,13 +256,13 @@ module _ {w B₀ B : List ℕ} {at n left i m : ℕ} (R : Ready w i) (I : BlockI
       (q : Block) (p : Program) → Opens w at left q p ≡ refuse a b c d e
   sentence_no h b p = sofar_all.means b p ∙ block_more w i R (left - 1) b sofar_all.s unclosed unended p ∙ h b sofar_all.s p
 
-  pub one_sentence : {B' : List ℕ} {j m' : ℕ} → length B' ≡ length B → SentenceAt w B B' i m (left - 1) j m' → BlockInv w B₀ B' at n left j m'
+  pub one_sentence : {B' : List ℕ} {j m' : ℕ} → length B' ≡ length B → SentenceAt w B B' i m q (left - 1) j m' → BlockInv w B₀ B' at n q left j m'
   one_sentence {B'} {j} {m'} same S = record {
     v = added S.off sofar_all.s S.x;
     on = let h = S.on in let g = I.on in omega arith;
     stops = stopped S.off S.stops;
     same = same ∙ I.same;
-    rows = more_sentences n B₀ S.off sofar_all.s S.x sofar_all.count sofar_all.rows S.rows;
+    rows = more_sentences n B₀ q S.off sofar_all.s S.x sofar_all.count sofar_all.rows S.rows;
     count = size_sentences n S.off sofar_all.s S.x sofar_all.count S.count;
     means = λ b p. sofar_all.means b p ∙ block_more w i R (left - 1) b sofar_all.s unclosed unended p ∙ S.means b sofar_all.s p;
   }
@@ -272,9 +272,9 @@ module _ {w B₀ B : List ℕ} {at n left i m : ℕ} (R : Ready w i) (I : BlockI
       stopped false h = h
 
 -- Eof, where its `}` is wanted
-pub block_unclosed : {w B₀ B : List ℕ} {at n left i m : ℕ} (R : Ready w i) (I : BlockInv w B₀ B at n left i m) → (get_or w i 0 ≡ tok_r_brace → ⊥) → get_or w i 0 ≡ tok_eof →
+pub block_unclosed : {w B₀ B : List ℕ} {at n q left i m : ℕ} (R : Ready w i) (I : BlockInv w B₀ B at n q left i m) → (get_or w i 0 ≡ tok_r_brace → ⊥) → get_or w i 0 ≡ tok_eof →
     (b : Block) (p : Program) → Opens w at left b p ≡ refuse 35 tok_r_brace (get_or w i 0) (get_or w (i + 4) 0) (get_or w (i + 5) 0)
-block_unclosed {w} {B₀} {B} {at} {n} {left} {i} {m} R I unclosed eof b p = by I.v I.stops (I.means b p)
+block_unclosed {w} {B₀} {B} {at} {n} {q} {left} {i} {m} R I unclosed eof b p = by I.v I.stops (I.means b p)
   where
     by : (v : Body) → Stops (is_open v) w i m → Opens w at left b p ≡ reached w i (left - 1) b v p → Opens w at left b p ≡ refuse 35 tok_r_brace (get_or w i 0) (get_or w (i + 4) 0) (get_or w (i + 5) 0)
     by (b_all s) f h = h ∙ block_eof w i R (left - 1) b s unclosed eof p
@@ -290,8 +290,8 @@ module _ {w : List ℕ} {i : ℕ} (R : Ready w i) (brace : get_or w i 0 ≡ tok_
   low (b_all s) m f = omega arith
   low (b_off s x) m f = let g = f.1 in omega arith
 
-  pub block_of_sentences : {B B' : List ℕ} {at n left m : ℕ} → (left ≡ 0 → ⊥) → BlockInv w B B' at n left i m → BlockAt w B B' at n left (i + 6) m
-  block_of_sentences {B} {B'} {at} {n} {left} {m} some I = record {
+  pub block_of_sentences : {B B' : List ℕ} {at n q left m : ℕ} → (left ≡ 0 → ⊥) → BlockInv w B B' at n q left i m → BlockAt w B B' at n q left (i + 6) m
+  block_of_sentences {B} {B'} {at} {n} {q} {left} {m} some I = record {
     v = I.v;
     e = get_or w (i + 5) 0;
     some = some;

@@ -7,19 +7,20 @@ ghost use Rattle.refal_parser.specs.PostItems.{FunctionPost, ItemPost, NamePost,
 
 use crate::answers::SyntaxError;
 use crate::nodes::Extent;
-use crate::place::Place;
+use crate::place::{Level, Place};
 use refal_ast::answers::Reason;
 use refal_ast::kinds::{NodeKind, TokenKind};
 use refal_ast::limits;
+use refal_ast::nodes::NO_PARENT;
 
 // The levels of a function's own braces, which stand outside all that may be open at once.
 const BODY: usize = limits::MOST_LEVELS + 1;
 
 impl<'t> Place<'t> {
     // The name of a declaration at the place.
-    fn name(self, rows: &mut [u32]) -> Result<Place<'t>, SyntaxError>
+    fn name(self, rows: &mut [u32], parent: u32) -> Result<Place<'t>, SyntaxError>
         requires { Few self.row self.at 0 }
-        ensures { NamePost self.entry rows.old rows.new result }
+        ensures { NamePost self.entry rows.old rows.new parent result }
     {
         let name = self.token();
         let TokenKind::Identifier = name.kind else {
@@ -31,6 +32,7 @@ impl<'t> Place<'t> {
             from: 0,
             to: 0,
             next: end.row,
+            parent,
         };
         spanless
             .named(NodeKind::Name, name.start, name.len)
@@ -43,16 +45,17 @@ impl<'t> Place<'t> {
         requires { Few self.row self.at 0 × (get_or self.tokens.now self.at 0 ≡ tok_extern) }
         ensures { ItemPost self.entry rows.old rows.new result }
     {
-        let mut place = self.next(self.row + 1).name(rows)?;
+        let parent = self.row as u32;
+        let mut place = self.next(self.row + 1).name(rows, parent)?;
         while let TokenKind::Comma = place.kind() {
-            place = place.next(place.row).name(rows)?;
+            place = place.next(place.row).name(rows, parent)?;
         }
         let TokenKind::Semicolon = place.kind() else {
             let expected = Some(TokenKind::Semicolon);
             return Err(place.present(Reason::OtherKind, expected));
         };
         let end = place.next(place.row);
-        let whole = end.since(self.token().from);
+        let whole = end.since(self.token().from, NO_PARENT);
         whole.bare(NodeKind::Declaration).put(rows, self.row);
         Ok(end)
     }
@@ -67,9 +70,13 @@ impl<'t> Place<'t> {
             let expected = Some(TokenKind::LBrace);
             return Err(open.present(Reason::OtherKind, expected));
         };
-        let end = open.block(rows, BODY)?;
+        let body = Level {
+            parent: self.row as u32,
+            left: BODY,
+        };
+        let end = open.block(rows, body)?;
         let name = self.token();
-        let whole = end.since(from);
+        let whole = end.since(from, NO_PARENT);
         whole
             .function(entry, name.start, name.len)
             .put(rows, self.row);

@@ -5,12 +5,13 @@ use refal_ast::kinds::NodeKind;
 use refal_ast::nodes::Node;
 use refal_ast::tree::{Symbol, VariableKind};
 
-// What a node covers: its span, and the rows before the row `next`.
+// What a node covers: its span, and the rows before the row `next`; and its parent's row.
 #[derive(Clone, Copy, Debug, PartialEq, Eq)]
 pub struct Extent {
     pub from: u32,
     pub to: u32,
     pub next: usize,
+    pub parent: u32,
     pub ghost few: { next ≤ 1073741824 },
 }
 
@@ -26,7 +27,7 @@ impl Extent {
 
     // A node that has no text.
     pub fn bare(self, kind: NodeKind) -> Node
-        ensures { node_words (node_told result) ≡ span_row (node_code kind) self.from self.to self.next }
+        ensures { node_words (node_told result) ≡ span_row (node_code kind) self.from self.to self.next self.parent }
     {
         Node {
             kind,
@@ -36,12 +37,13 @@ impl Extent {
             from: self.from,
             to: self.to,
             next: self.next as u32,
+            parent: self.parent,
         }
     }
 
     // A node that has a text.
     pub fn named(self, kind: NodeKind, start: u32, len: u32) -> Node
-        ensures { node_words (node_told result) ≡ node (node_code kind) 0 start len self.from self.to self.next }
+        ensures { node_words (node_told result) ≡ node (node_code kind) 0 start len self.from self.to self.next self.parent }
     {
         Node {
             start,
@@ -51,7 +53,7 @@ impl Extent {
     }
 
     pub fn function(self, entry: bool, start: u32, len: u32) -> Node
-        ensures { node_words (node_told result) ≡ node node_function (entry_detail entry) start len self.from self.to self.next }
+        ensures { node_words (node_told result) ≡ node node_function (entry_detail entry) start len self.from self.to self.next self.parent }
     {
         Node {
             detail: u32::from(entry),
@@ -61,7 +63,7 @@ impl Extent {
 
     // A sentence, and whether its `;` is left off.
     pub fn sentence(self, left_off: bool) -> Node
-        ensures { node_words (node_told result) ≡ sentence_row left_off self.from self.to self.next }
+        ensures { node_words (node_told result) ≡ sentence_row left_off self.from self.to self.next self.parent }
     {
         Node {
             detail: u32::from(left_off),
@@ -70,7 +72,7 @@ impl Extent {
     }
 
     pub fn symbol(self, leaf: Symbol) -> Node
-        ensures { node_words (node_told result) ≡ leaf_row (symbol leaf) self.from self.to self.next }
+        ensures { node_words (node_told result) ≡ leaf_row (symbol leaf) self.from self.to self.next self.parent }
     {
         match leaf {
             Symbol::Char(detail) => Node {
@@ -83,7 +85,7 @@ impl Extent {
     }
 
     pub fn variable(self, kind: VariableKind, start: u32, len: u32) -> Node
-        ensures { node_words (node_told result) ≡ leaf_row (variable kind start len) self.from self.to self.next }
+        ensures { node_words (node_told result) ≡ leaf_row (variable kind start len) self.from self.to self.next self.parent }
     {
         Node {
             detail: u32::from(kind),

@@ -17,6 +17,13 @@ pub struct Place<'t> {
     pub ghost ready: { Ready tokens.now at },
 }
 
+// What the rows of a part stand under: the row that is their parent, and how many more levels may open there.
+#[derive(Clone, Copy, Debug, PartialEq, Eq)]
+pub struct Level {
+    pub parent: u32,
+    pub left: usize,
+}
+
 impl<'t> Place<'t> {
     ghost use Rattle.std.specs.Prelude.{◌≡◌, ◌+◌, ◌≤◌, get_or};
     ghost use Rattle.refal_ast.specs.Kinds.{tok_eof};
@@ -70,15 +77,16 @@ impl<'t> Place<'t> {
         }
     }
 
-    // What a node covers that began at `from` and ends before the place.
-    pub fn since(self, from: u32) -> Extent
+    // What a node under this parent covers that began at `from` and ends before the place.
+    pub fn since(self, from: u32, parent: u32) -> Extent
         requires { (1 ≤ self.at) × (self.row ≤ 1073741824) }
-        ensures { (few : self.entry.row ≤ 1073741824) × (result ≡ record { from = from; to = end_before self.entry.tokens.now self.entry.at; next = self.entry.row; few = few }) }
+        ensures { (few : self.entry.row ≤ 1073741824) × (result ≡ record { from = from; to = end_before self.entry.tokens.now self.entry.at; next = self.entry.row; parent = parent; few = few }) }
     {
         Extent {
             from,
             to: self.tokens[self.at - 1],
             next: self.row,
+            parent,
         }
     }
 }

@@ -8,7 +8,7 @@ ghost use Rattle.refal_parser.specs.PostTerms.{ArgumentPost, ClausePost, ClosesP
 
 use crate::answers::SyntaxError;
 use crate::nodes::Extent;
-use crate::place::Place;
+use crate::place::{Level, Place};
 use refal_ast::answers::Reason;
 use refal_ast::kinds::{NodeKind, TokenKind};
 use refal_ast::tokens::Token;
@@ -56,9 +56,9 @@ impl<'t> Place<'t> {
 
     // Terms from the place on, up to a token that begins none.
     #[cycle(bracket_call_terms_until)]
-    fn terms(self, rows: &mut [u32], left: usize) -> Result<Place<'t>, SyntaxError>
+    fn terms(self, rows: &mut [u32], level: Level) -> Result<Place<'t>, SyntaxError>
         requires { Few self.row self.at 2 }
-        ensures { TermsPost self.entry rows.old rows.new left result }
+        ensures { TermsPost self.entry rows.old rows.new level result }
     {
         let mut place = self;
         loop {
@@ -67,6 +67,7 @@ impl<'t> Place<'t> {
                 from: first.from,
                 to: first.to,
                 next: place.row + 1,
+                parent: level.parent,
             };
             match term_of(first) {
                 Ok(Some(Term::Symbol(symbol))) => {
@@ -77,8 +78,8 @@ impl<'t> Place<'t> {
                     leaf.variable(kind, start, len).put(rows, place.row);
                     place = place.next(leaf.next);
                 }
-                Ok(Some(Term::Bracket)) => place = place.bracket(rows, left)?,
-                Ok(Some(Term::Call)) => place = place.call(rows, left)?,
+                Ok(Some(Term::Bracket)) => place = place.bracket(rows, level)?,
+                Ok(Some(Term::Call)) => place = place.call(rows, level)?,
                 Ok(None) => return Ok(place),
                 Err(_) => return Err(place.taken(Reason::VariableLetter, None)),
             }
@@ -87,37 +88,46 @@ impl<'t> Place<'t> {
 
     // Terms and the kind that closes them.
     #[cycle(bracket_call_terms_until)]
-    fn until(self, rows: &mut [u32], left: usize, want: TokenKind) -> Result<Place<'t>, SyntaxError>
+    fn until(
+        self,
+        rows: &mut [u32],
+        level: Level,
+        want: TokenKind,
+    ) -> Result<Place<'t>, SyntaxError>
         requires { Few self.row self.at 2 × (token_code want ≤ 16) }
-        ensures { UntilPost self.entry rows.old rows.new left (token_code want) result }
+        ensures { UntilPost self.entry rows.old rows.new level (token_code want) result }
     {
-        let end = self.terms(rows, left)?;
+        let end = self.terms(rows, level)?;
         end.closes(want)
     }
 
     // The bracket that opens at the place.
     #[cycle(bracket_call_terms_until)]
-    fn bracket(self, rows: &mut [u32], left: usize) -> Result<Place<'t>, SyntaxError>
+    fn bracket(self, rows: &mut [u32], level: Level) -> Result<Place<'t>, SyntaxError>
         requires { Few self.row self.at 2 × (term_at self.tokens.now self.at ≡ Bracket) }
-        ensures { TermPost self.entry rows.old rows.new left result }
+        ensures { TermPost self.entry rows.old rows.new level result }
     {
-        if left == 0 {
+        if level.left == 0 {
             return Err(self.present(Reason::TooDeep, None));
         }
         let body = self.next(self.row + 1);
-        let end = body.until(rows, left - 1, TokenKind::RParen)?;
-        let whole = end.since(self.token().from);
+        let inside = Level {
+            parent: self.row as u32,
+            left: level.left - 1,
+        };
+        let end = body.until(rows, inside, TokenKind::RParen)?;
+        let whole = end.since(self.token().from, level.parent);
         whole.bare(NodeKind::Bracket).put(rows, self.row);
         Ok(end)
     }
 
     // The call that opens at the place.
     #[cycle(bracket_call_terms_until)]
-    fn call(self, rows: &mut [u32], left: usize) -> Result<Place<'t>, SyntaxError>
+    fn call(self, rows: &mut [u32], level: Level) -> Result<Place<'t>, SyntaxError>
         requires { Few self.row self.at 2 × (term_at self.tokens.now self.at ≡ Call) }
-        ensures { TermPost self.entry rows.old rows.new left result }
+        ensures { TermPost self.entry rows.old rows.new level result }
     {
-        if left == 0 {
+        if level.left == 0 {
             return Err(self.present(Reason::TooDeep, None));
         }
         let named = self.next(self.row + 1);
@@ -127,8 +137,12 @@ impl<'t> Place<'t> {
             return Err(named.taken(Reason::CallName, expected));
         };
         let body = named.next(named.row);
-        let end = body.until(rows, left - 1, TokenKind::RAngle)?;
-        let whole = end.since(self.token().from);
+        let inside = Level {
+            parent: self.row as u32,
+            left: level.left - 1,
+        };
+        let end = body.until(rows, inside, TokenKind::RAngle)?;
+        let whole = end.since(self.token().from, level.parent);
         whole
             .named(NodeKind::Call, name.start, name.len)
             .put(rows, self.row);
@@ -136,17 +150,22 @@ impl<'t> Place<'t> {
     }
 
     // An argument: a Terms row, its terms and their `:`.
-    pub fn argument(self, rows: &mut [u32], left: usize) -> Result<Place<'t>, SyntaxError>
+    pub fn argument(self, rows: &mut [u32], level: Level) -> Result<Place<'t>, SyntaxError>
         requires { Few self.row self.at 1 }
-        ensures { ArgumentPost self.entry rows.old rows.new left result }
+        ensures { ArgumentPost self.entry rows.old rows.new level result }
     {
         let mut first = self;
         first.row += 1;
-        let end = first.until(rows, left, TokenKind::Colon)?;
+        let under = Level {
+            parent: self.row as u32,
+            ..level
+        };
+        let end = first.until(rows, under, TokenKind::Colon)?;
         let spanless = Extent {
             from: 0,
             to: 0,
             next: end.row,
+            parent: level.parent,
         };
         spanless.bare(NodeKind::Terms).put(rows, self.row);
         Ok(end)
@@ -171,20 +190,25 @@ impl<'t> Place<'t> {
     pub fn clause(
         self,
         rows: &mut [u32],
-        left: usize,
+        level: Level,
         also: TokenKind,
         want: TokenKind,
     ) -> Result<Place<'t>, SyntaxError>
         requires { Few self.row self.at 1 }
-        ensures { ClausePost self.entry rows.old rows.new left (token_code also) (token_code want) result }
+        ensures { ClausePost self.entry rows.old rows.new level (token_code also) (token_code want) result }
     {
         let mut first = self;
         first.row += 1;
-        let end = first.terms(rows, left)?;
+        let under = Level {
+            parent: self.row as u32,
+            ..level
+        };
+        let end = first.terms(rows, under)?;
         let spanless = Extent {
             from: 0,
             to: 0,
             next: end.row,
+            parent: level.parent,
         };
         spanless.bare(NodeKind::Terms).put(rows, self.row);
         end.follows(true, also, want)?;

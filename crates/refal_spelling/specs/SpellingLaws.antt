@@ -26,8 +26,9 @@ row_first (k ∷ d ∷ s ∷ []) rest h = absurd (omega arith)
 row_first (k ∷ d ∷ s ∷ l ∷ []) rest h = absurd (omega arith)
 row_first (k ∷ d ∷ s ∷ l ∷ a ∷ []) rest h = absurd (omega arith)
 row_first (k ∷ d ∷ s ∷ l ∷ a ∷ b ∷ []) rest h = absurd (omega arith)
-row_first (k ∷ d ∷ s ∷ l ∷ a ∷ b ∷ x ∷ []) rest h = refl
-row_first (k ∷ d ∷ s ∷ l ∷ a ∷ b ∷ x ∷ y ∷ r) rest h = absurd (omega arith)
+row_first (k ∷ d ∷ s ∷ l ∷ a ∷ b ∷ x ∷ []) rest h = absurd (omega arith)
+row_first (k ∷ d ∷ s ∷ l ∷ a ∷ b ∷ x ∷ q ∷ []) rest h = refl
+row_first (k ∷ d ∷ s ∷ l ∷ a ∷ b ∷ x ∷ q ∷ y ∷ r) rest h = absurd (omega arith)
 
 -- the words w are the row r, which is the node x, and those behind it
 module _ (src w r rest : List ℕ) (x : Node) (is : w ≡ r ++ rest) (whole : length r ≡ node_width) (at : x ≡ node_at r 0) where
@@ -50,4 +51,5 @@ spelled_short src (k ∷ d ∷ s ∷ []) h = refl
 spelled_short src (k ∷ d ∷ s ∷ l ∷ []) h = refl
 spelled_short src (k ∷ d ∷ s ∷ l ∷ a ∷ []) h = refl
 spelled_short src (k ∷ d ∷ s ∷ l ∷ a ∷ b ∷ []) h = refl
-spelled_short src (k ∷ d ∷ s ∷ l ∷ a ∷ b ∷ x ∷ w) h = absurd (omega arith)
+spelled_short src (k ∷ d ∷ s ∷ l ∷ a ∷ b ∷ x ∷ []) h = refl
+spelled_short src (k ∷ d ∷ s ∷ l ∷ a ∷ b ∷ x ∷ q ∷ w) h = absurd (omega arith)

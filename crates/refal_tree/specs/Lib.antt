@@ -1,5 +1,6 @@
 -- Definitions: Forest (rows with their children), States (which rows may stand where), StateCodes (the code's states), Rules (what lawful rows keep), Typed (trees as
--- forests), Lawful (the tree that words are; the test for refusal 40), FlattenRows (flattening row by row), Ranges (rows i to j).
+-- forests), Ranges (the forest that rows i to j are, by their nexts and parents), Lawful (the tree that words are; the test for refusal 40), FlattenRows (flattening row
+-- by row).
 -- Laws: ForestLaws (words and forests), TypedWords, TypedRules, Views and Sound (trees and forests), Walk (a walk of lawful rows),
 -- Whole (the test as a check of all rows), Levels.
 pub mod Forest

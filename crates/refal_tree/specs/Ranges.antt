@@ -1,27 +1,20 @@
--- Ranges of rows in a list of words: rows i to j as a forest. A walk reads row i, goes into its children, rows i + 1 to its `next`, and
--- goes on at `next`.
-use Rattle.std.specs.Prelude.{ℕ, suc, ◌+◌, ◌*◌, ◌-◌, ◌%◌, ◌≤◌, ◌<◌, Bool, true, false, ◌&&◌, List, ◌∷◌, ◌++◌, ◌≡◌, refl, length, take, drop}
-use Rattle.std.proofs.Math.Bool.{and-false}
+-- Ranges of rows in a list of words: rows i to j as a forest, all of them under one parent. A walk reads row i, goes into its children, rows i + 1 to
+-- its `next`, and goes on at `next`.
+use Rattle.std.specs.Prelude.{ℕ, zero, suc, ◌+◌, ◌*◌, ◌-◌, ◌/◌, ◌%◌, ◌≤◌, ◌<◌, Bool, true, false, ◌&&◌, List, ◌≡◌, refl, eqb, leb, ltb, length}
+use Rattle.std.proofs.Math.Bool.{and-false, and_assoc}
 use Rattle.std.proofs.Math.Option.{Option, none, some}
-use Rattle.std.proofs.Common.{sym, ap, subst, ◌∙◌, arith, add-one, length-append, take-append-drop, take-take, take_all, length-take-le, take_at, drop_at, eq-eqb}
+use Rattle.std.proofs.Common.{sym, ap, subst, ◌∙◌, arith, eq-eqb, ne_eqb, eqb-true, lt-ltb, ltb-true, le-leb, leb-true}
 use Rattle.std.proofs.Math.Nat.{mul-mod_right}
+use Rattle.refal_rows.specs.Tests.{and_left, and_right}
 use Rattle.std.proofs.Math.Decide.{dec_le}
-use Rattle.std.proofs.Math.Seq.{slice, slice_empty, slice-cons, length-slice}
-use Rattle.std.proofs.lemmas.List.{drop-append-le}
-use Rattle.refal_ast.specs.Nodes.{Node, node_width, col_kind, col_detail, col_next, word_at, node_at, nodes_of}
-use Rattle.refal_ast.specs.NodeLaws.{count_nodes, node_at_lem}
-use Rattle.refal_tree.specs.Forest.{Row, Forest, empty, tree, size_g, with_next, own, forest_n, pick_forest, forest_of}
-use Rattle.refal_tree.specs.ForestLaws.{nodes_g, length_forest, forest_nodes, nodes_forest}
+use Rattle.refal_ast.specs.Nodes.{Node, node_width, no_parent, col_kind, col_detail, col_next, col_parent, word_at, node_at, whole_rows}
+use Rattle.refal_tree.specs.Forest.{Row, Forest, empty, tree, own}
 use Rattle.refal_tree.specs.States.{may_end, state_inside, state_next, below}
 use Rattle.refal_tree.specs.Rules.{row_ok, ok_g}
 
 -- ---- definitions
 
--- the nodes of rows i to j, j not included
-abbrev pub nodes_at : List ℕ → ℕ → ℕ → List Node
-nodes_at w i j = slice i j (nodes_of w)
-
--- the own words of row i, its kind, its detail, and its next row
+-- the own words of row i, its kind, its detail, its next row, and its parent
 abbrev pub row_at : List ℕ → ℕ → Row
 row_at w i = own (node_at w i)
 
@@ -34,9 +27,8 @@ detail_at w i = word_at w i col_detail
 abbrev pub next_at : List ℕ → ℕ → ℕ
 next_at w i = word_at w i col_next
 
--- the forest that rows i to j are
-unfoldable pub forest_at : List ℕ → ℕ → ℕ → Option Forest
-forest_at w i j = forest_n (nodes_at w i j) i
+abbrev pub parent_at : List ℕ → ℕ → ℕ
+parent_at w i = word_at w i col_parent
 
 -- a row, its children and what follows
 abbrev pub joined : Row → Option Forest → Option Forest → Option Forest
@@ -44,141 +36,172 @@ joined r none h = none
 joined r (some f) none = none
 joined r (some f) (some g) = some (tree r f g)
 
--- rows i to j keep the rules
+-- row i, of the rows to j under the parent q: its next row is behind it and not past j, and its parent is q
+abbrev pub linked : List ℕ → ℕ → ℕ → ℕ → Bool
+linked w i j q = (ltb i (next_at w i) && leb (next_at w i) j) && eqb (parent_at w i) q
+
+-- what gives the forest of rows i to j under the parent q
+abbrev pub Finds : Type 0
+Finds = ℕ → ℕ → ℕ → Option Forest
+
+-- row i, if it is linked: its children are the rows after it up to its `next`, under row i
+abbrev pub forest_row : Bool → List ℕ → Finds → ℕ → ℕ → ℕ → Option Forest
+forest_row true w find i j q = joined (row_at w i) (find (i + 1) (next_at w i) i) (find (next_at w i) j q)
+forest_row false w find i j q = none
+
+-- no rows, or those from row i on
+abbrev pub forest_from : Bool → List ℕ → Finds → ℕ → ℕ → ℕ → Option Forest
+forest_from true w find i j q = some empty
+forest_from false w find i j q = forest_row (linked w i j q) w find i j q
+
+-- the forest of rows i to j under the parent q, if they are one; k only bounds the search, and as many as there are rows is enough
+unfoldable pub forest_in : ℕ → List ℕ → Finds
+forest_in zero w i j q = forest_from (eqb i j) w (λ (a b p : ℕ). none) i j q
+forest_in (suc k) w i j q = forest_from (eqb i j) w (λ (a b p : ℕ). forest_in k w a b p) i j q
+
+-- the forest that rows i to j are under the parent q
+unfoldable pub forest_at : List ℕ → ℕ → ℕ → ℕ → Option Forest
+forest_at w i j q = forest_in (j - i) w i j q
+
+abbrev pub pick_forest : Bool → Option Forest → Option Forest
+pick_forest true o = o
+pick_forest false o = none
+
+-- the forest that all words are: whole rows, under no parent
+unfoldable pub forest_of : List ℕ → Option Forest
+forest_of w = pick_forest (whole_rows w) (forest_at w 0 (length w / node_width) no_parent)
+
+-- rows i to j are a forest under the parent q and keep the rules
 abbrev pub ok_in : ℕ → ℕ → Option Forest → Bool
 ok_in st left none = false
 ok_in st left (some f) = ok_g st left f
 
-abbrev pub ok_at : List ℕ → ℕ → ℕ → ℕ → ℕ → Bool
-ok_at w i j st left = ok_in st left (forest_at w i j)
+abbrev pub ok_at : List ℕ → ℕ → ℕ → ℕ → ℕ → ℕ → Bool
+ok_at w i j st left q = ok_in st left (forest_at w i j q)
 
--- ---- a row before nodes
+-- row i may stand in the state st, so many levels being left, and its parent is q
+abbrev pub fits_at : List ℕ → ℕ → ℕ → ℕ → ℕ → Bool
+fits_at w i st left q = eqb (parent_at w i) q && row_ok st left (row_at w i)
 
--- the forest h that the node x, of the number n, makes with the nodes xs after it
-pub record Split (x : Node) (n : ℕ) (xs : List Node) (h : Forest) : Type 0 where
-  pub kids : Forest
-  pub rest : Forest
-  pub is : h ≡ tree (own x) kids rest
-  pub next : x.next ≡ n + 1 + size_g kids
-  pub nodes : xs ≡ nodes_g kids (n + 1) ++ nodes_g rest x.next
+-- ---- a linked row
+pub record Linked (w : List ℕ) (i j q : ℕ) : Type 0 where
+  pub lo : i < next_at w i
+  pub hi : next_at w i ≤ j
+  pub parent : parent_at w i ≡ q
 
-split : (x : Node) (n : ℕ) (xs : List Node) (h : Forest) → x ∷ xs ≡ nodes_g h n → Split x n xs h
-unfolding nodes_g
-split x n xs empty e = let z : ◌≡◌ {A = ℕ} 0 1 = cc in absurd (omega arith)
-split x n xs (tree q f g) e =
-    let u : x ≡ with_next q (n + 1 + size_g f) = cc in
-    let v : xs ≡ nodes_g f (n + 1) ++ nodes_g g (n + 1 + size_g f) = cc in
-    let t : x.next ≡ n + 1 + size_g f = ap (λ (y : Node). y.next) u in
+pub linked_true : (w : List ℕ) (i j q : ℕ) → linked w i j q ≡ true → Linked w i j q
+linked_true w i j q h =
+    let x : Bool = ltb i (next_at w i) in
+    let y : Bool = leb (next_at w i) j in
+    let z : Bool = eqb (parent_at w i) q in
     record {
-      kids = f;
-      rest = g;
-      is = ap (λ (y : Node). tree (own y) f g) (sym u);
-      next = t;
-      nodes = v ∙ ap (λ (y : ℕ). nodes_g f (n + 1) ++ nodes_g g y) (sym t);
+      lo = ltb-true i (next_at w i) (and_left x y (and_left (x && y) z h));
+      hi = leb-true (next_at w i) j (and_right x y (and_left (x && y) z h));
+      parent = eqb-true (parent_at w i) q (and_right (x && y) z h);
     }
 
--- two lists that are equal whole, and whose first parts are of one length
-front_same : (A A' B B' : List Node) → A ++ B ≡ A' ++ B' → length A ≡ length A' → A ≡ A'
-front_same A A' B B' e l = sym (take_at A B (length A) refl) ∙ ap (take (length A)) e ∙ take_at A' B' (length A) (sym l)
+-- whose next row is in the range
+linked_in : (w : List ℕ) (i j q : ℕ) → i < next_at w i → next_at w i ≤ j → linked w i j q ≡ eqb (parent_at w i) q
+linked_in w i j q lo hi =
+    ap (λ (b : Bool). (b && leb (next_at w i) j) && eqb (parent_at w i) q) (lt-ltb i (next_at w i) lo)
+    ∙ ap (λ (b : Bool). b && eqb (parent_at w i) q) (le-leb (next_at w i) j hi)
 
-back_same : (A A' B B' : List Node) → A ++ B ≡ A' ++ B' → length A ≡ length A' → B ≡ B'
-back_same A A' B B' e l = sym (drop_at A B (length A) refl) ∙ ap (drop (length A)) e ∙ drop_at A' B' (length A) (sym l)
-
--- a row, the nodes A of its children, and the nodes B of what follows
-forest_cons : (x : Node) (n : ℕ) (A B : List Node) → x.next ≡ n + 1 + length A → forest_n (x ∷ A ++ B) n ≡ joined (own x) (forest_n A (n + 1)) (forest_n B x.next)
-unfolding nodes_g
-forest_cons x n A B e = go (forest_n (x ∷ A ++ B) n) refl
+-- whose next row is not
+linked_out : (w : List ℕ) (i j q : ℕ) → (i < next_at w i → next_at w i ≤ j → ⊥) → linked w i j q ≡ false
+linked_out w i j q bad = go (ltb i (next_at w i)) (leb (next_at w i) j) refl refl
   where
-    both : (o p : Option Forest) → forest_n A (n + 1) ≡ o → forest_n B x.next ≡ p → forest_n (x ∷ A ++ B) n ≡ none → none ≡ joined (own x) o p
-    both none p q q' z = refl
-    both (some f) none q q' z = refl
-    both (some f) (some g) q q' z =
-        let u : A ≡ nodes_g f (n + 1) = nodes_forest A (n + 1) f q in
-        let v : B ≡ nodes_g g x.next = nodes_forest B x.next g q' in
-        let t : x.next ≡ n + 1 + size_g f = e ∙ ap (λ (l : List Node). n + 1 + length l) u ∙ ap (λ (k : ℕ). n + 1 + k) (length_forest f (n + 1)) in
-        sym z
-        ∙ ap (λ (y : List Node). forest_n (x ∷ y ++ B) n) u
-        ∙ ap (λ (y : List Node). forest_n (x ∷ nodes_g f (n + 1) ++ y) n) v
-        ∙ ap (λ (y : ℕ). forest_n (with_next (own x) y ∷ nodes_g f (n + 1) ++ nodes_g g y) n) t
-        ∙ forest_nodes (tree (own x) f g) n
-
-    go : (o : Option Forest) → forest_n (x ∷ A ++ B) n ≡ o → o ≡ joined (own x) (forest_n A (n + 1)) (forest_n B x.next)
-    go none q = both (forest_n A (n + 1)) (forest_n B x.next) refl refl q
-    go (some h) q =
-        let S = split x n (A ++ B) h (nodes_forest (x ∷ A ++ B) n h q) in
-        let l : length A ≡ length (nodes_g S.kids (n + 1)) = let s = S.next in let k = length_forest S.kids (n + 1) in omega arith in
-        let u : A ≡ nodes_g S.kids (n + 1) = front_same A (nodes_g S.kids (n + 1)) B (nodes_g S.rest x.next) S.nodes l in
-        let v : B ≡ nodes_g S.rest x.next = back_same A (nodes_g S.kids (n + 1)) B (nodes_g S.rest x.next) S.nodes l in
-        let f : forest_n A (n + 1) ≡ some S.kids = ap (λ (y : List Node). forest_n y (n + 1)) u ∙ forest_nodes S.kids (n + 1) in
-        let g : forest_n B x.next ≡ some S.rest = ap (λ (y : List Node). forest_n y x.next) v ∙ forest_nodes S.rest x.next in
-        ap some S.is ∙ ap (λ (o : Option Forest). joined (own x) o (some S.rest)) (sym f) ∙ ap (joined (own x) (forest_n A (n + 1))) (sym g)
-
--- a row whose next row is not behind it, or is past the end, makes no forest with the nodes after it
-forest_out : (x : Node) (n : ℕ) (W : List Node) → (n < x.next → x.next ≤ n + 1 + length W → ⊥) → forest_n (x ∷ W) n ≡ none
-forest_out x n W bad = go (forest_n (x ∷ W) n) refl
-  where
-    go : (o : Option Forest) → forest_n (x ∷ W) n ≡ o → o ≡ none
-    go none q = refl
-    go (some h) q =
-        let S = split x n W h (nodes_forest (x ∷ W) n h q) in
-        let e = S.next in
-        let k : length W ≡ size_g S.kids + size_g S.rest =
-        ap length S.nodes ∙ length-append (nodes_g S.kids (n + 1)) (nodes_g S.rest x.next)
-        ∙ ap (λ (y : ℕ). y + length (nodes_g S.rest x.next)) (length_forest S.kids (n + 1)) ∙ ap (λ (y : ℕ). size_g S.kids + y) (length_forest S.rest x.next) in
-        absurd (bad (omega arith) (omega arith))
+    go : (a b : Bool) → ltb i (next_at w i) ≡ a → leb (next_at w i) j ≡ b → (a && b) && eqb (parent_at w i) q ≡ false
+    go true true e f = absurd (bad (ltb-true i (next_at w i) e) (leb-true (next_at w i) j f))
+    go true false e f = refl
+    go false b e f = refl
 
 -- ---- ranges
 
-slice_join : (a b c : ℕ) (l : List Node) → a ≤ b → b ≤ c → c ≤ length l → slice a c l ≡ slice a b l ++ slice b c l
-slice_join a b c l h i k =
-    let n : length (take b l) ≡ b = length-take-le b l (omega arith) in
-    ap (drop a) (sym (take-append-drop b (take c l)) ∙ ap (λ (y : List Node). y ++ drop b (take c l)) (take-take b c l i))
-    ∙ drop-append-le a (take b l) (drop b (take c l)) (omega arith)
+-- what is found where the children of row i and what follows it are found alike
+found_alike : (w : List ℕ) (find find' : Finds) (i j q : ℕ)
+    → (Linked w i j q → find (i + 1) (next_at w i) i ≡ find' (i + 1) (next_at w i) i) → (Linked w i j q → find (next_at w i) j q ≡ find' (next_at w i) j q)
+    → forest_from (eqb i j) w find i j q ≡ forest_from (eqb i j) w find' i j q
+found_alike w find find' i j q kids rest = go (eqb i j)
+  where
+    at_row : (b : Bool) → linked w i j q ≡ b → forest_row b w find i j q ≡ forest_row b w find' i j q
+    at_row true e =
+        let L = linked_true w i j q e in
+        ap (λ (o : Option Forest). joined (row_at w i) o (find (next_at w i) j q)) (kids L)
+        ∙ ap (joined (row_at w i) (find' (i + 1) (next_at w i) i)) (rest L)
+    at_row false e = refl
 
--- rows before row j are there
-rows_there : (w : List ℕ) (j : ℕ) → node_width * j ≤ length w → j ≤ length (nodes_of w)
-rows_there w j l = let c = count_nodes w in omega arith
+    go : (b : Bool) → forest_from b w find i j q ≡ forest_from b w find' i j q
+    go true = refl
+    go false = at_row (linked w i j q) refl
 
--- row i, and the rows after it
-rows_cons : (w : List ℕ) (i j : ℕ) → i < j → node_width * j ≤ length w → nodes_at w i j ≡ node_at w i ∷ nodes_at w (i + 1) j
-rows_cons w i j h l =
-    slice-cons i j (nodes_of w) (node_at w i) h (rows_there w j l)
-    ∙ ap (λ (x : Node). x ∷ slice (suc i) j (nodes_of w)) (node_at_lem w i (node_at w i) (omega arith))
-    ∙ ap (λ (k : ℕ). node_at w i ∷ slice k j (nodes_of w)) (sym (add-one i))
+-- a bound no smaller than the rows changes nothing
+enough : (k m : ℕ) (w : List ℕ) (i j q : ℕ) → j - i ≤ k → j - i ≤ m → forest_in k w i j q ≡ forest_in m w i j q
+unfolding forest_in
+enough zero zero w i j q h l = refl
+enough zero (suc m) w i j q h l =
+    found_alike w (λ (a b p : ℕ). none) (λ (a b p : ℕ). forest_in m w a b p) i j q
+    (λ (L : Linked w i j q). let lo = L.lo in let hi = L.hi in absurd (omega arith)) (λ (L : Linked w i j q). let lo = L.lo in let hi = L.hi in absurd (omega arith))
+enough (suc k) zero w i j q h l =
+    found_alike w (λ (a b p : ℕ). forest_in k w a b p) (λ (a b p : ℕ). none) i j q
+    (λ (L : Linked w i j q). let lo = L.lo in let hi = L.hi in absurd (omega arith)) (λ (L : Linked w i j q). let lo = L.lo in let hi = L.hi in absurd (omega arith))
+enough (suc k) (suc m) w i j q h l =
+    found_alike w (λ (a b p : ℕ). forest_in k w a b p) (λ (a b p : ℕ). forest_in m w a b p) i j q
+    (λ (L : Linked w i j q). let lo = L.lo in let hi = L.hi in enough k m w (i + 1) (next_at w i) i (omega arith) (omega arith))
+    (λ (L : Linked w i j q). let lo = L.lo in let hi = L.hi in enough k m w (next_at w i) j q (omega arith) (omega arith))
 
--- rows i to j, where row i is whole, j is not past the end, and the next row is not past j
-pub forest_turn : (w : List ℕ) (i j : ℕ) → node_width * j ≤ length w → i < next_at w i → next_at w i ≤ j → forest_at w i j ≡ joined (row_at w i) (forest_at w (i + 1) (next_at w i)) (forest_at w (next_at w i) j)
+row_is : (b : Bool) (w : List ℕ) (find : Finds) (i j q : ℕ)
+    → forest_row b w find i j q ≡ pick_forest b (joined (row_at w i) (find (i + 1) (next_at w i) i) (find (next_at w i) j q))
+row_is true w find i j q = refl
+row_is false w find i j q = refl
+
+-- rows i to j, where there is row i
+from_row : (w : List ℕ) (i j q : ℕ) → i < j → forest_at w i j q ≡ forest_row (linked w i j q) w (forest_in (j - (i + 1)) w) i j q
+unfolding forest_at forest_in
+from_row w i j q h =
+    ap (λ (k : ℕ). forest_in k w i j q) (let e : j - i ≡ suc (j - (i + 1)) = omega arith in e)
+    ∙ ap (λ (b : Bool). forest_from b w (forest_in (j - (i + 1)) w) i j q) (ne_eqb i j (λ (z : i ≡ j). omega arith))
+
+-- where its next row is not past j
+pub forest_turn : (w : List ℕ) (i j q : ℕ) → i < next_at w i → next_at w i ≤ j
+    → forest_at w i j q ≡ pick_forest (eqb (parent_at w i) q) (joined (row_at w i) (forest_at w (i + 1) (next_at w i) i) (forest_at w (next_at w i) j q))
 unfolding forest_at
-forest_turn w i j l lo hi =
+forest_turn w i j q lo hi =
+    let k : ℕ = j - (i + 1) in
     let x : ℕ = next_at w i in
-    let m : length (nodes_at w (i + 1) x) ≡ x - (i + 1) = length-slice (i + 1) x (nodes_of w) (rows_there w x (omega arith)) in
-    ap (λ (y : List Node). forest_n y i) (rows_cons w i j (omega arith) l)
-    ∙ ap (λ (y : List Node). forest_n (node_at w i ∷ y) i) (slice_join (i + 1) x j (nodes_of w) (omega arith) hi (rows_there w j l))
-    ∙ forest_cons (node_at w i) i (nodes_at w (i + 1) x) (nodes_at w x j) (omega arith)
-
--- no rows
-pub forest_end : (w : List ℕ) (i j : ℕ) → i ≡ j → forest_at w i j ≡ some empty
-unfolding forest_at forest_n
-forest_end w i j e = ap (λ (y : ℕ). forest_n (nodes_at w i y) i) (sym e) ∙ ap (λ (y : List Node). forest_n y i) (slice_empty i (nodes_of w))
+    let b : Bool = eqb (parent_at w i) q in
+    from_row w i j q (omega arith)
+    ∙ ap (λ (y : Bool). forest_row y w (forest_in k w) i j q) (linked_in w i j q lo hi)
+    ∙ row_is b w (forest_in k w) i j q
+    ∙ ap (λ (o : Option Forest). pick_forest b (joined (row_at w i) o (forest_in k w x j q))) (enough k (x - (i + 1)) w (i + 1) x i (omega arith) (omega arith))
+    ∙ ap (λ (o : Option Forest). pick_forest b (joined (row_at w i) (forest_in (x - (i + 1)) w (i + 1) x i) o)) (enough k (j - x) w x j q (omega arith) (omega arith))
 
 -- a next row that is not behind its row, or is past the end
-pub forest_bad : (w : List ℕ) (i j : ℕ) → node_width * j ≤ length w → i < j → (i < next_at w i → next_at w i ≤ j → ⊥) → forest_at w i j ≡ none
+pub forest_bad : (w : List ℕ) (i j q : ℕ) → i < j → (i < next_at w i → next_at w i ≤ j → ⊥) → forest_at w i j q ≡ none
+forest_bad w i j q h bad = from_row w i j q h ∙ ap (λ (b : Bool). forest_row b w (forest_in (j - (i + 1)) w) i j q) (linked_out w i j q bad)
+
+-- no rows
+none_left : (k : ℕ) (w : List ℕ) (i j q : ℕ) → i ≡ j → forest_in k w i j q ≡ some empty
+unfolding forest_in
+none_left zero w i j q e = ap (λ (b : Bool). forest_from b w (λ (a b p : ℕ). none) i j q) (eq-eqb i j e)
+none_left (suc k) w i j q e = ap (λ (b : Bool). forest_from b w (λ (a b p : ℕ). forest_in k w a b p) i j q) (eq-eqb i j e)
+
+pub forest_end : (w : List ℕ) (i j q : ℕ) → i ≡ j → forest_at w i j q ≡ some empty
 unfolding forest_at
-forest_bad w i j l h bad =
-    let m : length (nodes_at w (i + 1) j) ≡ j - (i + 1) = length-slice (i + 1) j (nodes_of w) (rows_there w j l) in
-    ap (λ (y : List Node). forest_n y i) (rows_cons w i j h l)
-    ∙ forest_out (node_at w i) i (nodes_at w (i + 1) j) (λ lo hi. bad lo (omega arith))
+forest_end w i j q e = none_left (j - i) w i j q e
 
 -- all rows
-pub forest_all : (w : List ℕ) (n : ℕ) → length w ≡ node_width * n → forest_at w 0 n ≡ forest_of w 0
-unfolding forest_at forest_of
+pub forest_all : (w : List ℕ) (n : ℕ) → length w ≡ node_width * n → forest_at w 0 n no_parent ≡ forest_of w
+unfolding forest_of
 forest_all w n e =
-    let c = count_nodes w in
     let z : length w % node_width ≡ 0 = ap (λ (k : ℕ). k % node_width) e ∙ mul-mod_right node_width n in
-    ap (λ (y : List Node). forest_n y 0) (take_all n (nodes_of w) (omega arith))
-    ∙ sym (ap (λ (b : Bool). pick_forest b (forest_n (nodes_of w) 0)) (eq-eqb _ _ z))
+    ap (λ (k : ℕ). forest_at w 0 k no_parent) (let d : n ≡ length w / node_width = omega arith in d)
+    ∙ sym (ap (λ (b : Bool). pick_forest b (forest_at w 0 (length w / node_width) no_parent)) (eq-eqb _ _ z))
 
 -- ---- the rules, along a walk
+
+ok_picked : (st left : ℕ) (b : Bool) (o : Option Forest) → ok_in st left (pick_forest b o) ≡ b && ok_in st left o
+ok_picked st left true o = refl
+ok_picked st left false o = refl
 
 ok_joined : (st left : ℕ) (r : Row) (o p : Option Forest)
     → ok_in st left (joined r o p) ≡ row_ok st left r && (ok_in (state_inside r.kind) (below st r.kind left) o && ok_in (state_next st r.kind r.detail) left p)
@@ -188,48 +211,69 @@ ok_joined st left r (some f) none =
     sym (ap (λ (b : Bool). row_ok st left r && b) (and-false (ok_g (state_inside r.kind) (below st r.kind left) f)) ∙ and-false (row_ok st left r))
 ok_joined st left r (some f) (some g) = refl
 
-pub ok_turn : (w : List ℕ) (i j st left : ℕ) → node_width * j ≤ length w → i < next_at w i → next_at w i ≤ j
-    → ok_at w i j st left ≡ row_ok st left (row_at w i) && (ok_at w (i + 1) (next_at w i) (state_inside (kind_at w i)) (below st (kind_at w i) left) && ok_at w (next_at w i) j (state_next st (kind_at w i) (detail_at w i)) left)
-ok_turn w i j st left l lo hi =
-    ap (ok_in st left) (forest_turn w i j l lo hi) ∙ ok_joined st left (row_at w i) (forest_at w (i + 1) (next_at w i)) (forest_at w (next_at w i) j)
+pub ok_turn : (w : List ℕ) (i j st left q : ℕ) → i < next_at w i → next_at w i ≤ j
+    → ok_at w i j st left q ≡ fits_at w i st left q && (ok_at w (i + 1) (next_at w i) (state_inside (kind_at w i)) (below st (kind_at w i) left) i && ok_at w (next_at w i) j (state_next st (kind_at w i) (detail_at w i)) left q)
+ok_turn w i j st left q lo hi =
+    let b : Bool = eqb (parent_at w i) q in
+    let o : Option Forest = forest_at w (i + 1) (next_at w i) i in
+    let p : Option Forest = forest_at w (next_at w i) j q in
+    let y : Bool = ok_at w (i + 1) (next_at w i) (state_inside (kind_at w i)) (below st (kind_at w i) left) i in
+    let z : Bool = ok_at w (next_at w i) j (state_next st (kind_at w i) (detail_at w i)) left q in
+    ap (ok_in st left) (forest_turn w i j q lo hi)
+    ∙ ok_picked st left b (joined (row_at w i) o p)
+    ∙ ap (λ (x : Bool). b && x) (ok_joined st left (row_at w i) o p)
+    ∙ sym (and_assoc b (row_ok st left (row_at w i)) (y && z))
 
-pub ok_end : (w : List ℕ) (i j st left : ℕ) → i ≡ j → ok_at w i j st left ≡ may_end st
+pub ok_end : (w : List ℕ) (i j st left q : ℕ) → i ≡ j → ok_at w i j st left q ≡ may_end st
 unfolding ok_g
-ok_end w i j st left e = ap (ok_in st left) (forest_end w i j e)
+ok_end w i j st left q e = ap (ok_in st left) (forest_end w i j q e)
 
-pub ok_bad : (w : List ℕ) (i j st left : ℕ) → node_width * j ≤ length w → i < j → (i < next_at w i → next_at w i ≤ j → ⊥) → ok_at w i j st left ≡ false
-ok_bad w i j st left l h bad = ap (ok_in st left) (forest_bad w i j l h bad)
+pub ok_bad : (w : List ℕ) (i j st left q : ℕ) → i < j → (i < next_at w i → next_at w i ≤ j → ⊥) → ok_at w i j st left q ≡ false
+ok_bad w i j st left q h bad = ap (ok_in st left) (forest_bad w i j q h bad)
 
 -- a turn of the check at row i, which is the node x
-module _ (w : List ℕ) (i j st left : ℕ) (x : Node) (is : x ≡ node_at w i) (long : node_width * j ≤ length w) where
+module _ (w : List ℕ) (i j st left q : ℕ) (x : Node) (is : x ≡ node_at w i) where
+  abbrev here : Bool
+  here = eqb x.parent q && row_ok st left (own x)
+
   abbrev kids : Bool
-  kids = ok_at w (i + 1) x.next (state_inside x.kind) (below st x.kind left)
+  kids = ok_at w (i + 1) x.next (state_inside x.kind) (below st x.kind left) i
 
   abbrev rest : Bool
-  rest = ok_at w x.next j (state_next st x.kind x.detail) left
+  rest = ok_at w x.next j (state_next st x.kind x.detail) left q
 
-  turn : i < x.next → x.next ≤ j → ok_at w i j st left ≡ row_ok st left (own x) && (kids && rest)
+  turn : i < x.next → x.next ≤ j → ok_at w i j st left q ≡ here && (kids && rest)
   turn =
       let P : Node → Type 0 = λ y. i < y.next → y.next ≤ j
-      → ok_at w i j st left ≡ row_ok st left (own y) && (ok_at w (i + 1) y.next (state_inside y.kind) (below st y.kind left) && ok_at w y.next j (state_next st y.kind y.detail) left) in
-      subst P (sym is) (ok_turn w i j st left long)
+      → ok_at w i j st left q ≡ (eqb y.parent q && row_ok st left (own y)) && (ok_at w (i + 1) y.next (state_inside y.kind) (below st y.kind left) i && ok_at w y.next j (state_next st y.kind y.detail) left q) in
+      subst P (sym is) (ok_turn w i j st left q)
 
   -- its next row is not behind it, or is past the end
-  pub stop_next : i < j → (i < x.next → x.next ≤ j → ⊥) → ok_at w i j st left ≡ false
-  stop_next h bad = let P : Node → Type 0 = λ y. i < y.next → y.next ≤ j → ⊥ in ok_bad w i j st left long h (subst P is bad)
+  pub stop_next : i < j → (i < x.next → x.next ≤ j → ⊥) → ok_at w i j st left q ≡ false
+  stop_next h bad = let P : Node → Type 0 = λ y. i < y.next → y.next ≤ j → ⊥ in ok_bad w i j st left q h (subst P is bad)
 
-  -- it may not stand here
-  pub stop_row : i < j → row_ok st left (own x) ≡ false → ok_at w i j st left ≡ false
-  stop_row h r = go (dec_le (i + 1) x.next) (dec_le x.next j)
+  stop_here : i < j → here ≡ false → ok_at w i j st left q ≡ false
+  stop_here h r = go (dec_le (i + 1) x.next) (dec_le x.next j)
     where
-      go : Dec (i + 1 ≤ x.next) → Dec (x.next ≤ j) → ok_at w i j st left ≡ false
+      go : Dec (i + 1 ≤ x.next) → Dec (x.next ≤ j) → ok_at w i j st left q ≡ false
       go (no a) d = stop_next h (λ lo hi. a (omega arith))
       go (yes a) (no b) = stop_next h (λ lo hi. b hi)
       go (yes a) (yes b) = turn (omega arith) b ∙ ap (λ (t : Bool). t && (kids && rest)) r
 
-  pub stop_kids : i < x.next → x.next ≤ j → kids ≡ false → ok_at w i j st left ≡ false
-  stop_kids lo hi k =
-      turn lo hi ∙ ap (λ (t : Bool). row_ok st left (own x) && (t && rest)) k ∙ and-false (row_ok st left (own x))
+  -- its parent is another
+  pub stop_parent : i < j → (x.parent ≡ q → ⊥) → ok_at w i j st left q ≡ false
+  stop_parent h n = stop_here h (ap (λ (t : Bool). t && row_ok st left (own x)) (ne_eqb x.parent q n))
 
-  pub go_on : i < x.next → x.next ≤ j → row_ok st left (own x) ≡ true → kids ≡ true → ok_at w i j st left ≡ rest
-  go_on lo hi r k = turn lo hi ∙ ap (λ (t : Bool). t && (kids && rest)) r ∙ ap (λ (t : Bool). t && rest) k
+  -- it may not stand here
+  pub stop_row : i < j → row_ok st left (own x) ≡ false → ok_at w i j st left q ≡ false
+  stop_row h r = stop_here h (ap (λ (t : Bool). eqb x.parent q && t) r ∙ and-false (eqb x.parent q))
+
+  pub stop_kids : i < x.next → x.next ≤ j → kids ≡ false → ok_at w i j st left q ≡ false
+  stop_kids lo hi k = turn lo hi ∙ ap (λ (t : Bool). here && (t && rest)) k ∙ and-false here
+
+  pub go_on : i < x.next → x.next ≤ j → x.parent ≡ q → row_ok st left (own x) ≡ true → kids ≡ true → ok_at w i j st left q ≡ rest
+  go_on lo hi p r k =
+      turn lo hi
+      ∙ ap (λ (t : Bool). (t && row_ok st left (own x)) && (kids && rest)) (eq-eqb x.parent q p)
+      ∙ ap (λ (t : Bool). t && (kids && rest)) r
+      ∙ ap (λ (t : Bool). t && rest) k

@@ -5,13 +5,13 @@ use Rattle.std.proofs.Math.Option.{Option, none, some}
 use Rattle.std.proofs.Common.{sym, ap, ◌∙◌, arith, eq-eqb, ne_eqb, le-leb}
 use Rattle.std.proofs.lemmas.Bool.{lt-leb}
 use Rattle.refal_ast.specs.Limits.{most_rows, most_levels}
-use Rattle.refal_ast.specs.Nodes.{node_width}
-use Rattle.refal_tree.specs.Forest.{Forest, forest_of}
+use Rattle.refal_ast.specs.Nodes.{node_width, no_parent}
+use Rattle.refal_tree.specs.Forest.{Forest}
 use Rattle.refal_tree.specs.States.{at_items}
 use Rattle.refal_tree.specs.Rules.{ok_g}
 use Rattle.refal_tree.specs.Typed.{program_of}
 use Rattle.refal_tree.specs.Lawful.{pick_tree, tree_in, tree_of, found, lawful}
-use Rattle.refal_tree.specs.Ranges.{forest_all, ok_in, ok_at}
+use Rattle.refal_tree.specs.Ranges.{forest_of, forest_all, ok_in, ok_at}
 
 pub not_whole : (w : List ℕ) → (length w % node_width ≡ 0 → ⊥) → lawful w ≡ false
 unfolding lawful
@@ -31,10 +31,10 @@ found_is left (some f) = go (ok_g at_items left f)
     go true = refl
     go false = refl
 
-pub all_rows : (w : List ℕ) (n : ℕ) → length w ≡ node_width * n → n ≤ most_rows → lawful w ≡ ok_at w 0 n at_items most_levels
+pub all_rows : (w : List ℕ) (n : ℕ) → length w ≡ node_width * n → n ≤ most_rows → lawful w ≡ ok_at w 0 n at_items most_levels no_parent
 unfolding lawful tree_of
 all_rows w n e h =
-    ap (λ (b : Bool). (b && leb (length w) (node_width * most_rows)) && found (tree_in most_levels (forest_of w 0))) (eq-eqb (length w % node_width) 0 (omega arith))
-    ∙ ap (λ (b : Bool). b && found (tree_in most_levels (forest_of w 0))) (le-leb (length w) (node_width * most_rows) (omega arith))
-    ∙ found_is most_levels (forest_of w 0)
+    ap (λ (b : Bool). (b && leb (length w) (node_width * most_rows)) && found (tree_in most_levels (forest_of w))) (eq-eqb (length w % node_width) 0 (omega arith))
+    ∙ ap (λ (b : Bool). b && found (tree_in most_levels (forest_of w))) (le-leb (length w) (node_width * most_rows) (omega arith))
+    ∙ found_is most_levels (forest_of w)
     ∙ ap (ok_in at_items most_levels) (sym (forest_all w n e))

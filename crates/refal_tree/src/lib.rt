@@ -6,6 +6,7 @@ mod kinds;
 pub mod states;
 
 ghost use Rattle.std.specs.Prelude.{◌≡◌, ◌*◌, ◌≤◌, length};
+ghost use Rattle.refal_ast.specs.Limits.{most_rows};
 ghost use Rattle.refal_ast.specs.Nodes.{node_width};
 ghost use Rattle.refal_ast.specs.Rows.{node_told};
 ghost use Rattle.refal_tree.specs.Forest.{own};
@@ -30,11 +31,11 @@ fn after_row(node: Node, state: State, left: usize) -> Option<State>
     }
 }
 
-// Whether the rows from .. to are children that keep the rules, from the state `start` on: each row, and below it the
-// same check of its children. A row tells where the next child stands, so no iterator gives the children.
-fn check(tree: &[u32], from: usize, to: usize, start: State, left: usize) -> bool
-    requires { (from ≤ to) × (node_width * to ≤ length tree.now) }
-    ensures { result ≡ ok_at tree.now from to (state_code start) left }
+// Whether the rows from .. to are children of the parent that keep the rules, from the state `start` on: each row, and below
+// it the same check of its children. A row tells where the next child stands, so no iterator gives the children.
+fn check(tree: &[u32], from: usize, to: usize, start: State, left: usize, parent: u32) -> bool
+    requires { (from ≤ to) × (node_width * to ≤ length tree.now) × (to ≤ most_rows) }
+    ensures { result ≡ ok_at tree.now from to (state_code start) left parent }
 {
     let mut i = from;
     let mut state = start;
@@ -42,6 +43,9 @@ fn check(tree: &[u32], from: usize, to: usize, start: State, left: usize) -> boo
         let Ok(node) = Node::read(tree, i) else {
             return false;
         };
+        if node.parent != parent {
+            return false;
+        }
         let Some(after) = after_row(node, state, left) else {
             return false;
         };
@@ -50,7 +54,8 @@ fn check(tree: &[u32], from: usize, to: usize, start: State, left: usize) -> boo
             return false;
         }
         let inside = State::inside(node.kind);
-        if !check(tree, i + 1, end, inside, state.below(node.kind, left)) {
+        let below = state.below(node.kind, left);
+        if !check(tree, i + 1, end, inside, below, i as u32) {
             return false;
         }
         state = after;
@@ -59,7 +64,8 @@ fn check(tree: &[u32], from: usize, to: usize, start: State, left: usize) -> boo
     state.ends()
 }
 
-// Whether the words are the rows of a lawful tree: whole rows, not too many, no deeper than 64 levels.
+// Whether the words are the rows of a lawful tree: whole rows, not too many, no deeper than 64 levels, the top ones without a
+// parent.
 pub fn lawful(tree: &[u32]) -> bool
     ensures { result ≡ is_lawful tree.now }
 {
@@ -67,5 +73,6 @@ pub fn lawful(tree: &[u32]) -> bool
     if tree.len() % nodes::WIDTH != 0 || rows > limits::MOST_ROWS {
         return false;
     }
-    check(tree, 0, rows, State::Items, limits::MOST_LEVELS)
+    let levels = limits::MOST_LEVELS;
+    check(tree, 0, rows, State::Items, levels, nodes::NO_PARENT)
 }

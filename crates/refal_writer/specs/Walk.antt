@@ -1,5 +1,5 @@
 -- Writing by a walk over rows: what is known of the rows that it writes, and a turn of the walk at row i.
-use Rattle.std.specs.Prelude.{Result, Ok, Err, Option, Some, None, ℕ, ◌+◌, ◌*◌, ◌-◌, ◌≤◌, ◌<◌, Bool, true, false, ◌&&◌, ◌||◌, List, [], ◌++◌, ◌≡◌, refl, eqb, length}
+use Rattle.std.specs.Prelude.{Result, Ok, Err, Option, Some, None, ℕ, ◌+◌, ◌*◌, ◌-◌, ◌≤◌, ◌<◌, Bool, true, false, ◌&&◌, ◌||◌, List, [], ◌++◌, ◌≡◌, refl, eqb}
 use Rattle.std.proofs.Common.{true≢false, sym, ap, subst, ◌∙◌, arith, eqb-true}
 use Rattle.std.specs.Result.{IsOk}
 use Rattle.std.specs.Option.{IsSome}
@@ -10,7 +10,7 @@ use Rattle.refal_ast.specs.Rows.{node_told, ReadsNode}
 use Rattle.refal_ast.specs.declared.nodes.Node.{Node as TheNode}
 use Rattle.refal_ast.specs.declared.kinds.UnknownKind.{UnknownKind}
 use Rattle.refal_ast.specs.Limits.{most_rows}
-use Rattle.refal_ast.specs.Nodes.{Node, node_at, node_width}
+use Rattle.refal_ast.specs.Nodes.{Node, node_at}
 use Rattle.refal_ast.specs.Flatten.{Flat}
 use Rattle.refal_tree.specs.Forest.{Row}
 use Rattle.refal_tree.specs.States.{state_inside, state_next, below, may_stand, room}
@@ -24,10 +24,11 @@ use Rattle.refal_spelling.specs.Spell.{text, text_at}
 use Rattle.refal_writer.specs.Token.{text_of, text_of_append}
 use Rattle.refal_writer.specs.Words.{open_words, open_text, close_words, close_text}
 
--- rows i to j keep the rules, from the state st on
+-- rows i to j keep the rules, from the state st on, under some parent
 pub record Walks (w : List ℕ) (i j st : ℕ) : Type 0 where
   pub left : ℕ
-  pub ok : ok_at w i j st left ≡ true
+  pub parent : ℕ
+  pub ok : ok_at w i j st left parent ≡ true
 
 -- ---- a row that keeps the rules
 letter_small : (d : ℕ) → variable_letter d ≡ true → d < 256
@@ -64,8 +65,8 @@ goes_on st k d None h e = absurd (true≢false (sym h ∙ e))
 pub next_state : (st k d : ℕ) (r : Option State) (s : State) → Follows st k d r → r ≡ Some s → state_code s ≡ state_next st k d
 next_state st k d r s h e = (subst (λ (x : Option State). Follows st k d x) e h).1
 
-pub row_reads : (w : List ℕ) (i j st : ℕ) (r : Result TheNode UnknownKind) → node_width * j ≤ length w → i < j → Walks w i j st → ReadsNode w i r → IsOk r
-row_reads w i j st r long more W e = let here = step w i j st W.left long more W.ok in reads w i st r (stands st W.left (row_at w i) here.here) e
+pub row_reads : (w : List ℕ) (i j st : ℕ) (r : Result TheNode UnknownKind) → i < j → Walks w i j st → ReadsNode w i r → IsOk r
+row_reads w i j st r more W e = let here = step w i j st W.left W.parent more W.ok in reads w i st r (stands st W.left (row_at w i) here.here) e
 
 -- ---- a turn of the walk at row i, which is read as n, among the rows to j
 pub record Turn (w : List ℕ) (i j st : ℕ) (n : TheNode) : Type 0 where
@@ -81,9 +82,9 @@ pub record Turn (w : List ℕ) (i j st : ℕ) (n : TheNode) : Type 0 where
       → text_of src (flat_at w i j st)
       ≡ text (open_words st (node_code n.kind) n.detail (text_at src n.start n.len)) ++ (text_of src (flat_at w (i + 1) n.next s) ++ (text (close_words st (node_code n.kind) n.detail) ++ text_of src (flat_at w n.next j u)))
 
-pub turn : (w : List ℕ) (i j st : ℕ) (r : Result TheNode UnknownKind) (n : TheNode) → ReadsNode w i r → r ≡ Ok n → node_width * j ≤ length w → i < j → Walks w i j st → Turn w i j st n
-turn w i j st r n reads is long more W =
-    let here : Step w i j st W.left = step w i j st W.left long more W.ok in
+pub turn : (w : List ℕ) (i j st : ℕ) (r : Result TheNode UnknownKind) (n : TheNode) → ReadsNode w i r → r ≡ Ok n → i < j → Walks w i j st → Turn w i j st n
+turn w i j st r n reads is more W =
+    let here : Step w i j st W.left W.parent = step w i j st W.left W.parent more W.ok in
     let told : node_told n ≡ node_at w i = subst (λ (x : Result TheNode UnknownKind). ReadsNode w i x) is reads in
     let kind : node_code n.kind ≡ kind_at w i = ap (λ (x : Node). x.kind) told in
     let detail : n.detail ≡ detail_at w i = ap (λ (x : Node). x.detail) told in
@@ -93,8 +94,8 @@ turn w i j st r n reads is long more W =
       high = let l = here.hi in omega arith;
       letter = λ e. subst (λ (x : ℕ). x < 256) (sym detail) (lettered st W.left (row_at w i) here.here (sym kind ∙ e));
       goes = λ o. goes_on st (node_code n.kind) n.detail o (ap (may_stand st) kind ∙ stands st W.left (row_at w i) here.here);
-      kids = λ s first. record { left = below st (kind_at w i) W.left; ok = rw (first, kind, next) here.kids };
-      rest = λ u then. record { left = W.left; ok = rw (then, kind, detail, next) here.rest };
+      kids = λ s first. record { left = below st (kind_at w i) W.left; parent = i; ok = rw (first, kind, next) here.kids };
+      rest = λ u then. record { left = W.left; parent = W.parent; ok = rw (then, kind, detail, next) here.rest };
       parts = λ src s u first then.
           let K : ℕ = kind_at w i in
           let z : ℕ = next_at w i in
@@ -102,7 +103,7 @@ turn w i j st r n reads is long more W =
           let B : List Flat = flat_at w (i + 1) z (state_inside K) in
           let C : List Flat = close_tokens st K (detail_at w i) in
           let D : List Flat = flat_at w z j (state_next st K (detail_at w i)) in
-          ap (text_of src) (flat_step w i j st W.left long here)
+          ap (text_of src) (flat_step w i j st W.left W.parent here)
           ∙ text_of_append src A (B ++ (C ++ D))
           ∙ ap (λ (l : List ℕ). text_of src A ++ l) (text_of_append src B (C ++ D) ∙ ap (λ (l : List ℕ). text_of src B ++ l) (text_of_append src C D))
           ∙ ap (λ (l : List ℕ). text_of src A ++ (text_of src B ++ (l ++ text_of src D))) (sym (close_text src st K (detail_at w i)))

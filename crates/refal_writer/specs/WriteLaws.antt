@@ -6,7 +6,7 @@ use Rattle.std.proofs.Math.Path.{ap, sym, subst}
 use Rattle.std.proofs.Math.ListN.{length, drop}
 use Rattle.refal_rows.specs.Tests.{and_left, and_right}
 use Rattle.refal_ast.specs.Tree.{Program}
-use Rattle.refal_ast.specs.Nodes.{node_width}
+use Rattle.refal_ast.specs.Nodes.{node_width, no_parent}
 use Rattle.std.specs.Result.{is_err}
 use Rattle.refal_ast.specs.Told.{told}
 use Rattle.refal_ast.specs.declared.answers.Refusal.{Refusal as Told}
@@ -51,7 +51,7 @@ module _ (w src : List ℕ) (h : lawful w ≡ true) where
   lawful_few = (known w h).few
 
   pub lawful_walks : Walks w 0 (length w / node_width) at_items
-  lawful_walks = let k = known w h in record { left = most_levels; ok = sym (all_rows w (length w / node_width) k.whole k.few) ∙ h }
+  lawful_walks = let k = known w h in record { left = most_levels; parent = no_parent; ok = sym (all_rows w (length w / node_width) k.whole k.few) ∙ h }
 
   pub written_is : text_of src (flat_at w 0 (length w / node_width) at_items) ≡ written w src
   unfolding written

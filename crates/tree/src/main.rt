@@ -1,5 +1,5 @@
 // Reads a Refal-5 source from standard input, at most 2,048 bytes, and writes the rows of its syntax tree, a line each: row, kind,
-// detail, span start, span end, next. A refusal is written as `refused`, its number and its span.
+// detail, span start, span end, next, parent (4294967295 at top rows). A refusal is written as `refused`, its number and its span.
 #![tactic(auto)]
 
 ghost use Rattle.std.specs.Prelude.{◌*◌, ◌≤◌, length, IfOk};
@@ -33,8 +33,8 @@ fn tree(source: &[u8], rows: &mut [u32]) -> Result<usize, Refusal>
 // Each row: its number, and of its words all but the text.
 fn put_rows(rt: &impl Print, rows: &[u32]) -> io::Result<()> {
     let (rows, _) = rows.as_chunks::<NODE_WIDTH>();
-    for (i, [kind, detail, _, _, from, to, next]) in rows.iter().enumerate() {
-        println!(rt; "{i} {kind} {detail} {from} {to} {next}")?;
+    for (i, [kind, detail, _, _, from, to, next, parent]) in rows.iter().enumerate() {
+        println!(rt; "{i} {kind} {detail} {from} {to} {next} {parent}")?;
     }
     Ok(())
 }

@@ -1,19 +1,29 @@
 // Replays a sample of the fixed lists (docs/VECTORS.md). Standard input holds records of 64 bytes: a letter for the call, the
 // lengths of its input and of what is lent in two decimal digits each, the input, points up to 63 bytes, a newline. Behind a
-// record of the letter t stand 256 bytes more, the tree to be written: the number of its words in two digits, the words of
-// four bytes each, the highest first, points up to 255 bytes, a newline. For each record the seven words of the answer are
+// record of the letter t stand 320 bytes more, the tree to be written: the number of its words in two digits, the words of
+// four bytes each, the highest first, points up to 319 bytes, a newline. For each record the seven words of the answer are
 // written, then all that was lent for output, which held a5 in each byte before the call.
 #![tactic(auto)]
 
 ghost use Rattle.std.specs.Prelude.{◌≤◌, length, IfOk};
 
+use refal_ast::nodes::WIDTH as NODE_WIDTH;
+use refal_ast::tokens::WIDTH as TOKEN_WIDTH;
 use std::io;
 use std::io::Read;
 
 // The bytes of a record, and of a tree behind it.
 const RECORD: usize = 64;
 
-const TREE: usize = 256;
+const TREE: usize = 320;
+
+// The words of a tree behind a record, at most.
+const TREE_WORDS: usize = 9 * NODE_WIDTH;
+
+// The words of a record's tokens, one for each byte of its input and Eof, and of their nodes.
+const TOKEN_WORDS: usize = 59 * TOKEN_WIDTH;
+
+const NODE_WORDS: usize = 120 * NODE_WIDTH;
 
 // Two decimal digits; 0 for anything else.
 fn two(digits: [u8; 2]) -> usize
@@ -70,25 +80,25 @@ fn put_words<F: FnOnce(&mut [u32], &mut [u64; 7])>(
 // The rows that a call puts into the words, as many as it answers, of so many words each.
 fn rows<F: FnOnce(&mut [u32], &mut [u64; 7])>(
     words: &mut [u32],
-    width: u64,
+    width: usize,
     call: F,
 ) -> Option<&[u32]>
     requires { F.IsAlwaysCallable call }
 {
     let mut answer = [0; 7];
     call(words, &mut answer);
-    words.get(..answer[1].checked_mul(width)? as usize)
+    words.get(..(answer[1] as usize).checked_mul(width)?)
 }
 
 // The rows of the input's tokens, and those of their nodes, in words with room for all.
 fn tokens<'a>(input: &[u8], words: &'a mut [u32]) -> Option<&'a [u32]> {
-    rows(words, 6, |words, answer| {
+    rows(words, TOKEN_WIDTH, |words, answer| {
         refal5::refal5_read(input, words, answer)
     })
 }
 
 fn nodes<'a>(tokens: &[u32], words: &'a mut [u32]) -> Option<&'a [u32]> {
-    rows(words, 7, |words, answer| {
+    rows(words, NODE_WIDTH, |words, answer| {
         refal5::refal5_parse(tokens, words, answer)
     })
 }
@@ -112,7 +122,7 @@ fn replay_tree<'a>(
     let Some((block, behind)) = after.split_first_chunk::<TREE>() else {
         return Ok(&after[..0]);
     };
-    let mut tree = [0u32; 63];
+    let mut tree = [0u32; TREE_WORDS];
     put_tree(block, &mut tree);
     if let Some(tree) = tree.get(..two([block[0], block[1]])) {
         put_bytes(rt, out, |out, answer| {
@@ -134,8 +144,8 @@ fn replay<'a>(rt: &impl Print, record: &[u8; RECORD], after: &'a [u8]) -> io::Re
     let out = &mut bytes[..lent];
     let mut words = [0xa5a5_a5a5u32; 99];
     let rows = &mut words[..lent];
-    let mut token_words = [0u32; 354];
-    let mut node_words = [0u32; 840];
+    let mut token_words = [0u32; TOKEN_WORDS];
+    let mut node_words = [0u32; NODE_WORDS];
     match record[0] {
         b'n' => put_bytes(rt, out, |out, answer| {
             refal5::refal5_canonical_name(input, out, answer)

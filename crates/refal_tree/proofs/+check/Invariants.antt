@@ -8,7 +8,7 @@ abbrev pub decreases-check : goal.decreases-check
 decreases-check l = l.to - l.from
 
 abbrev pub invariant-loop-i : goal.invariant-loop-i
-invariant-loop-i l = (l.from ≤ l.i) × (l.i ≤ l.to) × (ok_at l.tree l.from l.to (state_code l.fn.start) l.left ≡ ok_at l.tree l.i l.to (state_code l.state) l.left)
+invariant-loop-i l = (l.from ≤ l.i) × (l.i ≤ l.to) × (ok_at l.tree l.from l.to (state_code l.fn.start) l.left l.parent ≡ ok_at l.tree l.i l.to (state_code l.state) l.left l.parent)
 
 abbrev pub decreases-loop-i : goal.decreases-loop-i
 decreases-loop-i l = l.to - l.i

@@ -9,8 +9,8 @@ use Rattle.refal_parser.proofs.Steps.{got, stays, not_got, is_at, is_no, passed,
 use Rattle.refal_parser.proofs.BlockLaws.{turn_pattern, argument_no, block_no, follow_no, condition_of_block, pattern_no, condition_of_terms, condition_no, ending_no, sentence_of_parts, one_condition, end_argument_no, end_argued, end_block_no, end_follow_no, ending_of_block, end_terms_no, ending_of_terms, sofar_all, sentence_no, one_sentence, block_unclosed, block_of_sentences}
 use Rattle.refal_parser.proofs.place.Place.+block_condition_ending_sentence.Goals as goal
 
-pub block-returns-then-left-eq0 : goal.block-returns-then-left-eq0
-block-returns-then-left-eq0 t c = is_no c.present.ensures (λ b. open_none c.args.self.tokens.now c.args.self.at c.args.left (λ (d : ℕ). between d b s0) c.if-left-eq0.true)
+pub block-returns-then-level-eq0 : goal.block-returns-then-level-eq0
+block-returns-then-level-eq0 t c = is_no c.present.ensures (λ b. open_none c.args.self.tokens.now c.args.self.at c.args.level.left (λ (d : ℕ). between d b s0) c.if-level-eq0.true)
 
 pub block-next-place-requires : goal.block-next-place-requires
 block-next-place-requires t c = other _ _ _ c.requires.1 refl
@@ -18,14 +18,14 @@ block-next-place-requires t c = other _ _ _ c.requires.1 refl
 pub block-loop-place-init : goal.block-loop-place-init
 unfolding size_s w_s
 block-loop-place-init t c = let N = c.next-place.ensures in
-    rw N.1 (refl, record { v = b_all s0; on = omega arith; stops = omega arith; same = refl; rows = refl; count = omega arith; means = λ b. open_some c.args.self.tokens.now c.args.self.at c.args.left (λ (d : ℕ). between d b s0) c.if-left-eq0.false })
+    rw N.1 (refl, record { v = b_all s0; on = omega arith; stops = omega arith; same = refl; rows = refl; count = omega arith; means = λ b. open_some c.args.self.tokens.now c.args.self.at c.args.level.left (λ (d : ℕ). between d b s0) c.if-level-eq0.false })
 
 pub block-next-requires : goal.block-next-requires
 block-next-requires t c = other _ _ _ (is_kind c.kind.ensures c.in-RBrace.is) refl
 
 pub block-returns-in-RBrace : goal.block-returns-in-RBrace
 block-returns-in-RBrace t c = let I = c.loop-place.invariant in
-    rw c.next.ensures.1 (is_at refl I.0 (block_of_sentences (rw I.0 at c.loop-place.place.ready) (is_kind (rw I.0 at c.kind.ensures) c.in-RBrace.is) c.if-left-eq0.false I.1))
+    rw c.next.ensures.1 (is_at refl I.0 (block_of_sentences (rw I.0 at c.loop-place.place.ready) (is_kind (rw I.0 at c.kind.ensures) c.in-RBrace.is) c.if-level-eq0.false I.1))
 
 pub block-returns-in-Eof : goal.block-returns-in-Eof
 block-returns-in-Eof t c = let I = c.loop-place.invariant in
@@ -37,7 +37,7 @@ block-sentence-requires t c = let I = c.loop-place.invariant in
     let K = rw I.0 at c.kind.ensures in
     let R = rw I.0 at c.loop-place.place.ready in
     let S = sofar_all R I.1 (not_kind K c.in_default.not-RBrace) (not_kind K c.in_default.not-Eof) in
-    let o = I.1.on in let n = c.if-left-eq0.false in let g = c.args.self.ready in rw I.0 (omega arith, S.few)
+    let o = I.1.on in let n = c.if-level-eq0.false in let g = c.args.self.ready in rw I.0 (omega arith, S.few)
 
 pub block-returns-in_err-place-in_default : goal.block-returns-in_err-place-in_default
 block-returns-in_err-place-in_default t c = let I = c.loop-place.invariant in
@@ -82,6 +82,12 @@ condition-returns-in_err-end t c = let E = rw c.next-start.ensures.1 at c.in_ok-
     let s = stays E in
     passed _ _ c.from_residual-in_err-end.ensures.1 (block_no c.args.self.ready c.requires.1 _ (got E) (rw s at c.in_ok-asked.asked.ready) (is_kind (rw s at c.kind.ensures) c.in-LBrace.is) (not_got (rw s at c.in_err-end.ensures)))
 
+pub condition-overflow_cast-within : goal.condition-overflow_cast-within
+condition-overflow_cast-within t c = let A = got c.in_ok-asked.ensures in let R = c.in_ok-asked.asked.ready in let v₁ = A.few in omega arith
+
+pub condition-since-part-requires : goal.condition-since-part-requires
+condition-since-part-requires t c = let B = got c.in_ok-end.ensures in let Z = c.in_ok-end.end.ready in let q = B.on in let v = B.few in (omega arith, omega arith)
+
 pub condition-since-whole-requires : goal.condition-since-whole-requires
 condition-since-whole-requires t c = let B = got c.in_ok-end.ensures in let Z = c.in_ok-end.end.ready in let q = B.on in let v = B.few in (omega arith, omega arith)
 
@@ -99,9 +105,8 @@ condition-returns-in-LBrace t c = let E = rw c.next-start.ensures.1 at c.in_ok-a
     let X = rw (stays E) at c.in_ok-end.ensures in
     let s = stays X in
     let F = rw c.next-start.ensures.1 at c.token-from.ensures in
-    let W = c.since-whole.ensures.1 in
     is_at refl s (condition_of_block c.args.self.ready c.requires.1 _ (got E) (rw (stays E) at c.in_ok-asked.asked.ready) (is_kind (rw (stays E) at c.kind.ensures) c.in-LBrace.is)
-    (got X) (rw s at c.in_ok-end.end.ready) F.from refl (put_as _ _ _ c.put.ensures (rw (W, s) at c.bare.ensures)) (put_as _ _ _ c.put-in-LBrace.ensures (rw (W, s) at c.bare-in-LBrace.ensures))
+    (got X) (rw s at c.in_ok-end.end.ready) F.from refl (put_as _ _ _ c.put.ensures (rw (c.since-part.ensures.1, s) at c.bare.ensures)) (put_as _ _ _ c.put-in-LBrace.ensures (rw (c.since-whole.ensures.1, s) at c.bare-in-LBrace.ensures))
     (got (rw s at c.in_ok-follows.ensures)))
 
 pub condition-clause-requires : goal.condition-clause-requires

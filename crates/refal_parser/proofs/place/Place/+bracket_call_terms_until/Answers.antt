@@ -9,8 +9,8 @@ use Rattle.refal_parser.proofs.Steps.{got, stays, not_got, is_at, is_no, passed,
 use Rattle.refal_parser.proofs.TermLaws.{one_leaf_lem, one_term, until_no, until_of_terms, bracket_no, bracket_of_terms, call_no, call_of_terms}
 use Rattle.refal_parser.proofs.place.Place.+bracket_call_terms_until.Goals as goal
 
-pub bracket-returns-then-left-eq0 : goal.bracket-returns-then-left-eq0
-bracket-returns-then-left-eq0 t c = is_no c.present.ensures (λ x f. bracket_deep _ _ c.args.self.ready _ x f c.requires.1 c.if-left-eq0.true)
+pub bracket-returns-then-level-eq0 : goal.bracket-returns-then-level-eq0
+bracket-returns-then-level-eq0 t c = is_no c.present.ensures (λ x f. bracket_deep _ _ c.args.self.ready _ x f c.requires.1 c.if-level-eq0.true)
 
 pub bracket-next-body-requires : goal.bracket-next-body-requires
 bracket-next-body-requires t c = term_not_eof c.args.self.tokens.now c.args.self.at (ap begins c.requires.1)
@@ -20,7 +20,7 @@ bracket-until-requires t c = rw c.next-body.ensures.1 (omega arith, (omega arith
 
 pub bracket-returns-in_err-end : goal.bracket-returns-in_err-end
 bracket-returns-in_err-end t c =
-    passed _ _ c.from_residual.ensures.1 (bracket_no c.args.self.ready c.requires.1 c.if-left-eq0.false (not_got (rw c.next-body.ensures.1 at c.in_err-end.ensures)))
+    passed _ _ c.from_residual.ensures.1 (bracket_no c.args.self.ready c.requires.1 c.if-level-eq0.false (not_got (rw c.next-body.ensures.1 at c.in_err-end.ensures)))
 
 pub bracket-since-whole-requires : goal.bracket-since-whole-requires
 bracket-since-whole-requires t c = let U = got c.in_ok-end.ensures in let R = c.in_ok-end.end.ready in let h = U.closed.on in let f = U.few in (omega arith, omega arith)
@@ -28,17 +28,17 @@ bracket-since-whole-requires t c = let U = got c.in_ok-end.ensures in let R = c.
 pub bracket-returns : goal.bracket-returns
 bracket-returns t c = let E = rw c.next-body.ensures.1 at c.in_ok-end.ensures in
     let s = stays E in
-    is_at refl s (bracket_of_terms c.args.self.ready c.requires.1 c.if-left-eq0.false _ (got E) c.token.ensures.from refl (put_as _ _ _ c.put.ensures (rw (c.since-whole.ensures.1, s) at c.bare.ensures)))
+    is_at refl s (bracket_of_terms c.args.self.ready c.requires.1 c.if-level-eq0.false _ (got E) c.token.ensures.from refl (put_as _ _ _ c.put.ensures (rw (c.since-whole.ensures.1, s) at c.bare.ensures)))
 
-pub call-returns-then-left-eq0 : goal.call-returns-then-left-eq0
-call-returns-then-left-eq0 t c = is_no c.present.ensures (λ x f. call_deep _ _ c.args.self.ready _ x f c.requires.1 c.if-left-eq0.true)
+pub call-returns-then-level-eq0 : goal.call-returns-then-level-eq0
+call-returns-then-level-eq0 t c = is_no c.present.ensures (λ x f. call_deep _ _ c.args.self.ready _ x f c.requires.1 c.if-level-eq0.true)
 
 pub call-next-named-requires : goal.call-next-named-requires
 call-next-named-requires t c = term_not_eof c.args.self.tokens.now c.args.self.at (ap begins c.requires.1)
 
 pub call-returns-in_default : goal.call-returns-in_default
 call-returns-in_default t c = let N = rw c.next-named.ensures.1 at c.token-name.ensures in
-    is_no (rw c.next-named.ensures.1 at c.taken.ensures) (λ x f p. call_open _ _ c.args.self.ready _ x f c.requires.1 c.if-left-eq0.false p
+    is_no (rw c.next-named.ensures.1 at c.taken.ensures) (λ x f p. call_open _ _ c.args.self.ready _ x f c.requires.1 c.if-level-eq0.false p
     ∙ call_nameless _ _ c.next-named.ensures.0 _ x f _ (not_kind N.kind c.in_default.not-Identifier) p)
 
 pub call-next-body-requires : goal.call-next-body-requires
@@ -50,7 +50,7 @@ call-until-requires t c = rw (c.next-body.ensures.1, c.next-named.ensures.1) (om
 pub call-returns-in_err-end : goal.call-returns-in_err-end
 call-returns-in_err-end t c = let N = rw c.next-named.ensures.1 at c.token-name.ensures in
     let E = rw (c.next-body.ensures.1, c.next-named.ensures.1) at c.in_err-end.ensures in
-    passed _ _ c.from_residual.ensures.1 (call_no c.args.self.ready c.requires.1 c.if-left-eq0.false c.next-named.ensures.0 (is_kind N.kind c.in-Identifier.is) (not_got E))
+    passed _ _ c.from_residual.ensures.1 (call_no c.args.self.ready c.requires.1 c.if-level-eq0.false c.next-named.ensures.0 (is_kind N.kind c.in-Identifier.is) (not_got E))
 
 pub call-since-whole-requires : goal.call-since-whole-requires
 call-since-whole-requires t c = let U = got c.in_ok-end.ensures in let R = c.in_ok-end.end.ready in let h = U.closed.on in let f = U.few in (omega arith, omega arith)
@@ -59,7 +59,7 @@ pub call-returns : goal.call-returns
 call-returns t c = let N = rw c.next-named.ensures.1 at c.token-name.ensures in
     let E = rw (c.next-body.ensures.1, c.next-named.ensures.1) at c.in_ok-end.ensures in
     let s = stays E in
-    is_at refl s (call_of_terms c.args.self.ready c.requires.1 c.if-left-eq0.false c.next-named.ensures.0 (is_kind N.kind c.in-Identifier.is) _ (got E)
+    is_at refl s (call_of_terms c.args.self.ready c.requires.1 c.if-level-eq0.false c.next-named.ensures.0 (is_kind N.kind c.in-Identifier.is) _ (got E)
     N.start N.len c.token.ensures.from refl (put_as _ _ _ c.put.ensures (rw (c.since-whole.ensures.1, s) at c.named.ensures)))
 
 pub terms-invariant_of-leaf : goal.terms-invariant_of-leaf
