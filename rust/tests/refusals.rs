@@ -58,7 +58,7 @@ fn the_other_examples() {
         .filter(|meaning| matches!(meaning.wrong, Example::Words(_)))
         .map(|meaning| meaning.number)
         .collect();
-    assert_eq!(words, [1, 25, 30, 36, 38, 40, 41, 42, 50]);
+    assert_eq!(words, [1, 25, 30, 36, 38, 40, 41, 42, 50, 64, 65, 66]);
 
     let spaces = vec![b' '; MAX_BYTES + 1];
     assert_eq!(number(raw::read(&spaces, &mut [0; 6])), 1);
@@ -95,6 +95,18 @@ fn the_other_examples() {
 
     assert_eq!(number(raw::canonical_name(b"Foo", &mut [0; 2])), 50);
     assert_eq!(number(raw::canonical_name(b"Foo", &mut [0; 3])), 0);
+
+    let real = |text: &[u8], lent| number(raw::real(text, &mut vec![0; lent], &mut [0; 3]));
+    for wrong in [&b"15"[..], b"1.5 ", b".5", b"1,5"] {
+        assert_eq!(real(wrong, wrong.len()), 64);
+    }
+    for right in [&b"15E0"[..], b"1.5", b"0.5", b"-1.5"] {
+        assert_eq!(real(right, right.len()), 0);
+    }
+    assert_eq!(real(b"1E1000000000", 1), 65);
+    assert_eq!(real(b"1E999999999", 1), 0);
+    assert_eq!(real(b"1.5", 1), 66);
+    assert_eq!(real(b"1.5", 2), 0);
 }
 
 fn repository(file: &str) -> PathBuf {
