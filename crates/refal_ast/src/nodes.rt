@@ -94,25 +94,17 @@ impl NodeKind {
     }
 }
 
-// The word of row i in a column.
-fn word(tree: &[u32], i: usize, column: usize) -> u32
-    requires { HasRow tree.now i × (column < node_width) }
-    ensures { result ≡ word_at tree.now i column }
-{
-    tree[WIDTH * i + column]
-}
-
 // Where the text of row i starts, and its length, whatever the row's kind.
 pub fn text_start(tree: &[u32], i: usize) -> u32
     requires { HasRow tree.now i }
     ensures { result ≡ word_at tree.now i col_start }
 {
-    word(tree, i, START)
+    tree[WIDTH * i + START]
 }
 
 pub fn text_len(tree: &[u32], i: usize) -> u32
     requires { HasRow tree.now i }
     ensures { result ≡ word_at tree.now i col_len }
 {
-    word(tree, i, LEN)
+    tree[WIDTH * i + LEN]
 }

@@ -12,13 +12,13 @@ use refal_ast::{answers, nodes};
 pub use row::Row;
 
 // A tree with the source of its texts.
-#[derive(Clone, Copy)]
+#[derive(Clone, Copy, Debug, PartialEq, Eq)]
 pub struct File<'a> {
     pub tree: &'a [u32],
     pub source: &'a [u8],
 }
 
-#[derive(Clone, Copy)]
+#[derive(Clone, Copy, Debug, PartialEq, Eq)]
 pub struct Files<'a> {
     pub one: File<'a>,
     pub two: File<'a>,

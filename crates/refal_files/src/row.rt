@@ -7,7 +7,7 @@ use refal_ast::kinds::UnknownKind;
 use refal_ast::nodes::Node;
 
 // The file, which one it is, and the row's number there.
-#[derive(Clone, Copy)]
+#[derive(Clone, Copy, Debug, PartialEq, Eq)]
 pub struct Row<'a> {
     pub file: File<'a>,
     pub which: answers::File,

@@ -1,6 +1,6 @@
 -- A name's bucket: of names with equal canonical forms it is one and the same. Nothing else is promised of it.
 use Rattle.std.specs.Prelude.{ℕ, ◌+◌, ◌*◌, ◌%◌, ◌/◌, ◌≤◌, ◌<◌, true, List, [], ◌∷◌, ◌≡◌, refl, length, drop, get_or}
-use Rattle.std.proofs.Common.{ap, sym, arith, mul-lt-mul_of_pos_right, mul-le-mul_right, div-lt_iff_lt-mul, mod-lt, add-one, drop_of_length-le, drop-cons}
+use Rattle.std.proofs.Common.{ap, sym, arith, mul-lt-mul_of_pos_right, div-lt_iff_lt-mul, mod-lt, add-one, drop_of_length-le, drop-cons}
 use Rattle.refal_ast.specs.Names.{name_byte, canonical_name, names_equal, names_equal_lem}
 
 -- the bytes of the canonical form go into a number of 32 bits, the first byte first
@@ -31,12 +31,6 @@ hash_step s i x l = rw (drop-cons s i 0 l, add-one i) refl
 pub hash_end : (s : List ℕ) (i x : ℕ) → length s ≤ i → hash_from x (canonical_name (drop i s)) ≡ x
 unfolding hash_from canonical_name
 hash_end s i x l = rw (drop_of_length-le s l) refl
-
--- a number of 32 bits cut to b buckets
-pub cut_fits : (y b : ℕ) → y < 4294967296 → b < 4294967296 → y * b < 18446744073709551616
-cut_fits y b h k =
-    let f : y * b ≤ 4294967295 * b = mul-le-mul_right b (let z : y ≤ 4294967295 = omega arith in z) in
-    omega arith
 
 pub cut_below : (y b : ℕ) → y < 4294967296 → 0 < b → y * b / 4294967296 < b
 cut_below y b h k =

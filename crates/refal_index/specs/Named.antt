@@ -6,7 +6,6 @@ use Rattle.std.proofs.Common.{true≢false, ap, ap₂, sym, ◌∙◌, le_refl, 
 use Rattle.std.proofs.Math.Path.{refl}
 use native.Mathlib.Omega.{arith}
 use Rattle.std.proofs.Math.Decide.{dec_le}
-use Rattle.std.proofs.lemmas.Bool.{lt-leb}
 use Rattle.std.proofs.lemmas.List.{length-replicate, get_or-replicate}
 use Rattle.std.proofs.Math.ListN.{get_or-append}
 use Rattle.refal_rows.specs.Rows.{pick_list}
@@ -54,19 +53,6 @@ pub record Holds (W : List ℕ) (n b : ℕ) (R : ℕ → Placed) (g : ℕ) : Typ
 -- the words with row g entered
 unfoldable pub with_row : List ℕ → ℕ → ℕ → (ℕ → Placed) → ℕ → List ℕ
 with_row W n b R g = pick_list (leb 1 b && bears false (R g).node.kind) (pushed W n (row_bucket R b g) g) W
-
--- ---- laws of `seen`
-or_false : (x y : Bool) → x ≡ false → y ≡ false → (x || y) ≡ false
-or_false true y e f = e
-or_false false y e f = f
-
-pub seen_none : (t : ℕ → Bool) → seen t 0 ≡ false
-unfolding seen
-seen_none t = refl
-
-pub seen_more : (t : ℕ → Bool) (i : ℕ) → t i ≡ false → seen t i ≡ false → seen t (i + 1) ≡ false
-unfolding seen
-seen_more t i e f = rw (add-one i) (or_false (t i) (seen t i) e f)
 
 pub seen_hit : (t : ℕ → Bool) (i g : ℕ) → i < g → t i ≡ true → seen t g ≡ true
 unfolding seen
@@ -125,10 +111,6 @@ answers_bears functions key p e = go functions (eqb p.node.kind node_function) (
 
 pub answers_bucket : (functions : Bool) (b : ℕ) (key : List ℕ) (p : Placed) → answers_to functions key p ≡ true → bucket_of b (text_of p) ≡ bucket_of b key
 answers_bucket functions b key p e = equal_buckets b key (text_of p) (answers_both functions key p e).1
-
-pub answers_not : (functions : Bool) (key : List ℕ) (p : Placed) → bears functions p.node.kind ≡ false → answers_to functions key p ≡ false
-unfolding answers_to
-answers_not functions key p e = rw e refl
 
 pub answers_is : (functions : Bool) (key : List ℕ) (p : Placed) → bears functions p.node.kind ≡ true → answers_to functions key p ≡ names_equal key (text_of p)
 unfolding answers_to
@@ -194,10 +176,6 @@ module _ (W : List ℕ) (n b : ℕ) (R : ℕ → Placed) (functions : Bool) (key
 
 -- ---- the ways of entering a row
 module _ (W : List ℕ) (n b : ℕ) (R : ℕ → Placed) (g : ℕ) where
-  pub no_buckets : b ≡ 0 → W ≡ with_row W n b R g
-  unfolding with_row
-  no_buckets e = rw (lt-leb 1 b (let z : b < 1 = omega arith in z)) refl
-
   pub no_name : bears false (R g).node.kind ≡ false → W ≡ with_row W n b R g
   unfolding with_row
   no_name e = go (leb 1 b)

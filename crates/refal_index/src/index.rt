@@ -49,13 +49,21 @@ impl<'w> Index<'w> {
         }
     }
 
+    // The bucket of a name.
+    fn bucket(&self, name: &[u8]) -> usize
+        ensures { (result ≡ bucket_of self.now.buckets name.now) × (result < self.now.buckets) }
+    {
+        let spread = hash(name).wrapping_mul(2654435769);
+        spread as usize * self.buckets / 4294967296
+    }
+
     // Row g is put in by its name, above all rows that are in.
     fn push(&mut self, name: &[u8], g: usize)
         requires { g < self.old.rows }
         ensures put { self.new.words.now ≡ pushed self.old.words.now self.old.rows (bucket_of self.old.buckets name.now) g }
         ensures shape { (self.new.rows ≡ self.old.rows) × (self.new.buckets ≡ self.old.buckets) }
     {
-        let at = self.rows + bucket(name, self.buckets);
+        let at = self.rows + self.bucket(name);
         self.words[g] = self.words[at];
         self.words[at] = g as u32 + 1;
     }
@@ -65,7 +73,7 @@ impl<'w> Index<'w> {
         requires { (g : ℕ) × Indexes self.now files.now g }
         ensures { (g : ℕ) → Indexes self.now files.now g → result ≡ known_before files.now (only_functions bearers) name.now g }
     {
-        let at = self.rows + bucket(name, self.buckets);
+        let at = self.rows + self.bucket(name);
         let mut next = self.words[at] as usize;
         while let Some(g) = next.checked_sub(1) {
             if bearers.bear(files, g, name) {
@@ -88,13 +96,4 @@ fn hash(name: &[u8]) -> u32
             .wrapping_add(u32::from(name_byte(*b)));
     }
     x
-}
-
-// The bucket of a name, of so many.
-fn bucket(name: &[u8], buckets: usize) -> usize
-    requires { (0 < buckets) × (buckets < 4294967296) }
-    ensures { (result ≡ bucket_of buckets name.now) × (result < buckets) }
-{
-    let spread = hash(name).wrapping_mul(2654435769);
-    spread as usize * buckets / 4294967296
 }

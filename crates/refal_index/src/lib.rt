@@ -16,7 +16,7 @@ use refal_ast::names::identifiers_equal;
 use refal_files::{Files, Row};
 
 // Which rows bear names: functions only, or declared names too.
-#[derive(Clone, Copy)]
+#[derive(Clone, Copy, Debug, PartialEq, Eq)]
 pub enum Bearers {
     Functions,
     All,

@@ -23,7 +23,7 @@ use Rattle.refal_spelling.specs.Spellings.{all_spelled}
 use Rattle.refal_files.specs.Files.{Placed, text_of, both_rows, of_kind}
 use Rattle.refal_files.specs.FileLaws.{both_count, row_at, rows_from, rows_end, kind_in, kind_out, kind_end}
 use Rattle.refal_index.specs.Named.{answers_to, seen}
-use Rattle.refal_link.specs.Link.{functions, declared, calls, among, repeated, missing, shown, shown_at, resolved, linked, refuse, checked, link_answer}
+use Rattle.refal_link.specs.Link.{functions, declared, calls, among, repeated, missing, shown, shown_at, resolved, linked, checked, link_answer}
 
 -- ---- lawful words are not too many
 pub lawful_length : (w : List ℕ) → lawful w ≡ true → length w ≤ node_width * most_rows
@@ -100,9 +100,6 @@ any_among key (p ∷ ps) = go (eqb p.node.kind node_function) (eqb p.node.kind n
 -- row g is a function whose name an earlier one has
 abbrev pub repeats : (ℕ → Placed) → ℕ → Bool
 repeats R g = eqb (R g).node.kind node_function && seen (λ i. answers_to true (text_of (R g)) (R i)) g
-
-pub repeats_not : (R : ℕ → Placed) (g : ℕ) → ((R g).node.kind ≡ node_function → ⊥) → repeats R g ≡ false
-repeats_not R g e = rw (ne_eqb (R g).node.kind node_function e) refl
 
 pub repeats_is : (R : ℕ → Placed) (g : ℕ) → (R g).node.kind ≡ node_function → repeats R g ≡ seen (λ i. answers_to true (text_of (R g)) (R i)) g
 repeats_is R g e = rw (eq-eqb (R g).node.kind node_function e) refl
@@ -250,24 +247,7 @@ module _ (w₁ s₁ w₂ s₂ : List ℕ) (n g : ℕ) (e : at_row (row_at w₁ s
 pub passed : (w s : List ℕ) (rest : Answer) → lawful w ≡ true → all_spelled s w ≡ true → checked w s rest ≡ rest
 passed w s rest a b = rw (a, b) refl
 
-module _ (w₁ s₁ w₂ s₂ : List ℕ) where
-  pub unlawful_one : lawful w₁ ≡ false → refuse 40 ≡ link_answer w₁ s₁ w₂ s₂
+module _ (w₁ s₁ w₂ s₂ : List ℕ) (a : lawful w₁ ≡ true) (b : all_spelled s₁ w₁ ≡ true) where
+  pub both_checked : lawful w₂ ≡ true → all_spelled s₂ w₂ ≡ true → linked (both_rows w₁ s₁ w₂ s₂) ≡ link_answer w₁ s₁ w₂ s₂
   unfolding link_answer
-  unlawful_one a = rw a refl
-
-  pub misspelled_one : lawful w₁ ≡ true → all_spelled s₁ w₁ ≡ false → refuse 41 ≡ link_answer w₁ s₁ w₂ s₂
-  unfolding link_answer
-  misspelled_one a b = rw (a, b) refl
-
-  module _ (a : lawful w₁ ≡ true) (b : all_spelled s₁ w₁ ≡ true) where
-    pub unlawful_two : lawful w₂ ≡ false → refuse 40 ≡ link_answer w₁ s₁ w₂ s₂
-    unfolding link_answer
-    unlawful_two c = sym (passed w₁ s₁ _ a b ∙ rw c refl)
-
-    pub misspelled_two : lawful w₂ ≡ true → all_spelled s₂ w₂ ≡ false → refuse 41 ≡ link_answer w₁ s₁ w₂ s₂
-    unfolding link_answer
-    misspelled_two c d = sym (passed w₁ s₁ _ a b ∙ rw (c, d) refl)
-
-    pub both_checked : lawful w₂ ≡ true → all_spelled s₂ w₂ ≡ true → linked (both_rows w₁ s₁ w₂ s₂) ≡ link_answer w₁ s₁ w₂ s₂
-    unfolding link_answer
-    both_checked c d = sym (passed w₁ s₁ _ a b ∙ passed w₂ s₂ _ c d)
+  both_checked c d = sym (passed w₁ s₁ _ a b ∙ passed w₂ s₂ _ c d)

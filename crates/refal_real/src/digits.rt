@@ -28,7 +28,7 @@ fn trim_end(mut digits: &[u8]) -> &[u8]
 }
 
 // Digits of a text, in two runs: those before the point and those behind it.
-#[derive(Clone, Copy)]
+#[derive(Clone, Copy, Debug)]
 pub struct Digits<'a> {
     pub whole: &'a [u8],
     pub fraction: &'a [u8],

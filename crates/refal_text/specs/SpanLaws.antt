@@ -1,14 +1,8 @@
 -- Laws of `span`: a loop that stands at i is at the end, at a byte that fails, or goes one step on.
 use Rattle.std.specs.Prelude.{ℕ, suc, ◌+◌, ◌<◌, ◌≤◌, List, [], ◌∷◌, Bool, true, false, ◌≡◌, length, drop, get_or}
-use Rattle.std.proofs.Common.{add-zero, le_refl, add-one, arith, drop_of_length-le, drop-cons}
+use Rattle.std.proofs.Common.{le_refl, add-one, arith, drop-cons}
 use Rattle.refal_text.specs.Pick.{pick}
 use Rattle.refal_text.specs.Span.{span}
-
-pub span_end : (p : ℕ → Bool) (s : List ℕ) (i : ℕ) → length s ≤ i → i + span p (drop i s) ≡ i
-span_end p s i h = rw (drop_of_length-le s h) (add-zero i)
-
-pub span_stop : (p : ℕ → Bool) (s : List ℕ) (i : ℕ) → i < length s → p (get_or s i 0) ≡ false → i + span p (drop i s) ≡ i
-span_stop p s i h e = rw (drop-cons s i 0, e) (add-zero i)
 
 pub span_step : (p : ℕ → Bool) (s : List ℕ) (i : ℕ) → i < length s → p (get_or s i 0) ≡ true → i + 1 + span p (drop (i + 1) s) ≡ i + span p (drop i s)
 span_step p s i h e = rw (drop-cons s i 0 h, e, add-one i) (omega arith)

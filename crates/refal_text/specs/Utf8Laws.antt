@@ -1,6 +1,6 @@
 -- Laws of UTF-8: the count of leading ones, the ways out of `char_at` and `first_ill`, and that a character lies within its bytes.
 use Rattle.std.specs.Prelude.{ℕ, zero, suc, ◌+◌, ◌-◌, ◌<◌, ◌≤◌, Bool, true, false, ◌&&◌, List, [], ◌∷◌, ◌≡◌, refl, leb, ltb, eqb, length, take, drop, get_or, Option, Some, None, IfSome}
-use Rattle.std.proofs.Common.{arith, zero-add, add-zero, suc-add, ltb-false, eqb-true, eq-eqb, ne_eqb, le-ltb, ltb-true, true≢false, ap, sym, subst, ◌∙◌, eqb→eq, drop_of_length-le, length-drop, get_or-drop, drop-cons, drop-drop, take_all}
+use Rattle.std.proofs.Common.{arith, zero-add, add-zero, suc-add, eqb-true, eq-eqb, ne_eqb, ltb-true, true≢false, ap, sym, ◌∙◌, eqb→eq, drop_of_length-le, length-drop, get_or-drop, drop-cons, drop-drop, take_all}
 use Rattle.std.proofs.Math.Decide.{dec_le}
 use Rattle.std.specs.Int.Count.{count_leading_zeros}
 use Rattle.std.proofs.Math.ListN.{get_or-eq_default}
@@ -9,7 +9,7 @@ use Rattle.refal_rows.specs.Tests.{each_below, and_right, range_lo, range_hi}
 use Rattle.refal_text.specs.Pick.{split}
 use Rattle.refal_text.specs.Span.{span}
 use Rattle.refal_text.specs.SpanLaws.{span_some, span_le}
-use Rattle.refal_text.specs.Utf8.{char, ill, ascii, cont, leads, second, two, by_lead, char_of, decode, go_on, well_to}
+use Rattle.refal_text.specs.Utf8.{char, ill, ascii, cont, leads, second, by_lead, char_of, decode, go_on, well_to}
 use Rattle.refal_text.specs.Told.{char_told}
 use Rattle.refal_text.specs.declared.Char.{Char}
 
@@ -92,18 +92,6 @@ well_ascii_run s i r h t e =
     let most = span_le ascii (drop i s) in
     (omega arith, omega (arith, length-drop i s), well_run s i (i + r) (ap (λ (k : ℕ). i + k) f))
 
--- ---- what the count of ones says of the byte
-abbrev Lo : ℕ → ℕ → Type 0
-Lo a n = (n ≡ 2 → 192 ≤ a) × (n ≡ 3 → 224 ≤ a) × (n ≡ 4 → 240 ≤ a)
-
-pub leads_lo : (a : ℕ) → Lo a (leads a)
-leads_lo a =
-    split (Lo a) (ltb a 128) _ _ (λ _. (λ e. absurd (omega arith), λ e. absurd (omega arith), λ e. absurd (omega arith))) (λ _.
-    split (Lo a) (ltb a 192) _ _ (λ _. (λ e. absurd (omega arith), λ e. absurd (omega arith), λ e. absurd (omega arith))) (λ h.
-    split (Lo a) (ltb a 224) _ _ (λ _. (λ e. ltb-false _ _ h, λ e. absurd (omega arith), λ e. absurd (omega arith))) (λ i.
-    split (Lo a) (ltb a 240) _ _ (λ _. (λ e. absurd (omega arith), λ e. ltb-false _ _ i, λ e. absurd (omega arith))) (λ j.
-    let k : 240 ≤ a = ltb-false _ _ j in (λ e. omega arith, λ e. omega arith, λ e. k)))))
-
 -- ---- what table 3-7 says of the second byte
 pub record Second (a b : ℕ) : Type 0 where
   pub lo : 128 ≤ b
@@ -185,9 +173,6 @@ module _ (s : List ℕ) (at n : ℕ) (h : at < length s) (e : n ≡ leads (get_o
   lead_by : decode (drop at s) ≡ by_lead n (get_or s at 0) (get_or s (at + 1) 0) (get_or s (at + 2) 0) (get_or s (at + 3) 0)
   lead_by = decode_at s at h ∙ ap (λ (k : ℕ). by_lead k (get_or s at 0) (get_or s (at + 1) 0) (get_or s (at + 2) 0) (get_or s (at + 3) 0)) (sym e)
 
-  pub char_two : (r : Char) (b : ℕ) → (n ≡ 0 → ⊥) → n ≡ 2 → b ≡ get_or s (at + 1) 0 → r ≡ two (get_or s at 0) b → r ≡ decode (drop at s)
-  char_two r b n0 z g i = i ∙ sym (lead_by ∙ simp (ne_eqb _ _ n0, eq-eqb _ _ z) (ap (two (get_or s at 0)) (sym g)))
-
   pub char_none : (n ≡ 0 → ⊥) → (n ≡ 2 → ⊥) → (n ≡ 3 → ⊥) → (n ≡ 4 → ⊥) → ill ≡ decode (drop at s)
   char_none n0 n2 n3 n4 = sym (lead_by ∙ simp (ne_eqb _ _ n0, ne_eqb _ _ n2, ne_eqb _ _ n3, ne_eqb _ _ n4))
 
@@ -214,33 +199,3 @@ module _ (s : List ℕ) (at a m : ℕ) (h : true ≡ ltb at (length s)) (g : a �
       → IfSome r (λ c. 1 ≤ c.len) → IfSome r (λ c. (1 ≤ c.len) × (at + c.len ≤ length s))
   found_within n q None e k = k
   found_within n q (Some c) e k = let i = decode_in s at within in let j : (decode (drop at s)).len ≡ c.len = ap (λ (x : Char). x.len) (decode_by n q ∙ sym e) in (k, omega arith)
-
--- the character that the code found lies within
-pub step_in : (s : List ℕ) (at : ℕ) (r : Char) → at < length s → r ≡ decode (drop at s) → at + r.len ≤ length s
-step_in s at r h e = subst (λ (x : Char). at + x.len ≤ length s) (sym e) (decode_in s at h)
-
--- a byte from 128 on begins with some ones
-leads_some : (a : ℕ) → 128 ≤ a → 0 < leads a
-leads_some a h =
-    rw (le-ltb a 128 h) (
-    split P (ltb a 192) _ _ (λ _. omega arith) (λ _.
-    split P (ltb a 224) _ _ (λ _. omega arith) (λ _.
-    split P (ltb a 240) _ _ (λ _. omega arith) (λ _.
-    split P (ltb a 248) _ _ (λ _. omega arith) (λ _.
-    split P (ltb a 252) _ _ (λ _. omega arith) (λ _.
-    split P (ltb a 254) _ _ (λ _. omega arith) (λ _.
-    split P (ltb a 255) _ _ (λ _. omega arith) (λ _.
-    omega arith))))))))
-  where
-    P : ℕ → Type 0
-    P n = 0 < n
-
--- no character begins with a byte from 128 on that leads none
-pub len_none : (s : List ℕ) (at n : ℕ) → at < length s → n ≡ leads (get_or s at 0) → 128 ≤ get_or s at 0 → (n ≡ 2 → ⊥) → (n ≡ 3 → ⊥) → (n ≡ 4 → ⊥) → (decode (drop at s)).len ≡ 0
-len_none s at n h e l n2 n3 n4 = ap (λ (c : Char). c.len) (sym (char_none s at n h e zero_not n2 n3 n4))
-  where
-    some : (a : ℕ) → 128 ≤ a → leads a ≡ 0 → ⊥
-    some a m z = let k = leads_some a m in omega arith
-
-    zero_not : n ≡ 0 → ⊥
-    zero_not z = some (get_or s at 0) l (sym e ∙ z)

@@ -133,7 +133,7 @@ fn ascii_run(src: &[u8]) -> usize
     at + src[at..].iter().take_while(|b| b.is_ascii()).count()
 }
 
-// Where the first ill-formed sequence stands, if there is one.
+// Where the first ill-formed sequence stands, if there is one. By index: the step is a run, or the bytes of a character.
 #[tactic(auto, using(crate::specs::Utf8Laws::well_ascii_run, crate::specs::Utf8Laws::well_end, crate::specs::Utf8Laws::well_stop, crate::specs::Utf8Laws::well_step))]
 pub fn ill_formed(src: &[u8]) -> Option<usize>
     ensures told { place_told (length src.now) result ≡ well_to 0 src.now }

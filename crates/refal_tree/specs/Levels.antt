@@ -1,11 +1,7 @@
 -- Levels: one less, and below a row no more than at it.
-use Rattle.std.specs.Prelude.{ℕ, zero, suc, ◌-◌, ◌≤◌, Bool, true, false, ◌≡◌, refl}
-use Rattle.std.proofs.Common.{arith, sub-one}
+use Rattle.std.specs.Prelude.{ℕ, zero, suc, ◌≤◌, Bool, true, false}
+use Rattle.std.proofs.Common.{arith}
 use Rattle.refal_tree.specs.States.{pick_state, opens, lower, below}
-
-pub lower_is : (n : ℕ) → (n ≡ 0 → ⊥) → n - 1 ≡ lower n
-lower_is zero h = absurd (h refl)
-lower_is (suc n) h = sub-one (suc n)
 
 -- levels never rise
 pub below_le : (st k left : ℕ) → below st k left ≤ left

@@ -42,13 +42,6 @@ poured_front (b ∷ t) (x ∷ o) = rw (suc-min-suc (length t) (length o)) (ap (�
 pub poured_fits : (t o : List ℕ) → length t ≤ length o → poured t o ≡ t ++ drop (length t) o
 poured_fits t o h = sym (poured_front t o) ∙ rw (min-eq_left h) (ap (λ (l : List ℕ). l ++ drop (length t) o) (take-length t))
 
--- nothing is put behind a text that fills the slice
-pub poured_full : (t u o : List ℕ) → length o ≤ length t → poured (t ++ u) o ≡ poured t o
-poured_full [] u [] h = poured_nowhere u
-poured_full [] u (x ∷ o) h = absurd (omega arith)
-poured_full (b ∷ t) u [] h = refl
-poured_full (b ∷ t) u (x ∷ o) h = ap (λ (l : List ℕ). b ∷ l) (poured_full t u o (omega arith))
-
 -- ---- a text that is copied over the front, as far as it fits
 pub front_put : (t o l : List ℕ) (n : ℕ) → n ≡ min (length t) (length o) → l ≡ take n t → Puts t (length t) o (l ++ drop n o)
 front_put t o l n e f = record { count = refl; bytes = rw (f, e) (poured_front t o) }

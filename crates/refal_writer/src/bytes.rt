@@ -15,7 +15,7 @@ pub trait Put {
 }
 
 // A text of the source: a name, a number or an index.
-#[derive(Clone, Copy)]
+#[derive(Clone, Copy, Debug, PartialEq, Eq)]
 pub struct Word<'a> {
     pub text: &'a [u8],
     ghost short: { length text.now ≤ 4294967295 },

@@ -12,7 +12,7 @@ use crate::opening::{write_closing, write_opening};
 use refal_ast::nodes::Node;
 use refal_tree::states::State;
 
-// The rows from .. to, the first of which stands in the state `start`.
+// The rows from .. to, the first of which stands in the state `start`. By index: a row tells where the next one beside it stands.
 pub fn write_rows(
     tree: &[u32],
     src: &[u8],

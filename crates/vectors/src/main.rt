@@ -100,6 +100,28 @@ fn put_tree(block: &[u8; TREE], tree: &mut [u32]) {
     }
 }
 
+// Writes the tree that stands behind a record, and answers what stands behind it: nothing where it is cut off.
+fn replay_tree<'a>(
+    rt: &impl Print,
+    source: &[u8],
+    out: &mut [u8],
+    after: &'a [u8],
+) -> io::Result<&'a [u8]>
+    ensures { IfOk result (λ rest. length rest.now ≤ length after.now) }
+{
+    let Some((block, behind)) = after.split_first_chunk::<TREE>() else {
+        return Ok(&after[..0]);
+    };
+    let mut tree = [0u32; 63];
+    put_tree(block, &mut tree);
+    if let Some(tree) = tree.get(..two([block[0], block[1]])) {
+        put_bytes(rt, out, |out, answer| {
+            refal5::refal5_write(tree, source, out, answer)
+        })?;
+    }
+    Ok(behind)
+}
+
 // Replays a record, and answers what stands behind it and its tree: nothing where either is cut off.
 fn replay<'a>(rt: &impl Print, record: &[u8; RECORD], after: &'a [u8]) -> io::Result<&'a [u8]>
     ensures { IfOk result (λ rest. length rest.now ≤ length after.now) }
@@ -108,7 +130,6 @@ fn replay<'a>(rt: &impl Print, record: &[u8; RECORD], after: &'a [u8]) -> io::Re
     let Some(input) = record[5..63].get(..two([record[1], record[2]])) else {
         return Ok(&after[..0]);
     };
-    let mut rest = after;
     let mut bytes = [0xa5u8; 99];
     let out = &mut bytes[..lent];
     let mut words = [0xa5a5_a5a5u32; 99];
@@ -146,22 +167,10 @@ fn replay<'a>(rt: &impl Print, record: &[u8; RECORD], after: &'a [u8]) -> io::Re
                 }
             }
         }
-        b't' => {
-            let Some((block, behind)) = after.split_first_chunk::<TREE>() else {
-                return Ok(&after[..0]);
-            };
-            rest = behind;
-            let mut tree = [0u32; 63];
-            put_tree(block, &mut tree);
-            if let Some(tree) = tree.get(..two([block[0], block[1]])) {
-                put_bytes(rt, out, |out, answer| {
-                    refal5::refal5_write(tree, input, out, answer)
-                })?;
-            }
-        }
+        b't' => return replay_tree(rt, input, out, after),
         _ => {}
     }
-    Ok(rest)
+    Ok(after)
 }
 
 fn main(rt: HostRuntime) -> io::Result<()> {
