@@ -4,7 +4,7 @@ use oracle::generate::delivery::{HOSTILE, delivery, hostile};
 use oracle::generate::rules::rules;
 use oracle::lists::{self, LISTS};
 use oracle::reference::{parse, read, write};
-use oracle::terms::Refusal;
+use oracle::terms::{NodeRow, Refusal};
 use std::io::{self, Read, Write};
 use std::path::Path;
 use std::process::ExitCode;
@@ -125,7 +125,7 @@ fn tokens(src: &[u8]) -> Result<Vec<[u32; 6]>, Refusal> {
     ours
 }
 
-fn tree(src: &[u8]) -> Result<Vec<[u32; 7]>, Refusal> {
+fn tree(src: &[u8]) -> Result<Vec<NodeRow>, Refusal> {
     let tokens = tokens(src)?;
     let ours = parse::tree(&tokens.concat());
     let added = matches!(&ours, Err(refusal) if matches!(refusal.number, 30 | 37))

@@ -7,8 +7,11 @@ use crate::Refusal;
 
 /// Words of a token row: kind, detail, text start, text length, span start, span end.
 pub const TOKEN_WORDS: usize = 6;
-/// Words of a node row: those of a token row, then the row after the node's subtree.
-pub const NODE_WORDS: usize = 7;
+/// Words of a node row: those of a token row, then the row after the node's subtree, then the row of its parent.
+pub const NODE_WORDS: usize = 8;
+
+/// The parent's row of a node that has no parent.
+pub const NO_PARENT: u32 = u32::MAX;
 
 /// The most bytes that reading takes (more: refusal 1) and that writing puts down (more: refusal 42).
 pub const MAX_BYTES: usize = 16_777_216;

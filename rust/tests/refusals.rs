@@ -6,7 +6,7 @@ use std::env;
 use std::fs;
 use std::path::{Path, PathBuf};
 
-use refal5::raw::{self, MAX_BYTES, NODE_WORDS, TOKEN_WORDS};
+use refal5::raw::{self, MAX_BYTES, NO_PARENT, NODE_WORDS, TOKEN_WORDS};
 use refal5::rows::{Kind, NodeKind, NodeRows, TokenRows, Tokens, Tree};
 use refal5::{Call, Example, Meaning, REFUSALS, Refusal};
 
@@ -87,7 +87,10 @@ fn the_other_examples() {
 
     let mut text = [0; 10];
     let mut wrong = nodes;
-    wrong[NODE_WORDS - 1] = 3;
+    wrong[NODE_WORDS - 2] = 3;
+    assert_eq!(number(raw::write(&wrong, b"F{=;}", &mut text)), 40);
+    wrong = nodes;
+    wrong[NODE_WORDS - 1] = 0;
     assert_eq!(number(raw::write(&wrong, b"F{=;}", &mut text)), 40);
     assert_eq!(number(raw::write(&nodes, b"f{=;}", &mut text)), 41);
     assert_eq!(number(raw::write(&nodes, b"F{=;}", &mut text[..9])), 42);
@@ -202,6 +205,7 @@ fn constants() -> String {
     }
     define("TOKEN_WORDS", TOKEN_WORDS as u64);
     define("NODE_WORDS", NODE_WORDS as u64);
+    define("NO_PARENT", NO_PARENT.into());
     define("ANSWER_WORDS", 7);
     define("MAX_BYTES", MAX_BYTES as u64);
     made

@@ -1,7 +1,7 @@
 // Replays a sample of the fixed lists (docs/VECTORS.md). Standard input holds records of 64 bytes: a letter for the call, the
 // lengths of its input and of what is lent in two decimal digits each, the input, points up to 63 bytes, a newline. Behind a
-// record of the letter t stand 256 bytes more, the tree to be written: the number of its words in two digits, the words of
-// four bytes each, the highest first, points up to 255 bytes, a newline. For each record the seven words of the answer are
+// record of the letter t stand 320 bytes more, the tree to be written: the number of its words in two digits, the words of
+// four bytes each, the highest first, points up to 319 bytes, a newline. For each record the seven words of the answer are
 // written, then all that was lent for output, which held a5 in each byte before the call.
 #![tactic(auto)]
 
@@ -13,7 +13,7 @@ use std::io::Read;
 // The bytes of a record, and of a tree behind it.
 const RECORD: usize = 64;
 
-const TREE: usize = 256;
+const TREE: usize = 320;
 
 // Two decimal digits; 0 for anything else.
 fn two(digits: [u8; 2]) -> usize
@@ -88,7 +88,7 @@ fn tokens<'a>(input: &[u8], words: &'a mut [u32]) -> Option<&'a [u32]> {
 }
 
 fn nodes<'a>(tokens: &[u32], words: &'a mut [u32]) -> Option<&'a [u32]> {
-    rows(words, 7, |words, answer| {
+    rows(words, 8, |words, answer| {
         refal5::refal5_parse(tokens, words, answer)
     })
 }
@@ -112,7 +112,7 @@ fn replay_tree<'a>(
     let Some((block, behind)) = after.split_first_chunk::<TREE>() else {
         return Ok(&after[..0]);
     };
-    let mut tree = [0u32; 63];
+    let mut tree = [0u32; 79];
     put_tree(block, &mut tree);
     if let Some(tree) = tree.get(..two([block[0], block[1]])) {
         put_bytes(rt, out, |out, answer| {
@@ -135,7 +135,7 @@ fn replay<'a>(rt: &impl Print, record: &[u8; RECORD], after: &'a [u8]) -> io::Re
     let mut words = [0xa5a5_a5a5u32; 99];
     let rows = &mut words[..lent];
     let mut token_words = [0u32; 354];
-    let mut node_words = [0u32; 840];
+    let mut node_words = [0u32; 960];
     match record[0] {
         b'n' => put_bytes(rt, out, |out, answer| {
             refal5::refal5_canonical_name(input, out, answer)

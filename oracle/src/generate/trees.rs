@@ -2,7 +2,7 @@
 
 use super::{Rng, sources, tokens};
 use crate::reference::parse;
-use crate::terms::{NodeRow, node};
+use crate::terms::{NODE_WIDTH, NodeRow, node};
 
 /// A program's tree and its source.
 pub fn good(rng: &mut Rng) -> (Vec<NodeRow>, Vec<u8>) {
@@ -46,7 +46,7 @@ pub fn damaged(rng: &mut Rng, good: &[NodeRow]) -> Vec<u32> {
             }
         }
         _ => {
-            let word = rng.below(7);
+            let word = rng.below(NODE_WIDTH);
             rows[at][word] = value(rng, rows[at][word]);
         }
     }

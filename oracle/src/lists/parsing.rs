@@ -6,7 +6,7 @@ use crate::cases::Case;
 use crate::generate::nests::{self, Way};
 use crate::generate::{Rng, sources, tokens};
 use crate::reference::parse;
-use crate::terms::{MAX_DEPTH, TokenRow, token};
+use crate::terms::{MAX_DEPTH, NODE_WIDTH, TokenRow, token};
 
 pub fn cases() -> Vec<Case> {
     let mut rng = Rng::new(SEED + 1);
@@ -39,17 +39,17 @@ pub fn cases() -> Vec<Case> {
 /// One number of lent words near the exact one.
 fn put(cases: &mut Vec<Case>, rng: &mut Rng, tokens: Vec<u32>) {
     let exact = match parse::tree(&tokens) {
-        Ok(rows) => rows.len() * 7,
-        Err(_) => rng.below(4) * 7,
+        Ok(rows) => rows.len() * NODE_WIDTH,
+        Err(_) => rng.below(4) * NODE_WIDTH,
     };
     let some = [
         exact,
         exact,
         exact.saturating_sub(1),
         exact + 1,
-        exact + 8,
-        exact.saturating_sub(7),
-        rng.below(14),
+        exact + NODE_WIDTH + 1,
+        exact.saturating_sub(NODE_WIDTH),
+        rng.below(2 * NODE_WIDTH),
     ];
     let lent = some[rng.below(some.len())];
     cases.push(Case::Parse { tokens, lent });
@@ -57,9 +57,14 @@ fn put(cases: &mut Vec<Case>, rng: &mut Rng, tokens: Vec<u32>) {
 
 /// Every number of lent words that may matter.
 fn put_around(cases: &mut Vec<Case>, tokens: Vec<u32>) {
-    let exact = parse::tree(&tokens).map_or(7, |rows| rows.len() * 7);
-    let mut some = vec![exact.saturating_sub(1), exact, exact + 1, exact + 7];
-    if exact > 7 {
+    let exact = parse::tree(&tokens).map_or(NODE_WIDTH, |rows| rows.len() * NODE_WIDTH);
+    let mut some = vec![
+        exact.saturating_sub(1),
+        exact,
+        exact + 1,
+        exact + NODE_WIDTH,
+    ];
+    if exact > NODE_WIDTH {
         some.push(0);
     }
     some.dedup();

@@ -4,6 +4,7 @@ use super::{LISTS, parsing, writing};
 use crate::cases::{Case, Outcome, Reference, run};
 use crate::generate::trees;
 use crate::reference::{parse, read, write};
+use crate::terms::NODE_WIDTH;
 
 /// Bytes of a record.
 const RECORD: usize = 64;
@@ -12,8 +13,8 @@ const AROUND: usize = 6;
 /// Two digits hold this much.
 const MOST_LENT: usize = 99;
 /// Bytes of the block that holds a tree, behind its record, and the most words that fit.
-const BLOCK: usize = 256;
-const MOST_WORDS: usize = 63;
+const BLOCK: usize = 320;
+const MOST_WORDS: usize = 79;
 
 /// Standard input and standard output of the program.
 pub fn sample() -> (Vec<u8>, String) {
@@ -110,7 +111,7 @@ fn parsed() -> Vec<(Vec<u8>, String)> {
             continue;
         };
         let tokens = tokens.concat();
-        let exact = parse::tree(&tokens).map_or(7, |rows| 7 * rows.len());
+        let exact = parse::tree(&tokens).map_or(NODE_WIDTH, |rows| NODE_WIDTH * rows.len());
         for lent in [exact, exact + 1, exact.saturating_sub(1)] {
             let tokens = tokens.clone();
             if let Some(record) = line(b'p', src.as_bytes(), lent) {

@@ -6,7 +6,7 @@ use crate::cases::Case;
 use crate::generate::nests::{self, Way};
 use crate::generate::{Rng, tokens, trees};
 use crate::reference::{parse, write};
-use crate::terms::{MAX_DEPTH, NodeRow, node};
+use crate::terms::{MAX_DEPTH, NO_PARENT, NODE_WIDTH, NodeRow, node};
 
 pub fn cases() -> Vec<Case> {
     let mut rng = Rng::new(SEED + 2);
@@ -173,7 +173,7 @@ fn each_word_changed(src: &str) -> Vec<Vec<u32>> {
     let (rows, _) = trees::of_source(src.as_bytes().to_vec());
     let mut all = Vec::new();
     for at in 0..rows.len() {
-        for word in 0..7 {
+        for word in 0..NODE_WIDTH {
             let old = rows[at][word];
             let mut values = vec![old.wrapping_add(1), old.wrapping_sub(1), 0, 1, u32::MAX];
             if word == 0 {
@@ -200,7 +200,7 @@ fn each_word_changed(src: &str) -> Vec<Vec<u32>> {
         }
     }
     let words = trees::flat(&rows);
-    for cut in 1..=7 {
+    for cut in 1..=NODE_WIDTH {
         all.push(words[..words.len() - cut].to_vec());
         all.push([&words[..], &vec![0; cut][..]].concat());
     }
@@ -243,11 +243,11 @@ pub fn left_off() -> Vec<(Vec<u32>, Vec<u8>)> {
 /// A function of one sentence whose result is one term of the kind, and the term's text.
 fn around(kind: u32, detail: u32, text: (u32, u32)) -> Vec<u32> {
     let rows: [NodeRow; 5] = [
-        [node::FUNCTION, 0, 0, 1, 0, 0, 5],
-        [node::SENTENCE, 0, 0, 0, 0, 0, 5],
-        [node::TERMS, 0, 0, 0, 0, 0, 3],
-        [node::TERMS, 0, 0, 0, 0, 0, 5],
-        [kind, detail, text.0, text.1, 0, 0, 5],
+        [node::FUNCTION, 0, 0, 1, 0, 0, 5, NO_PARENT],
+        [node::SENTENCE, 0, 0, 0, 0, 0, 5, 0],
+        [node::TERMS, 0, 0, 0, 0, 0, 3, 1],
+        [node::TERMS, 0, 0, 0, 0, 0, 5, 1],
+        [kind, detail, text.0, text.1, 0, 0, 5, 3],
     ];
     trees::flat(&rows)
 }
@@ -324,11 +324,11 @@ fn spellings() -> Vec<(Vec<u32>, Vec<u8>)> {
             all.push((around(kind, detail, place), src.clone()));
         }
         let declaration = [
-            [node::DECLARATION, 0, 0, 0, 0, 0, 2],
-            [node::NAME, 0, 1, place.1, 0, 0, 2],
+            [node::DECLARATION, 0, 0, 0, 0, 0, 2, NO_PARENT],
+            [node::NAME, 0, 1, place.1, 0, 0, 2, 0],
         ];
         all.push((trees::flat(&declaration), src.clone()));
-        let function = [[node::FUNCTION, 1, 1, place.1, 0, 0, 1]];
+        let function = [[node::FUNCTION, 1, 1, place.1, 0, 0, 1, NO_PARENT]];
         all.push((trees::flat(&function), src));
     }
     for (start, length) in [

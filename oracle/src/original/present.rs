@@ -4,7 +4,7 @@ use crate::ast;
 use crate::lexer::{self, Lexer, TokenKind};
 use crate::messages;
 use crate::parser::{ParseError, Parser};
-use crate::terms::{NodeRow, Refusal, TokenRow, node, token};
+use crate::terms::{NO_PARENT, NodeRow, Refusal, TokenRow, node, token};
 
 /// `Lexer::tokenize`.
 pub fn read(src: &str) -> Option<Result<Vec<TokenRow>, Refusal>> {
@@ -61,7 +61,10 @@ pub fn parse(rows: &[TokenRow]) -> Option<Result<Vec<NodeRow>, Refusal>> {
     let tokens = rows.iter().map(token_of).collect();
     Some(match Parser::new(tokens).parse_program() {
         Ok(program) => {
-            let mut encoder = Encoder { rows: Vec::new() };
+            let mut encoder = Encoder {
+                rows: Vec::new(),
+                parent: NO_PARENT,
+            };
             program.items.iter().for_each(|item| encoder.item(item));
             Ok(encoder.rows)
         }
@@ -119,6 +122,8 @@ fn token_of(&[kind, detail, text, length, start, end]: &TokenRow) -> lexer::Toke
 /// Writes the original's tree as rows, parent first.
 struct Encoder {
     rows: Vec<NodeRow>,
+    /// The row whose children are written.
+    parent: u32,
 }
 
 const NO_SPAN: ast::Span = ast::Span { start: 0, end: 0 };
@@ -148,8 +153,11 @@ impl Encoder {
             span.start as u32,
             span.end as u32,
             0,
+            self.parent,
         ]);
+        let parent = std::mem::replace(&mut self.parent, at as u32);
         children(self);
+        self.parent = parent;
         self.rows[at][6] = self.rows.len() as u32;
     }
 

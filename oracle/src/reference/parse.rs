@@ -1,8 +1,8 @@
-//! 01 "Parsing" and "From tokens to the tree", with 02's card 1.
+//! 01 "Parsing" and "From tokens to the tree", with 02's cards 1 and 4.
 
 use super::utf8::is_scalar;
 use crate::terms::{
-    Answer, MAX_DEPTH, MAX_TOKENS, NodeRow, Refusal, TokenRow, node, put_rows, token,
+    Answer, MAX_DEPTH, MAX_TOKENS, NO_PARENT, NodeRow, Refusal, TokenRow, node, put_rows, token,
 };
 
 pub fn parse(tokens: &[u32], rows: &mut [u32]) -> Answer {
@@ -62,6 +62,8 @@ struct Parser<'a> {
     most: usize,
     at: usize,
     rows: Vec<NodeRow>,
+    /// The rows that are open, the innermost last.
+    open: Vec<usize>,
     /// The first `}` that stood in place of a `;`.
     left_off: Option<usize>,
 }
@@ -75,6 +77,7 @@ impl<'a> Parser<'a> {
             most,
             at: 0,
             rows: Vec::new(),
+            open: Vec::new(),
             left_off: None,
         }
     }
@@ -306,13 +309,18 @@ impl<'a> Parser<'a> {
     }
 
     fn open(&mut self, kind: u32, detail: u32, text: (u32, u32)) -> usize {
-        self.rows.push([kind, detail, text.0, text.1, 0, 0, 0]);
-        self.rows.len() - 1
+        let row = self.rows.len();
+        let parent = self.open.last().map_or(NO_PARENT, |&parent| parent as u32);
+        self.rows
+            .push([kind, detail, text.0, text.1, 0, 0, 0, parent]);
+        self.open.push(row);
+        row
     }
 
     fn close(&mut self, row: usize, span: (u32, u32)) {
         let next = self.rows.len() as u32;
-        self.rows[row][4..].copy_from_slice(&[span.0, span.1, next]);
+        self.rows[row][4..7].copy_from_slice(&[span.0, span.1, next]);
+        assert_eq!(self.open.pop(), Some(row));
     }
 }
 

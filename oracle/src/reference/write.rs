@@ -1,9 +1,10 @@
-//! 01 "Writing", with 02's card 1: the check of a tree (40), of its texts (41) and the text itself.
+//! 01 "Writing", with 02's cards 1 and 4: the check of a tree (40), of its texts (41) and the text itself.
 
 use super::spelling::{is_identifier, is_index, is_number};
 use super::utf8::{encode, is_scalar};
 use crate::terms::{
-    Answer, MAX_DEPTH, MAX_NODES, MAX_SOURCE, MAX_TEXT, NodeRow, Refusal, node, put_bytes,
+    Answer, MAX_DEPTH, MAX_NODES, MAX_SOURCE, MAX_TEXT, NO_PARENT, NODE_WIDTH, NodeRow, Refusal,
+    node, put_bytes,
 };
 
 pub fn write(tree: &[u32], src: &[u8], out: &mut [u8]) -> Answer {
@@ -40,18 +41,34 @@ pub fn checked(words: &[u32], src: &[u8]) -> Result<Vec<NodeRow>, Refusal> {
 
 /// The rows of a lawful tree of depth 64 or less.
 pub fn lawful_rows(words: &[u32]) -> Option<Vec<NodeRow>> {
-    if !words.len().is_multiple_of(7) || words.len() / 7 > MAX_NODES {
+    if !words.len().is_multiple_of(NODE_WIDTH) || words.len() / NODE_WIDTH > MAX_NODES {
         return None;
     }
     let rows: Vec<NodeRow> = words
-        .chunks(7)
-        .map(|row| row.try_into().expect("seven words"))
+        .chunks(NODE_WIDTH)
+        .map(|row| row.try_into().expect("the words of a row"))
         .collect();
     let mut at = 0;
     while at < rows.len() {
         at = top(&rows, at)?;
     }
-    Some(rows)
+    parents_are_exact(&rows).then_some(rows)
+}
+
+/// Whether each row names the last row before it whose subtree it is in; `next` of every row is right.
+fn parents_are_exact(rows: &[NodeRow]) -> bool {
+    let mut around: Vec<usize> = Vec::new();
+    rows.iter().enumerate().all(|(at, row)| {
+        while around
+            .last()
+            .is_some_and(|&open| rows[open][6] as usize <= at)
+        {
+            around.pop();
+        }
+        let parent = around.last().map_or(NO_PARENT, |&open| open as u32);
+        around.push(at);
+        row[7] == parent
+    })
 }
 
 fn kind_at(rows: &[NodeRow], at: usize, end: usize) -> u32 {
@@ -60,7 +77,7 @@ fn kind_at(rows: &[NodeRow], at: usize, end: usize) -> u32 {
 
 /// Where the subtree at `at` ends, if the row has the fields of its kind and ends by `end`.
 fn subtree(rows: &[NodeRow], at: usize, end: usize) -> Option<usize> {
-    let [kind, detail, text, length, start, stop, next] = *rows.get(at)?;
+    let [kind, detail, text, length, start, stop, next, _] = *rows.get(at)?;
     let has_text = matches!(
         kind,
         node::NAME | node::FUNCTION | node::IDENTIFIER | node::NUMBER | node::VARIABLE | node::CALL

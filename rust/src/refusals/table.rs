@@ -284,7 +284,7 @@ pub const REFUSALS: &[Meaning] = &[
         call: Call::Writing,
         title: "words that are no tree",
         meaning: "The words are not those of a lawful tree, as parsing puts them down, of depth 64 or less.",
-        wrong: Example::Words("rows whose next is wrong"),
+        wrong: Example::Words("rows whose next or parent is wrong"),
         right: Example::Words("the rows that parsing put down"),
     },
     Meaning {
