@@ -84,8 +84,12 @@ extern "C" {
 #define REFAL5_OUTPUT_SHORTER_THAN_NAME 50
 #define REFAL5_NAME_TWICE 60
 #define REFAL5_NAME_MISSING 61
+#define REFAL5_NO_REAL 64
+#define REFAL5_EXPONENT_TOO_LONG 65
+#define REFAL5_REAL_LONGER_THAN_OUTPUT 66
 #define REFAL5_TOKEN_WORDS 6
-#define REFAL5_NODE_WORDS 7
+#define REFAL5_NODE_WORDS 8
+#define REFAL5_NO_PARENT 4294967295
 #define REFAL5_ANSWER_WORDS 7
 #define REFAL5_MAX_BYTES 16777216
 /* End of the constants. */
@@ -102,9 +106,9 @@ bool refal5_names_equal(const uint8_t *a, size_t n, const uint8_t *b, size_t m);
  * words, and a row is put down only whole. A source of n bytes has at most n + 1 tokens. Refusals 1, 2, 10 to 25. */
 void refal5_read(const uint8_t *src, size_t n, uint32_t *rows, size_t m, uint64_t answer[7]);
 
-/* Parsing: token words, as reading puts them down, as the tree's rows. A row has seven words (kind, detail, text start, text
- * length, span start, span end, next: the row after its subtree), parent first; n and m count words. k tokens have at most 2 * k
- * nodes. Refusals 30 to 38. */
+/* Parsing: token words, as reading puts them down, as the tree's rows. A row has eight words (kind, detail, text start, text
+ * length, span start, span end, next: the row after its subtree, parent: its parent's row, or REFAL5_NO_PARENT), parent first; n and m
+ * count words. k tokens have at most 2 * k nodes. Refusals 30 to 38. */
 void refal5_parse(const uint32_t *tokens, size_t n, uint32_t *rows, size_t m, uint64_t answer[7]);
 
 /* Writing: a tree's rows and its source as text, each token and then one space; n counts words. Refusals 40 to 42; the need of 42 is
@@ -116,7 +120,7 @@ void refal5_write(const uint32_t *tree, size_t n, const uint8_t *src, size_t k, 
  * file one, of file two (answer[3] is 0), 60 at the first function that has an earlier equal one, 61 at the first call whose name is missing; file
  * one's rows before file two's.
  * work is any number of words, none allowed: the answer does not depend on how many there are or what they hold, and afterwards each is 0. With at least
- * 2 words for each row of both trees, 2 * (n1 + n2) / 7, the time is linear on average; with fewer each name may cost a look at every row. */
+ * 2 words for each row of both trees, 2 * (n1 + n2) / REFAL5_NODE_WORDS, the time is linear on average; with fewer each name may cost a look at every row. */
 void refal5_link(const uint32_t *tree1, size_t n1, const uint8_t *src1, size_t m1, const uint32_t *tree2, size_t n2, const uint8_t *src2, size_t m2,
                  uint32_t *work, size_t w, uint64_t answer[7]);
 

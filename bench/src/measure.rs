@@ -6,6 +6,7 @@ use oracle::cases::{Case, Functions};
 use oracle::original;
 use refal5::lexer::Lexer;
 use refal5::parser::Parser;
+use refal5::raw::NODE_WORDS;
 use refal5::rows::{NodeRows, TokenRows};
 use std::hint::black_box;
 use std::time::{Duration, Instant};
@@ -116,7 +117,7 @@ pub fn measure(name: &str, src: &str, effort: Effort) -> Measured {
         medians(theirs, released, ours, marks)
     };
     let need = mark::parse(&rows, &mut [])[6] as usize;
-    let mut tree = vec![1u32; 7 * need];
+    let mut tree = vec![1u32; NODE_WORDS * need];
     mark::parse(&rows, &mut tree);
     let parsing = {
         let mut out = vec![1u32; tree.len()];
@@ -220,7 +221,7 @@ pub fn written(src: &str) -> Written {
     let mut rows = vec![1u32; 6 * (src.len() + 1)];
     let tokens = mark::read(src, &mut rows)[1] as usize;
     rows.truncate(6 * tokens);
-    let mut tree = vec![1u32; 7 * mark::parse(&rows, &mut [])[6] as usize];
+    let mut tree = vec![1u32; NODE_WORDS * mark::parse(&rows, &mut [])[6] as usize];
     mark::parse(&rows, &mut tree);
     drop(rows);
     let mut text = vec![1; Library.write(&tree, src, &mut [])[6] as usize];

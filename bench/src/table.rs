@@ -168,7 +168,7 @@ pub fn memory(rows: &[(&Measured, Option<usize>)]) -> String {
          |---|---|---|---|---|\n",
     );
     for (input, peak) in rows {
-        let ours = 24 * input.tokens + 28 * input.nodes;
+        let ours = 24 * input.tokens + 32 * input.nodes;
         let cells = [
             input.name.clone(),
             size(input.bytes),

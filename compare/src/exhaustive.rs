@@ -2,7 +2,7 @@
 
 use oracle::cases::Case;
 use oracle::reference::{parse, read};
-use oracle::terms::{TokenRow, token};
+use oracle::terms::{NODE_WIDTH, TokenRow, token};
 
 /// Parts whose neighbours decide what they mean.
 pub const ALPHABET: [&str; 22] = [
@@ -86,7 +86,8 @@ pub fn token_lists(most: usize, mut visit: impl FnMut(Case) -> bool) -> bool {
                 kinds.extend(places.iter().map(|&place| place as u32 + 1));
                 let tokens = list(&kinds);
                 count += 1;
-                let exact = parse::tree(&tokens).map_or(14, |rows| rows.len() * 7);
+                let exact =
+                    parse::tree(&tokens).map_or(2 * NODE_WIDTH, |rows| rows.len() * NODE_WIDTH);
                 let lent = if count % 3 == 0 {
                     exact.saturating_sub(1)
                 } else {

@@ -88,8 +88,8 @@ pub fn reading(rng: &mut Rng) -> Case {
 
 pub fn parsing(rng: &mut Rng) -> Case {
     let tokens = tokens::any(rng);
-    let exact = parse::tree(&tokens).map_or_else(|_| rng.below(30), |rows| rows.len() * 7);
-    let lent = lent(rng, exact, 7);
+    let exact = parse::tree(&tokens).map_or_else(|_| rng.below(30), |rows| rows.len() * NODE_WIDTH);
+    let lent = lent(rng, exact, NODE_WIDTH);
     Case::Parse { tokens, lent }
 }
 

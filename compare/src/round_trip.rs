@@ -1,7 +1,7 @@
 //! Demand 3's second half by running: a written tree is read and parsed again, as spelled.
 
 use oracle::cases::Functions;
-use oracle::terms::{MAX_TEXT, NodeRow, node};
+use oracle::terms::{MAX_TEXT, NODE_WIDTH, NodeRow, node};
 
 /// None where the source is refused; otherwise what was found.
 pub fn round_trip(src: &[u8], functions: &impl Functions) -> Option<Result<(), String>> {
@@ -42,19 +42,21 @@ fn tree(src: &[u8], functions: &impl Functions) -> Option<Vec<NodeRow>> {
     if need[0] != 0 && need[0] != 38 {
         return None;
     }
-    nodes.resize(7 * need[6] as usize, 0);
+    nodes.resize(NODE_WIDTH * need[6] as usize, 0);
     let answer = functions.parse(tokens, &mut nodes);
     assert_eq!(answer[0], 0, "parsing takes what it said it needs");
     Some(
         nodes
-            .chunks(7)
-            .map(|row| row.try_into().expect("seven words"))
+            .chunks(NODE_WIDTH)
+            .map(|row| row.try_into().expect("the words of a row"))
             .collect(),
     )
 }
 
-/// Kind, detail, next and the bytes of the text, for each row.
-fn spelled<'a>(rows: &[NodeRow], src: &'a [u8]) -> Vec<(u32, u32, u32, &'a [u8])> {
+/// A row but for its span, which writing moves: kind, detail, next, parent and the bytes of the text.
+type Spelled<'a> = (u32, u32, u32, u32, &'a [u8]);
+
+fn spelled<'a>(rows: &[NodeRow], src: &'a [u8]) -> Vec<Spelled<'a>> {
     rows.iter()
         .map(|row| {
             let (start, length) = (row[2] as usize, row[3] as usize);
@@ -62,7 +64,7 @@ fn spelled<'a>(rows: &[NodeRow], src: &'a [u8]) -> Vec<(u32, u32, u32, &'a [u8])
                 node::CHAR | node::TERMS => &[],
                 _ => &src[start..start + length],
             };
-            (row[0], row[1], row[6], text)
+            (row[0], row[1], row[6], row[7], text)
         })
         .collect()
 }

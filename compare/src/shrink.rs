@@ -1,6 +1,7 @@
 //! Makes a failing call as small as it gets while it still fails.
 
 use oracle::cases::Case;
+use oracle::terms::{NO_PARENT, NODE_WIDTH};
 
 /// One way to make a call smaller.
 #[derive(Debug, Clone, Copy)]
@@ -67,7 +68,7 @@ fn edits(case: &Case) -> Vec<Edit> {
         }
         Case::Write { tree, src, lent: l } => {
             prunings(tree, Edit::Prune, &mut edits);
-            cuts(tree.len(), 7, Edit::Cut, &mut edits);
+            cuts(tree.len(), NODE_WIDTH, Edit::Cut, &mut edits);
             words(tree, &mut edits);
             cuts(src.len(), 1, Edit::CutSecond, &mut edits);
             lent = *l;
@@ -112,9 +113,9 @@ fn words(words: &[u32], edits: &mut Vec<Edit>) {
 }
 
 fn prunings(tree: &[u32], prune: fn(usize, usize) -> Edit, edits: &mut Vec<Edit>) {
-    let rows = tree.len() / 7;
+    let rows = tree.len() / NODE_WIDTH;
     for at in 0..rows {
-        let end = tree[7 * at + 6] as usize;
+        let end = tree[NODE_WIDTH * at + 6] as usize;
         if at < end && end <= rows {
             edits.push(prune(at, end));
         }
@@ -150,7 +151,7 @@ fn apply(case: &Case, edit: Edit) -> Case {
             Edit::CutSecond(start, end) => {
                 src.drain(start..end);
                 // Texts that stand after the cut keep their bytes.
-                for text in tree.iter_mut().skip(2).step_by(7) {
+                for text in tree.iter_mut().skip(2).step_by(NODE_WIDTH) {
                     if *text as usize >= end {
                         *text -= (end - start) as u32;
                     }
@@ -174,11 +175,15 @@ fn edit_words(words: &mut Vec<u32>, edit: Edit) {
         Edit::Cut(start, end) => drop(words.drain(start..end)),
         Edit::Zero(at) => words[at] = 0,
         Edit::Prune(at, end) => {
-            words.drain(7 * at..7 * end);
-            for next in words.iter_mut().skip(6).step_by(7) {
-                if *next as usize >= end {
-                    *next -= (end - at) as u32;
+            words.drain(NODE_WIDTH * at..NODE_WIDTH * end);
+            let moved = |row: &mut u32| {
+                if *row as usize >= end && *row != NO_PARENT {
+                    *row -= (end - at) as u32;
                 }
+            };
+            for row in words.chunks_exact_mut(NODE_WIDTH) {
+                // A row's next and its parent.
+                row[6..].iter_mut().for_each(moved);
             }
         }
         _ => (),

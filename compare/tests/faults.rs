@@ -4,7 +4,7 @@ use compare::runs::{Size, compare};
 use oracle::cases::{Functions, Reference};
 use oracle::reference::link::File;
 use oracle::reference::parse::{checked, first_left_off};
-use oracle::terms::{Answer, node, token};
+use oracle::terms::{Answer, NO_PARENT, NODE_WIDTH, node, token};
 
 #[derive(Debug, Clone, Copy, PartialEq, Eq)]
 enum Fault {
@@ -25,6 +25,8 @@ enum Fault {
     LeftOffAnywhere,
     OtherFile,
     WorkLeft,
+    ParentOfTop,
+    ParentOfBlock,
 }
 
 /// The reference with one fault put in.
@@ -73,9 +75,11 @@ impl Functions for Faulty {
     fn parse(&self, tokens: &[u32], rows: &mut [u32]) -> Answer {
         let mut answer = Reference.parse(tokens, rows);
         let count = answer[1] as usize;
-        for row in rows.chunks_mut(7).take(count) {
+        for row in rows.chunks_mut(NODE_WIDTH).take(count) {
             match self.0 {
                 Fault::NextOfBracket if row[0] == 13 => row[6] += 1,
+                Fault::ParentOfTop if row[7] == NO_PARENT => row[7] = 0,
+                Fault::ParentOfBlock if row[0] == 8 => row[7] -= 1,
                 Fault::ConditionStart if row[0] == 5 => row[4] = row[4].wrapping_sub(1),
                 Fault::SpanOfLeftOff if row[..2] == [node::SENTENCE, 1] => {
                     row[5] = row[5].wrapping_add(1);
@@ -102,7 +106,9 @@ impl Functions for Faulty {
             Fault::SpaceLeftOut if answer[0] == 0 && answer[1] > 0 => {
                 out[answer[1] as usize - 1] = b';';
             }
-            Fault::WrongNextTaken if answer[0] == 40 && tree.len() == 7 && tree[0] == 3 => {
+            Fault::WrongNextTaken
+                if answer[0] == 40 && tree.len() == NODE_WIDTH && tree[0] == 3 =>
+            {
                 answer[0] = 41;
             }
             Fault::SemicolonWritten if answer[0] == 0 => {
@@ -133,7 +139,7 @@ impl Functions for Faulty {
 /// The tree with no `;` left off.
 fn with_semicolons(tree: &[u32]) -> Vec<u32> {
     let mut tree = tree.to_vec();
-    for row in tree.chunks_exact_mut(7) {
+    for row in tree.chunks_exact_mut(NODE_WIDTH) {
         if row[..2] == [node::SENTENCE, 1] {
             row[1] = 0;
         }
@@ -166,6 +172,8 @@ fn are_found() {
         Fault::LeftOffAnywhere,
         Fault::OtherFile,
         Fault::WorkLeft,
+        Fault::ParentOfTop,
+        Fault::ParentOfBlock,
     ] {
         let found = compare(&Faulty(fault), |_| true, 1, size, |_| ());
         let found = found.expect_err(&format!("{fault:?} is not found"));

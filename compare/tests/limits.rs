@@ -4,7 +4,9 @@
 use compare::Library;
 use oracle::cases::Functions;
 use oracle::reference;
-use oracle::terms::{MAX_NODES, MAX_SOURCE, MAX_TEXT, MAX_TOKENS, node, token};
+use oracle::terms::{
+    MAX_NODES, MAX_SOURCE, MAX_TEXT, MAX_TOKENS, NO_PARENT, NODE_WIDTH, node, token,
+};
 
 /// Semicolons and Eof, as many rows as asked.
 fn semicolons(rows: usize) -> Vec<u32> {
@@ -28,14 +30,15 @@ fn token_rows() {
 
 /// Declarations of one name each, the last of two where the number of rows is odd.
 fn declarations(rows: usize) -> Vec<u32> {
-    let mut words = Vec::with_capacity(7 * rows);
+    let mut words = Vec::with_capacity(NODE_WIDTH * rows);
     let mut at = 0;
     while at < rows {
         let names = if rows - at == 3 { 2 } else { 1 };
         let next = (at + 1 + names) as u32;
-        words.extend([node::DECLARATION, 0, 0, 0, 0, 0, next]);
+        words.extend([node::DECLARATION, 0, 0, 0, 0, 0, next, NO_PARENT]);
         for place in 0..names {
-            words.extend([node::NAME, 0, 0, 1, 0, 0, (at + 2 + place) as u32]);
+            let end = (at + 2 + place) as u32;
+            words.extend([node::NAME, 0, 0, 1, 0, 0, end, at as u32]);
         }
         at = next as usize;
     }
@@ -56,10 +59,10 @@ fn node_rows() {
 
 /// Empty functions, the last with a name of that length.
 fn functions(count: usize, last: u32) -> Vec<u32> {
-    let mut words = Vec::with_capacity(7 * count);
+    let mut words = Vec::with_capacity(NODE_WIDTH * count);
     for at in 1..=count {
         let length = if at == count { last } else { 1 };
-        words.extend([node::FUNCTION, 0, 0, length, 0, 0, at as u32]);
+        words.extend([node::FUNCTION, 0, 0, length, 0, 0, at as u32, NO_PARENT]);
     }
     words
 }
@@ -85,11 +88,11 @@ fn number(digits: usize) -> (Vec<u32>, Vec<u8>) {
     let mut src = vec![b'0'; digits + 1];
     src[0] = b'F';
     let rows = [
-        [node::FUNCTION, 0, 0, 1, 0, 0, 5],
-        [node::SENTENCE, 0, 0, 0, 0, 0, 5],
-        [node::TERMS, 0, 0, 0, 0, 0, 3],
-        [node::TERMS, 0, 0, 0, 0, 0, 5],
-        [node::NUMBER, 0, 1, digits as u32, 0, 0, 5],
+        [node::FUNCTION, 0, 0, 1, 0, 0, 5, NO_PARENT],
+        [node::SENTENCE, 0, 0, 0, 0, 0, 5, 0],
+        [node::TERMS, 0, 0, 0, 0, 0, 3, 1],
+        [node::TERMS, 0, 0, 0, 0, 0, 5, 1],
+        [node::NUMBER, 0, 1, digits as u32, 0, 0, 5, 3],
     ];
     (rows.concat(), src)
 }

@@ -2,11 +2,11 @@
 
 /// Words of a token row: kind, detail, text start, text length, span start, span end.
 pub type TokenRow = [u32; 6];
-/// Words of a node row: those of a token row, the row after the node's subtree, its parent's row.
+/// Words of a node row: those of a token row, then the row after the node's subtree, then its parent's row.
 pub type NodeRow = [u32; 8];
 /// How many words a node row has.
 pub const NODE_WIDTH: usize = size_of::<NodeRow>() / size_of::<u32>();
-/// The parent of a top row.
+/// The parent of a row that has none.
 pub const NO_PARENT: u32 = u32::MAX;
 /// Refusal number or 0, count, expected, found, span start, span end, need.
 pub type Answer = [u64; 7];

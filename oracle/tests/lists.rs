@@ -3,6 +3,7 @@
 use oracle::cases::{Case, Outcome, Reference, run};
 use oracle::lists::{LISTS, format, sample, text};
 use oracle::reference::parse;
+use oracle::terms::NODE_WIDTH;
 use std::collections::BTreeMap;
 use std::path::Path;
 
@@ -67,7 +68,7 @@ fn hold_each_refusal_ten_times() {
 /// original.
 #[test]
 fn hold_left_off_semicolons() {
-    let left_off = |words: &[u32]| words.chunks_exact(7).any(|row| row[..2] == [4, 1]);
+    let left_off = |words: &[u32]| words.chunks_exact(NODE_WIDTH).any(|row| row[..2] == [4, 1]);
     let mut parsed = 0;
     let mut written = 0;
     let mut asked = 0;

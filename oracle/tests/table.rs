@@ -235,6 +235,33 @@ fn the_program_of_01() {
     assert_eq!(written(src), "$ENTRY Go { = ; } ");
 }
 
+/// The parent's row, for each row: in row order a Condition's and its block's, an Ending block's, a bracket's and a call's.
+#[test]
+fn parents() {
+    for (src, parents) in [
+        ("$EXTRN A, B;", &[-1, 0, 0][..]),
+        ("F{}G{=;}", &[-1, -1, 1, 2, 2]),
+        ("F{=(A<G B>)C;}", &[-1, 0, 1, 1, 3, 4, 4, 6, 3]),
+        ("F{A,B:C=D;}", &[-1, 0, 1, 2, 1, 4, 5, 4, 7, 1, 9]),
+        ("F{,:{=;}=;}", &[-1, 0, 1, 1, 3, 3, 5, 6, 6, 1]),
+        ("F{=,A:{=;=;};}", &[-1, 0, 1, 1, 3, 4, 3, 6, 6, 3, 9, 9]),
+    ] {
+        let found: Vec<i32> = tree(src).iter().map(|row| row[7] as i32).collect();
+        assert_eq!(found, parents, "{src}");
+    }
+    // A wrong parent makes a tree unlawful, whichever row has it.
+    let rows = tree("F{,:{=;}=;}");
+    for at in 0..rows.len() {
+        for wrong in [0, 1, 2, 3, 5, NO_PARENT] {
+            let mut rows = rows.clone();
+            let right = rows[at][7] == wrong;
+            rows[at][7] = wrong;
+            let answer = write::text(&rows.concat(), b"F");
+            assert_eq!(answer.is_ok(), right, "{at} {wrong}");
+        }
+    }
+}
+
 #[test]
 fn capacities() {
     let mut rows = [7; 13];
@@ -243,13 +270,13 @@ fn capacities() {
     let mut rows = [7; 11];
     assert_eq!(reference::read(b"A", &mut rows), [25, 0, 0, 0, 0, 0, 2]);
     assert_eq!(rows, [0; 11]);
-    let mut rows = [7; 6];
+    let mut rows = [7; 7];
     let empty = [17, 0, 0, 0, 0, 0];
     assert_eq!(reference::parse(&empty, &mut rows), [0; 7]);
-    assert_eq!(rows, [7; 6]);
+    assert_eq!(rows, [7; 7]);
     let tokens = tokens::flat(&read::tokens(b"F{}").expect("read"));
     assert_eq!(reference::parse(&tokens, &mut rows), [38, 0, 0, 0, 0, 0, 1]);
-    assert_eq!(rows, [0; 6]);
+    assert_eq!(rows, [0; 7]);
     let tree = [3, 0, 0, 1, 0, 3, 1, NO_PARENT];
     let mut out = [7; 7];
     assert_eq!(

@@ -4,6 +4,7 @@
 //! lines only. [`rows`] views the library's rows in place and allocates nothing. [`check`] explains what is wrong with a
 //! source to the person who wrote it, [`recover`] finds all that is wrong and what still parses, and [`notes`] says what is
 //! read otherwise than it may be meant. [`link`] loads a rule file with the file that declares the tool's functions.
+//! [`real`] is the exact number that a text with a point or an `E` stands for.
 //! [`layout`], [`outline`] and [`differences`] serve people who work on programs. [`raw`] is the library's functions over
 //! lent slices.
 //!
@@ -34,6 +35,7 @@ mod notes;
 mod outline;
 pub mod parser;
 pub mod raw;
+mod real;
 mod recovery;
 mod refusals;
 pub mod rows;
@@ -49,5 +51,6 @@ pub use names::{
 };
 pub use notes::{About, Note, notes};
 pub use outline::{Rule, outline};
+pub use real::{Real, real};
 pub use recovery::{Problem, Recovered, recover};
 pub use refusals::{Call, Example, Meaning, REFUSALS, Refusal, meaning};

@@ -7,8 +7,11 @@ use crate::Refusal;
 
 /// Words of a token row: kind, detail, text start, text length, span start, span end.
 pub const TOKEN_WORDS: usize = 6;
-/// Words of a node row: those of a token row, then the row after the node's subtree.
-pub const NODE_WORDS: usize = 7;
+/// Words of a node row: those of a token row, then the row after the node's subtree, then the row of its parent.
+pub const NODE_WORDS: usize = 8;
+
+/// The parent's row of a node that has no parent.
+pub const NO_PARENT: u32 = u32::MAX;
 
 /// The most bytes that reading takes (more: refusal 1) and that writing puts down (more: refusal 42).
 pub const MAX_BYTES: usize = 16_777_216;
@@ -76,6 +79,14 @@ mod c {
             w: usize,
             answer: *mut u64,
         );
+        pub fn refal5_real(
+            text: *const u8,
+            n: usize,
+            digits: *mut u8,
+            m: usize,
+            form: *mut u64,
+            answer: *mut u64,
+        );
     }
 }
 
@@ -97,7 +108,7 @@ fn result(answer: [u64; 7]) -> Result<usize, Refusal> {
 }
 
 // In each call below a pointer comes from a slice and stands beside that slice's length, the slices are borrowed for
-// the call, so that those written overlap no other, and the answer has the seven words that are written.
+// the call, so that those written overlap no other, and the answer and the form have the seven and three words that are written.
 
 /// Puts the canonical form of a name into `out`: a to z become A to Z, `_` becomes `-`. 50 where `out` is shorter.
 pub fn canonical_name(name: &[u8], out: &mut [u8]) -> Result<usize, Refusal> {
@@ -211,6 +222,24 @@ pub fn link(
             source2.len(),
             work.as_mut_ptr(),
             work.len(),
+            answer.as_mut_ptr(),
+        );
+    }
+    result(answer)
+}
+
+/// Puts the digits of a real's normal form into `digits`, and into `form` its sign (0 plus, 1 minus), its power's sign (0 for zero
+/// or plus, 1 minus) and the power's magnitude. Refusals 64 to 66, which make `form` 0 too.
+pub fn real(text: &[u8], digits: &mut [u8], form: &mut [u64; 3]) -> Result<usize, Refusal> {
+    let mut answer = [0; 7];
+    // Sound: see above.
+    unsafe {
+        c::refal5_real(
+            text.as_ptr(),
+            text.len(),
+            digits.as_mut_ptr(),
+            digits.len(),
+            form.as_mut_ptr(),
             answer.as_mut_ptr(),
         );
     }

@@ -403,7 +403,16 @@ fn trees_that_parsing_never_gives() {
         refusal.to_string(),
         "refusal 40: the rows are no lawful tree of depth 64 or less"
     );
-    let function = [NodeKind::Function.number(), 0, 0, 9, 0, 3, 1];
+    let function = [
+        NodeKind::Function.number(),
+        0,
+        0,
+        9,
+        0,
+        3,
+        1,
+        raw::NO_PARENT,
+    ];
     let refusal = raw::write(&function, b"F{}", &mut [0; 20]).unwrap_err();
     assert_eq!(refusal.number, 41);
     assert_eq!(
@@ -517,6 +526,49 @@ fn views() {
     let kinds: Vec<NodeKind> = sentence.children().map(|node| node.kind()).collect();
     assert_eq!(kinds, [NodeKind::Terms, NodeKind::Terms]);
     assert!(tree.get(tree.len()).is_none());
+}
+
+/// From a term up to its sentence and function; each node is among its parent's children.
+#[test]
+fn parents() {
+    let mut token_rows = TokenRows::new();
+    let mut node_rows = NodeRows::new();
+    let tokens = token_rows
+        .read(b"$EXTRN G; F { = ; A, B : { e1 = <G (e1 'x')>; } = ; }")
+        .unwrap();
+    let tree = node_rows.parse(tokens).unwrap();
+    let character = tree
+        .nodes()
+        .find(|node| node.kind() == NodeKind::Char)
+        .unwrap();
+    let kinds: Vec<NodeKind> = character.ancestors().map(|node| node.kind()).collect();
+    assert_eq!(
+        kinds,
+        [
+            NodeKind::Bracket,
+            NodeKind::Call,
+            NodeKind::Terms,
+            NodeKind::Sentence,
+            NodeKind::ConditionBlock,
+            NodeKind::Condition,
+            NodeKind::Sentence,
+            NodeKind::Function,
+        ]
+    );
+    for node in tree.nodes() {
+        match node.parent() {
+            Some(parent) => assert!(parent.children().any(|child| child.index() == node.index())),
+            None => assert!(tree.items().any(|item| item.index() == node.index())),
+        }
+    }
+    // Of trees put together by `recover` too.
+    let recovered = refal5::recover(b"$ENTRY F { = (A); } $ENTRY G { ( } $ENTRY H { = <F B>; }");
+    let tree = recovered.tree();
+    for node in tree.nodes().filter(|node| node.parent().is_some()) {
+        let parent = node.parent().unwrap();
+        assert!(parent.children().any(|child| child.index() == node.index()));
+    }
+    assert_eq!(tree.items().count(), 2);
 }
 
 #[test]

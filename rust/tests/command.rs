@@ -153,6 +153,37 @@ fn explanations() {
     assert!(text(&output.stderr).contains("there is no refusal `99`"));
 }
 
+/// The numbers of texts, and texts that are none.
+#[test]
+fn reals() {
+    let texts = [
+        "1.50",
+        "+15E-1",
+        "-0.0E7",
+        "-2.5",
+        "0.001E3",
+        "10E999999999",
+        "15",
+        "1E1000000000",
+        "",
+    ];
+    let args: Vec<&str> = ["real"].into_iter().chain(texts).collect();
+    let output = refal5("real", &args, b"");
+    assert_eq!(output.status.code(), Some(1));
+    let mut failures = Vec::new();
+    compare("real", "texts", &output.stdout, &mut failures);
+    compare("real", "texts.errors", &output.stderr, &mut failures);
+    let args: Vec<&str> = ["real", "--json"].into_iter().chain(texts).collect();
+    let output = refal5("real", &args, b"");
+    assert_eq!(output.status.code(), Some(1));
+    compare("real", "texts.json", &output.stdout, &mut failures);
+    assert!(failures.is_empty(), "{}", failures.join("\n"));
+    let output = refal5("real", &["real", "-1.0", "3E0"], b"");
+    assert_eq!(output.status.code(), Some(0));
+    assert_eq!(text(&output.stdout), "-1E0\n3E0\n");
+    assert_eq!(refal5("real", &["real"], b"").status.code(), Some(2));
+}
+
 /// Each refused source with the change made that the advice names.
 #[test]
 fn following_the_advice_helps() {

@@ -54,9 +54,11 @@ fn nothing_is_allocated() {
     let length = texts(tree);
     let written = tree.write_into(&mut text).unwrap().len();
     let same = refal5::identifiers_equal("Prout", "PROUT");
+    let digits = refal5::raw::real(b"-0.150", &mut [0; 6], &mut [0; 3]).unwrap();
     let after = ALLOCATIONS.load(Ordering::Relaxed);
 
     assert!(same && spelled > 0 && written > 0);
-    assert_eq!((calls, length), (1, "Text".len() + "Prout".len()));
+    assert_eq!((calls, digits), (1, 2));
+    assert_eq!(length, "Text".len() + "Prout".len());
     assert_eq!(after - before, 0);
 }

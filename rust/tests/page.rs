@@ -149,6 +149,28 @@ fn pointing_at_either_lights_the_other() {
 
 #[test]
 #[ignore = "needs a browser: run tests/page.sh"]
+fn the_path_climbs_to_the_rule() {
+    let mut browser = Browser::start("path", 1200, 900);
+    let source = "F { = ; A = , (B) : { e1 = <G (e1)>; C = ; }; }";
+    browser.open(&page("path", source));
+    assert_eq!(browser.eval(&texts("#path button")), "");
+    browser.click(&element("#source .t", "G"));
+    assert_eq!(
+        browser.eval(&texts("#path button")),
+        "Function F\nSentence 2\nEnding block\nSentence 1\nTerms result\nCall G"
+    );
+    browser.click(&element("#path button", "Sentence 2"));
+    assert_eq!(
+        browser.eval(&texts("#path button")),
+        "Function F\nSentence 2"
+    );
+    assert_eq!(browser.eval(&texts("#tree .n.on")), "▾Sentence  1:9");
+    browser.click(&element("#path button", "Function"));
+    assert_eq!(browser.eval(&texts("#path button")), "Function F");
+}
+
+#[test]
+#[ignore = "needs a browser: run tests/page.sh"]
 fn all_is_reached_by_the_keyboard() {
     let mut browser = Browser::start("keys", 1200, 900);
     browser.open(&page("keys", &golden("worked-condition-block.ref")));

@@ -6,7 +6,7 @@ use std::env;
 use std::fs;
 use std::path::{Path, PathBuf};
 
-use refal5::raw::{self, MAX_BYTES, NODE_WORDS, TOKEN_WORDS};
+use refal5::raw::{self, MAX_BYTES, NO_PARENT, NODE_WORDS, TOKEN_WORDS};
 use refal5::rows::{Kind, NodeKind, NodeRows, TokenRows, Tokens, Tree};
 use refal5::{Call, Example, Meaning, REFUSALS, Refusal};
 
@@ -58,7 +58,7 @@ fn the_other_examples() {
         .filter(|meaning| matches!(meaning.wrong, Example::Words(_)))
         .map(|meaning| meaning.number)
         .collect();
-    assert_eq!(words, [1, 25, 30, 36, 38, 40, 41, 42, 50]);
+    assert_eq!(words, [1, 25, 30, 36, 38, 40, 41, 42, 50, 64, 65, 66]);
 
     let spaces = vec![b' '; MAX_BYTES + 1];
     assert_eq!(number(raw::read(&spaces, &mut [0; 6])), 1);
@@ -87,7 +87,10 @@ fn the_other_examples() {
 
     let mut text = [0; 10];
     let mut wrong = nodes;
-    wrong[NODE_WORDS - 1] = 3;
+    wrong[NODE_WORDS - 2] = 3;
+    assert_eq!(number(raw::write(&wrong, b"F{=;}", &mut text)), 40);
+    wrong = nodes;
+    wrong[NODE_WORDS - 1] = 0;
     assert_eq!(number(raw::write(&wrong, b"F{=;}", &mut text)), 40);
     assert_eq!(number(raw::write(&nodes, b"f{=;}", &mut text)), 41);
     assert_eq!(number(raw::write(&nodes, b"F{=;}", &mut text[..9])), 42);
@@ -95,6 +98,18 @@ fn the_other_examples() {
 
     assert_eq!(number(raw::canonical_name(b"Foo", &mut [0; 2])), 50);
     assert_eq!(number(raw::canonical_name(b"Foo", &mut [0; 3])), 0);
+
+    let real = |text: &[u8], lent| number(raw::real(text, &mut vec![0; lent], &mut [0; 3]));
+    for wrong in [&b"15"[..], b"1.5 ", b".5", b"1,5"] {
+        assert_eq!(real(wrong, wrong.len()), 64);
+    }
+    for right in [&b"15E0"[..], b"1.5", b"0.5", b"-1.5"] {
+        assert_eq!(real(right, right.len()), 0);
+    }
+    assert_eq!(real(b"1E1000000000", 1), 65);
+    assert_eq!(real(b"1E999999999", 1), 0);
+    assert_eq!(real(b"1.5", 1), 66);
+    assert_eq!(real(b"1.5", 2), 0);
 }
 
 fn repository(file: &str) -> PathBuf {
@@ -190,6 +205,7 @@ fn constants() -> String {
     }
     define("TOKEN_WORDS", TOKEN_WORDS as u64);
     define("NODE_WORDS", NODE_WORDS as u64);
+    define("NO_PARENT", NO_PARENT.into());
     define("ANSWER_WORDS", 7);
     define("MAX_BYTES", MAX_BYTES as u64);
     made

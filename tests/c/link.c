@@ -14,7 +14,7 @@ static int failures = 0;
         }                                                            \
     } while (0)
 
-enum { WIDTH = 7, MOST = 64 };
+enum { WIDTH = REFAL5_NODE_WORDS, MOST = 64 };
 
 struct file {
     const char *src;

@@ -15,36 +15,38 @@ static int failures = 0;
         }                                                            \
     } while (0)
 
-static const uint32_t rows[4][7] = {
-    {3, 1, 7, 2, 0, 13, 4},
-    {4, 0, 0, 0, 10, 12, 4},
-    {6, 0, 0, 0, 0, 0, 3},
-    {6, 0, 0, 0, 0, 0, 4},
+enum { WIDTH = REFAL5_NODE_WORDS };
+
+static const uint32_t rows[4][8] = {
+    {3, 1, 7, 2, 0, 13, 4, REFAL5_NO_PARENT},
+    {4, 0, 0, 0, 10, 12, 4, 0},
+    {6, 0, 0, 0, 0, 0, 3, 1},
+    {6, 0, 0, 0, 0, 0, 4, 1},
 };
 
 int main(void) {
     const uint8_t *src = (const uint8_t *)"$ENTRY Go{=;}";
-    uint32_t tokens[6 * 14], nodes[7 * 5];
+    uint32_t tokens[6 * 14], nodes[WIDTH * 5];
     uint8_t text[20];
     uint64_t answer[7];
 
     refal5_read(src, 13, tokens, 6 * 14, answer);
     CHECK(answer[0] == 0 && answer[1] == 7);
     memset(nodes, 0xa5, sizeof nodes);
-    refal5_parse(tokens, 6 * 7, nodes, 7 * 5, answer);
+    refal5_parse(tokens, 6 * 7, nodes, WIDTH * 5, answer);
     CHECK(answer[0] == 0 && answer[1] == 4);
     CHECK(memcmp(nodes, rows, sizeof rows) == 0);
-    CHECK(nodes[28] == 0xa5a5a5a5);
+    CHECK(nodes[WIDTH * 4] == 0xa5a5a5a5);
     memset(text, 7, sizeof text);
-    refal5_write(nodes, 7 * 4, src, 13, text, 20, answer);
+    refal5_write(nodes, WIDTH * 4, src, 13, text, 20, answer);
     CHECK(answer[0] == 0 && answer[1] == 18);
     CHECK(memcmp(text, "$ENTRY Go { = ; } \7\7", 20) == 0);
 
-    refal5_write(nodes, 7 * 4, src, 13, text, 17, answer);
+    refal5_write(nodes, WIDTH * 4, src, 13, text, 17, answer);
     CHECK(answer[0] == 42 && answer[1] == 0 && answer[6] == 18);
     CHECK(text[0] == 0 && text[16] == 0 && text[17] == ' ');
-    refal5_parse(tokens, 6 * 6, nodes, 7 * 5, answer);
-    CHECK(answer[0] == 30 && nodes[0] == 0 && nodes[34] == 0);
+    refal5_parse(tokens, 6 * 6, nodes, WIDTH * 5, answer);
+    CHECK(answer[0] == 30 && nodes[0] == 0 && nodes[WIDTH * 5 - 1] == 0);
     refal5_read(src, 13, tokens, 6 * 6 + 5, answer);
     CHECK(answer[0] == 25 && answer[6] == 7 && tokens[0] == 0 && tokens[40] == 0);
     refal5_read((const uint8_t *)"F{=A}?", 6, tokens, 6 * 14, answer);
@@ -53,10 +55,10 @@ int main(void) {
     src = (const uint8_t *)"F{=A}";
     refal5_read(src, 5, tokens, 6 * 14, answer);
     CHECK(answer[0] == 0 && answer[1] == 6);
-    refal5_parse(tokens, 6 * 6, nodes, 7 * 5, answer);
+    refal5_parse(tokens, 6 * 6, nodes, WIDTH * 5, answer);
     CHECK(answer[0] == 0 && answer[1] == 5);
-    CHECK(nodes[7] == 4 && nodes[8] == 1 && nodes[11] == 2 && nodes[12] == 4);
-    refal5_write(nodes, 7 * 5, src, 5, text, 10, answer);
+    CHECK(nodes[WIDTH] == 4 && nodes[WIDTH + 1] == 1 && nodes[WIDTH + 4] == 2 && nodes[WIDTH + 5] == 4);
+    refal5_write(nodes, WIDTH * 5, src, 5, text, 10, answer);
     CHECK(answer[0] == 0 && answer[1] == 10);
     CHECK(memcmp(text, "F { = A } ", 10) == 0);
     return failures != 0;

@@ -1,7 +1,9 @@
 //! Parsing: a test of all tokens, then one pass of recursive descent that puts rows down in place.
 
 use super::refuse;
-use oracle::terms::{Answer, MAX_DEPTH, MAX_TOKENS, done, node, token};
+use oracle::terms::{
+    Answer, MAX_DEPTH, MAX_TOKENS, NO_PARENT, NODE_WIDTH, NodeRow, done, node, token,
+};
 
 pub fn parse(tokens: &[u32], rows: &mut [u32]) -> Answer {
     let (tokens, rest) = tokens.as_chunks::<6>();
@@ -11,8 +13,9 @@ pub fn parse(tokens: &[u32], rows: &mut [u32]) -> Answer {
     let mut parser = Parser {
         token: tokens.as_ptr(),
         rows: rows.as_mut_ptr(),
-        room: rows.len() / 7,
+        room: rows.len() / NODE_WIDTH,
         count: 0,
+        parent: NO_PARENT,
         refusal: [0; 7],
     };
     // Sound: Eof is last and is never passed, and rows are written only within the room.
@@ -77,6 +80,8 @@ struct Parser {
     rows: *mut u32,
     room: usize,
     count: usize,
+    /// The row in which the parser stands.
+    parent: u32,
     refusal: Answer,
 }
 
@@ -102,13 +107,27 @@ impl Parser {
         self.count - 1
     }
 
+    /// Opens a row that has children; gives it and the row around it.
+    #[inline(always)]
+    fn enter(&mut self) -> (usize, u32) {
+        let row = self.open();
+        (row, std::mem::replace(&mut self.parent, row as u32))
+    }
+
+    /// Puts a row whose children are put, and goes back into the row around it.
+    #[inline(always)]
+    unsafe fn leave(&mut self, (at, parent): (usize, u32), row: [u32; 6]) {
+        self.parent = parent;
+        unsafe { self.put(at, row) };
+    }
+
     #[inline(always)]
     unsafe fn put(&mut self, at: usize, row: [u32; 6]) {
         if at < self.room {
             let [kind, detail, text, length, start, end] = row;
             let next = self.count as u32;
-            let row = [kind, detail, text, length, start, end, next];
-            unsafe { self.rows.add(7 * at).cast::<[u32; 7]>().write(row) };
+            let row = [kind, detail, text, length, start, end, next, self.parent];
+            unsafe { self.rows.add(NODE_WIDTH * at).cast::<NodeRow>().write(row) };
         }
     }
 
@@ -179,7 +198,7 @@ impl Parser {
     unsafe fn declaration(&mut self) -> Parsed<()> {
         unsafe {
             let start = self.start();
-            let row = self.open();
+            let row = self.enter();
             self.next();
             loop {
                 let (text, length) = self.name(31)?;
@@ -191,7 +210,7 @@ impl Parser {
                 self.next();
             }
             let end = self.expect(token::SEMICOLON)?;
-            self.put(row, [node::DECLARATION, 0, 0, 0, start, end]);
+            self.leave(row, [node::DECLARATION, 0, 0, 0, start, end]);
             Ok(())
         }
     }
@@ -204,10 +223,10 @@ impl Parser {
                 self.next();
             }
             let (text, length) = self.name(32)?;
-            let row = self.open();
+            let row = self.enter();
             self.expect(token::LBRACE)?;
             let end = self.sentences(0)?;
-            self.put(
+            self.leave(
                 row,
                 [node::FUNCTION, entry.into(), text, length, start, end],
             );
@@ -228,33 +247,33 @@ impl Parser {
         const PATTERN: u32 = 1 << token::COMMA | 1 << token::EQUALS;
         unsafe {
             let start = self.start();
-            let row = self.open();
+            let row = self.enter();
             self.terms(PATTERN, depth)?;
             while self.kind() == token::COMMA {
                 self.next();
                 let start = self.start();
-                let row = self.open();
+                let row = self.enter();
                 self.terms(1 << token::COLON, depth)?;
                 self.expect(token::COLON)?;
                 if self.kind() == token::LBRACE {
-                    let block = self.open();
+                    let block = self.enter();
                     let end = self.block(depth)?;
-                    self.put(block, [node::CONDITION_BLOCK, 0, 0, 0, start, end]);
+                    self.leave(block, [node::CONDITION_BLOCK, 0, 0, 0, start, end]);
                 } else {
                     self.terms(PATTERN, depth)?;
                 }
                 let end = (*self.token.sub(1))[5];
-                self.put(row, [node::CONDITION, 0, 0, 0, start, end]);
+                self.leave(row, [node::CONDITION, 0, 0, 0, start, end]);
             }
             self.expect(token::EQUALS)?;
             if self.kind() == token::COMMA {
                 self.next();
                 let start = self.start();
-                let row = self.open();
+                let row = self.enter();
                 self.terms(1 << token::COLON, depth)?;
                 self.expect(token::COLON)?;
                 let end = self.block(depth)?;
-                self.put(row, [node::ENDING_BLOCK, 0, 0, 0, start, end]);
+                self.leave(row, [node::ENDING_BLOCK, 0, 0, 0, start, end]);
             } else {
                 self.terms(1 << token::SEMICOLON | 1 << token::RBRACE, depth)?;
             }
@@ -264,7 +283,7 @@ impl Parser {
             } else {
                 self.expect(token::SEMICOLON)?
             };
-            self.put(row, [node::SENTENCE, left_off.into(), 0, 0, start, end]);
+            self.leave(row, [node::SENTENCE, left_off.into(), 0, 0, start, end]);
             Ok(())
         }
     }
@@ -282,9 +301,9 @@ impl Parser {
     #[inline(always)]
     unsafe fn terms(&mut self, closing: u32, depth: usize) -> Parsed<()> {
         unsafe {
-            let row = self.open();
+            let row = self.enter();
             self.inside(closing | 1 << token::EOF, depth)?;
-            self.put(row, [node::TERMS, 0, 0, 0, 0, 0]);
+            self.leave(row, [node::TERMS, 0, 0, 0, 0, 0]);
             Ok(())
         }
     }
@@ -321,16 +340,16 @@ impl Parser {
             }
             let start = self.start();
             self.next();
-            let row = self.open();
+            let row = self.enter();
             if kind == token::LANGLE {
                 let (text, length) = self.name(33)?;
                 self.inside(1 << token::RANGLE | 1 << token::EOF, depth + 1)?;
                 let end = self.expect(token::RANGLE)?;
-                self.put(row, [node::CALL, 0, text, length, start, end]);
+                self.leave(row, [node::CALL, 0, text, length, start, end]);
             } else {
                 self.inside(1 << token::RPAREN | 1 << token::EOF, depth + 1)?;
                 let end = self.expect(token::RPAREN)?;
-                self.put(row, [node::BRACKET, 0, 0, 0, start, end]);
+                self.leave(row, [node::BRACKET, 0, 0, 0, start, end]);
             }
             Ok(())
         }

@@ -17,14 +17,6 @@ const RECORD: usize = 64;
 
 const TREE: usize = 320;
 
-// The words of a tree behind a record, at most.
-const TREE_WORDS: usize = 9 * NODE_WIDTH;
-
-// The words of a record's tokens, one for each byte of its input and Eof, and of their nodes.
-const TOKEN_WORDS: usize = 59 * TOKEN_WIDTH;
-
-const NODE_WORDS: usize = 120 * NODE_WIDTH;
-
 // Two decimal digits; 0 for anything else.
 fn two(digits: [u8; 2]) -> usize
     ensures { result ≤ 99 }
@@ -98,7 +90,7 @@ fn tokens<'a>(input: &[u8], words: &'a mut [u32]) -> Option<&'a [u32]> {
 }
 
 fn nodes<'a>(tokens: &[u32], words: &'a mut [u32]) -> Option<&'a [u32]> {
-    rows(words, NODE_WIDTH, |words, answer| {
+    rows(words, 8, |words, answer| {
         refal5::refal5_parse(tokens, words, answer)
     })
 }
@@ -122,7 +114,7 @@ fn replay_tree<'a>(
     let Some((block, behind)) = after.split_first_chunk::<TREE>() else {
         return Ok(&after[..0]);
     };
-    let mut tree = [0u32; TREE_WORDS];
+    let mut tree = [0u32; 79];
     put_tree(block, &mut tree);
     if let Some(tree) = tree.get(..two([block[0], block[1]])) {
         put_bytes(rt, out, |out, answer| {
@@ -144,8 +136,8 @@ fn replay<'a>(rt: &impl Print, record: &[u8; RECORD], after: &'a [u8]) -> io::Re
     let out = &mut bytes[..lent];
     let mut words = [0xa5a5_a5a5u32; 99];
     let rows = &mut words[..lent];
-    let mut token_words = [0u32; TOKEN_WORDS];
-    let mut node_words = [0u32; NODE_WORDS];
+    let mut token_words = [0u32; 354];
+    let mut node_words = [0u32; 960];
     match record[0] {
         b'n' => put_bytes(rt, out, |out, answer| {
             refal5::refal5_canonical_name(input, out, answer)

@@ -6,7 +6,7 @@
 //! byte a5), or is 0 after a refusal.
 
 use crate::cases::{Case, FILL, FILL_WORD, Outcome};
-use crate::terms::Answer;
+use crate::terms::{Answer, NODE_WIDTH};
 
 pub fn line(case: &Case, outcome: &Outcome) -> String {
     let input = match case {
@@ -56,7 +56,7 @@ pub fn line(case: &Case, outcome: &Outcome) -> String {
 fn put(case: &Case, answer: &Answer) -> usize {
     let width = match case {
         Case::Read { .. } => 6,
-        Case::Parse { .. } => 7,
+        Case::Parse { .. } => NODE_WIDTH,
         _ => 1,
     };
     width * answer[1] as usize

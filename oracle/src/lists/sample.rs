@@ -14,7 +14,7 @@ const AROUND: usize = 6;
 const MOST_LENT: usize = 99;
 /// Bytes of the block that holds a tree, behind its record, and the most words that fit.
 const BLOCK: usize = 320;
-const MOST_WORDS: usize = 9 * NODE_WIDTH;
+const MOST_WORDS: usize = 79;
 
 /// Standard input and standard output of the program.
 pub fn sample() -> (Vec<u8>, String) {

@@ -122,6 +122,7 @@ fn token_of(&[kind, detail, text, length, start, end]: &TokenRow) -> lexer::Toke
 /// Writes the original's tree as rows, parent first.
 struct Encoder {
     rows: Vec<NodeRow>,
+    /// The row whose children are written.
     parent: u32,
 }
 

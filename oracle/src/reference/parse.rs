@@ -62,8 +62,8 @@ struct Parser<'a> {
     most: usize,
     at: usize,
     rows: Vec<NodeRow>,
-    /// The rows of the nodes that are not closed yet, from the top down.
-    above: Vec<usize>,
+    /// The rows that are open, the innermost last.
+    open: Vec<usize>,
     /// The first `}` that stood in place of a `;`.
     left_off: Option<usize>,
 }
@@ -77,7 +77,7 @@ impl<'a> Parser<'a> {
             most,
             at: 0,
             rows: Vec::new(),
-            above: Vec::new(),
+            open: Vec::new(),
             left_off: None,
         }
     }
@@ -309,18 +309,18 @@ impl<'a> Parser<'a> {
     }
 
     fn open(&mut self, kind: u32, detail: u32, text: (u32, u32)) -> usize {
-        let parent = self.above.last().map_or(NO_PARENT, |&row| row as u32);
         let row = self.rows.len();
+        let parent = self.open.last().map_or(NO_PARENT, |&parent| parent as u32);
         self.rows
             .push([kind, detail, text.0, text.1, 0, 0, 0, parent]);
-        self.above.push(row);
+        self.open.push(row);
         row
     }
 
     fn close(&mut self, row: usize, span: (u32, u32)) {
         let next = self.rows.len() as u32;
         self.rows[row][4..7].copy_from_slice(&[span.0, span.1, next]);
-        assert_eq!(self.above.pop(), Some(row));
+        assert_eq!(self.open.pop(), Some(row));
     }
 }
 

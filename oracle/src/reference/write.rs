@@ -46,25 +46,27 @@ pub fn lawful_rows(words: &[u32]) -> Option<Vec<NodeRow>> {
     }
     let rows: Vec<NodeRow> = words
         .chunks(NODE_WIDTH)
-        .map(|row| row.try_into().expect("eight words"))
+        .map(|row| row.try_into().expect("the words of a row"))
         .collect();
     let mut at = 0;
     while at < rows.len() {
         at = top(&rows, at)?;
     }
-    parents_fit(&rows).then_some(rows)
+    parents_are_exact(&rows).then_some(rows)
 }
 
-/// Whether each row names its parent, in rows whose nexts are known to be exact: the last row before
-/// it whose subtree holds it.
-fn parents_fit(rows: &[NodeRow]) -> bool {
-    let mut above: Vec<usize> = Vec::new();
+/// Whether each row names the last row before it whose subtree it is in; `next` of every row is right.
+fn parents_are_exact(rows: &[NodeRow]) -> bool {
+    let mut around: Vec<usize> = Vec::new();
     rows.iter().enumerate().all(|(at, row)| {
-        while above.last().is_some_and(|&row| rows[row][6] as usize <= at) {
-            above.pop();
+        while around
+            .last()
+            .is_some_and(|&open| rows[open][6] as usize <= at)
+        {
+            around.pop();
         }
-        let parent = above.last().map_or(NO_PARENT, |&row| row as u32);
-        above.push(at);
+        let parent = around.last().map_or(NO_PARENT, |&open| open as u32);
+        around.push(at);
         row[7] == parent
     })
 }

@@ -6,7 +6,7 @@
 
 use crate::Refusal;
 use crate::items::{start_of_item, starts_an_item, starts_for_certain};
-use crate::raw::{NODE_WORDS, TOKEN_WORDS};
+use crate::raw::{NO_PARENT, NODE_WORDS, TOKEN_WORDS};
 use crate::rows::{NodeKind, NodeRows, Tokens};
 
 /// What parses and what does not.
@@ -107,6 +107,9 @@ pub(super) fn moved(row: &[u32], tokens: u32, rows: u32) -> [u32; NODE_WORDS] {
         moved[5] += tokens;
     }
     moved[6] += rows;
+    if moved[7] != NO_PARENT {
+        moved[7] += rows;
+    }
     moved
 }
 

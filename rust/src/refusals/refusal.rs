@@ -43,6 +43,11 @@ impl Refusal {
         Kind::from_number(self.found)
     }
 
+    /// What it says, without the source.
+    pub fn message(&self) -> String {
+        messages::message(self, None)
+    }
+
     /// Whether reading gives this number.
     pub fn is_reading(&self) -> bool {
         self.number < 30
@@ -57,8 +62,7 @@ impl Refusal {
 impl fmt::Display for Refusal {
     /// The number and what it says, without the source.
     fn fmt(&self, out: &mut fmt::Formatter<'_>) -> fmt::Result {
-        let message = messages::message(self, None);
-        write!(out, "refusal {}: {message}", self.number)
+        write!(out, "refusal {}: {}", self.number, self.message())
     }
 }
 

@@ -9,6 +9,7 @@ pub enum Call {
     Writing,
     Names,
     Linking,
+    Reals,
 }
 
 /// A source, or, for what no source shows, words.
@@ -283,7 +284,7 @@ pub const REFUSALS: &[Meaning] = &[
         call: Call::Writing,
         title: "words that are no tree",
         meaning: "The words are not those of a lawful tree, as parsing puts them down, of depth 64 or less.",
-        wrong: Example::Words("rows whose next is wrong"),
+        wrong: Example::Words("rows whose next or parent is wrong"),
         right: Example::Words("the rows that parsing put down"),
     },
     Meaning {
@@ -331,6 +332,33 @@ pub const REFUSALS: &[Meaning] = &[
         wrong: Example::Source(b"$EXTRN Stamp;\nF { e1 = <Stanp e1>; }"),
         right: Example::Source(b"$EXTRN Stamp;\nF { e1 = <Stamp e1>; }"),
     },
+    Meaning {
+        number: 64,
+        name: "NO_REAL",
+        call: Call::Reals,
+        title: "a text that is no real number",
+        meaning: "A real number is one number as it stands in rules, with a point or an E, and nothing before or after it.",
+        wrong: Example::Words("`15`, `1.5 `, `.5` or `1,5`"),
+        right: Example::Words("`15E0`, `1.5`, `0.5` or `-1.5`"),
+    },
+    Meaning {
+        number: 65,
+        name: "EXPONENT_TOO_LONG",
+        call: Call::Reals,
+        title: "an exponent that is too long",
+        meaning: "The number after the E has, leading zeros aside, at most nine digits.",
+        wrong: Example::Words("`1E1000000000`"),
+        right: Example::Words("`1E999999999`"),
+    },
+    Meaning {
+        number: 66,
+        name: "REAL_LONGER_THAN_OUTPUT",
+        call: Call::Reals,
+        title: "too few bytes for a real number",
+        meaning: "The number has more digits than bytes are lent. need is their number; a text has always more bytes than digits.",
+        wrong: Example::Words("one byte lent for the digits of `1.5`"),
+        right: Example::Words("two bytes lent"),
+    },
 ];
 
 impl Call {
@@ -341,6 +369,7 @@ impl Call {
             Self::Writing => "writing",
             Self::Names => "names",
             Self::Linking => "linking",
+            Self::Reals => "reals",
         }
     }
 }

@@ -1,6 +1,6 @@
 //! A view over node rows.
 
-use std::iter::FusedIterator;
+use std::iter::{self, FusedIterator};
 
 use super::{NodeKind, Tokens};
 use crate::raw::{self, NODE_WORDS};
@@ -146,6 +146,16 @@ impl<'a> Node<'a> {
     /// The row after the node and all below it.
     pub fn next(self) -> usize {
         self.word(6)
+    }
+
+    /// The node that it is a child of; none for declarations and functions.
+    pub fn parent(self) -> Option<Node<'a>> {
+        self.tree.get(self.word(7))
+    }
+
+    /// Its parent, that one's parent, and so on up to the declaration or function.
+    pub fn ancestors(self) -> impl Iterator<Item = Node<'a>> {
+        iter::successors(self.parent(), |node| node.parent())
     }
 
     pub fn children(self) -> Children<'a> {

@@ -13,6 +13,7 @@ pub enum Command {
     List,
     Diff,
     Link,
+    Real,
     Explain,
     Lsp,
 }
@@ -20,7 +21,7 @@ pub enum Command {
 impl Command {
     /// Whether its words are files.
     pub fn takes_files(self) -> bool {
-        !matches!(self, Self::Explain | Self::Lsp)
+        !matches!(self, Self::Real | Self::Explain | Self::Lsp)
     }
 
     /// Whether a folder stands for the files in it.
@@ -30,7 +31,7 @@ impl Command {
 }
 
 /// The commands by name.
-const COMMANDS: [(&str, Command); 11] = [
+const COMMANDS: [(&str, Command); 12] = [
     ("check", Command::Check),
     ("tokens", Command::Tokens),
     ("tree", Command::Tree),
@@ -40,6 +41,7 @@ const COMMANDS: [(&str, Command); 11] = [
     ("list", Command::List),
     ("diff", Command::Diff),
     ("link", Command::Link),
+    ("real", Command::Real),
     ("explain", Command::Explain),
     ("lsp", Command::Lsp),
 ];
@@ -108,7 +110,7 @@ pub fn parse(args: impl Iterator<Item = OsString>) -> Result<Parsed, String> {
             Some(option) if option.starts_with("--color=") => {
                 options.color = when(Some(OsStr::new(&option[8..])))?;
             }
-            Some(option) if option.starts_with('-') && option != "-" => {
+            Some(option) if option.starts_with('-') && option != "-" && !is_number(option) => {
                 return Err(format!("unknown option `{option}`"));
             }
             _ => words.push(arg),
@@ -136,6 +138,11 @@ pub fn parse(args: impl Iterator<Item = OsString>) -> Result<Parsed, String> {
     }
 }
 
+/// Whether a word is a number with a minus, which no option is.
+fn is_number(word: &str) -> bool {
+    word[1..].starts_with(|c: char| c.is_ascii_digit())
+}
+
 fn when(word: Option<&OsStr>) -> Result<When, String> {
     match word.and_then(OsStr::to_str) {
         Some("auto") => Ok(When::Auto),
@@ -157,6 +164,9 @@ fn command(word: &OsStr) -> Result<Command, String> {
 fn wrong(args: &Args) -> Option<String> {
     if args.command == Command::Lsp && !args.files.is_empty() {
         return Some("lsp takes no file: an editor sends them".into());
+    }
+    if args.command == Command::Real && args.files.is_empty() {
+        return Some("real takes texts: numbers with a point or an E".into());
     }
     if !args.command.takes_files() {
         return None;

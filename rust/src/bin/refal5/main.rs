@@ -15,6 +15,7 @@ mod man;
 mod output;
 mod page;
 mod progress;
+mod real;
 mod report;
 mod walk;
 
@@ -78,6 +79,7 @@ fn run(args: &Args) -> Status {
         Command::List => listing::run(args, &mut output, list::list),
         Command::Diff => diff::run(args, &mut output),
         Command::Link => link::run(args, &mut output),
+        Command::Real => real::run(args, &output),
         Command::Explain => explain::run(args, &output),
         Command::Lsp => lsp::run(),
     };

@@ -2,11 +2,11 @@
 //!
 //! Offsets count UTF-16 units, as the page's strings do. A token is its kind, the units since the last token's end and its
 //! own; each character of a literal has its own piece. A node is its kind, its first token less the last node's, the
-//! number of its tokens and the number of rows of its subtree.
+//! number of its tokens, the number of rows of its subtree and its row less its parent's, 0 where it has none.
 
 use std::fmt::Write;
 
-use refal5::raw::NODE_WORDS;
+use refal5::raw::{NO_PARENT, NODE_WORDS};
 use refal5::rows::{Kind, NodeKind, Tokens};
 use refal5::{Problem, Recovered, Span};
 
@@ -71,6 +71,8 @@ struct Node {
     end: usize,
     /// The row after its subtree.
     next: usize,
+    /// Its parent's row.
+    parent: Option<usize>,
 }
 
 impl Node {
@@ -117,6 +119,7 @@ fn from_row(row: &[u32]) -> Node {
         first: first as usize,
         end: last as usize + 1,
         next: row[6] as usize,
+        parent: (row[7] != NO_PARENT).then_some(row[7] as usize),
     }
 }
 
@@ -127,7 +130,9 @@ fn put_nodes(nodes: &[Node], out: &mut String) {
         let step = node.first as i64 - last;
         let count = node.end - node.first;
         let rows = node.next - index;
-        write!(out, "{part}{},{step},{count},{rows}", node.kind).expect("a string takes all");
+        let rise = node.parent.map_or(0, |parent| index - parent);
+        write!(out, "{part}{},{step},{count},{rows},{rise}", node.kind)
+            .expect("a string takes all");
         last = node.first as i64;
     }
 }
@@ -198,7 +203,7 @@ mod tests {
             of("$ENTRY Go{'a''b'=<F>;}".as_bytes()),
             "{\"source\":\"$ENTRY Go{'a''b'=\\u003cF>;}\",\
              \"tokens\":[1,0,6,3,1,2,7,0,1,6,1,1,18,0,2,18,0,1,15,1,1,11,0,1,3,0,1,12,0,1,16,0,1,8,0,1],\
-             \"nodes\":[15,0,12,8,4,3,8,7,6,0,3,4,11,0,1,1,11,1,1,1,11,1,1,1,6,2,3,2,14,0,3,1],\
+             \"nodes\":[15,0,12,8,0,4,3,8,7,1,6,0,3,4,1,11,0,1,1,1,11,1,1,1,2,11,1,1,1,3,6,2,3,2,5,14,0,3,1,1],\
              \"problems\":[],\"stopped\":false}"
         );
     }
@@ -208,7 +213,7 @@ mod tests {
         assert_eq!(
             of("F{'😀'=;}".as_bytes()),
             "{\"source\":\"F{'😀'=;}\",\"tokens\":[3,0,1,7,0,1,6,1,2,15,1,1,16,0,1,8,0,1],\
-             \"nodes\":[3,0,6,5,4,2,3,4,6,0,1,2,11,0,1,1,6,1,0,1],\"problems\":[],\"stopped\":false}"
+             \"nodes\":[3,0,6,5,0,4,2,3,4,1,6,0,1,2,1,11,0,1,1,1,6,1,0,1,3],\"problems\":[],\"stopped\":false}"
         );
     }
 

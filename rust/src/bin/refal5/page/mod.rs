@@ -22,6 +22,7 @@ const JS: &str = concat!(
     include_str!("js/source.js"),
     include_str!("js/tree.js"),
     include_str!("js/pane.js"),
+    include_str!("js/path.js"),
     include_str!("js/light.js"),
     include_str!("js/pointer.js"),
     include_str!("js/keyboard.js"),

@@ -20,22 +20,21 @@ const inLiteral = (t) => kind[t] === CHAR || kind[t] === SAME_LITERAL;
 const spelling = (t) => text.slice(start[t], end[t]);
 
 // Nodes: kind, first token, number of tokens, row after the subtree, parent, depth, number among its siblings.
-const nodes = data.nodes.length / 4;
+const nodes = data.nodes.length / 5;
 const nodeKind = new Uint8Array(nodes), first = new Uint32Array(nodes), count = new Uint32Array(nodes);
 const next = new Uint32Array(nodes), parent = new Int32Array(nodes), depth = new Uint16Array(nodes);
 const number = new Uint32Array(nodes), children = new Uint32Array(nodes);
 const owner = new Int32Array(tokens).fill(-1);
-for (let n = 0, at = 0, up = -1; n < nodes; n++) {
-  nodeKind[n] = data.nodes[4 * n];
-  first[n] = at += data.nodes[4 * n + 1];
-  count[n] = data.nodes[4 * n + 2];
-  next[n] = n + data.nodes[4 * n + 3];
-  while (up >= 0 && next[up] <= n) up = parent[up];
-  parent[n] = up;
+for (let n = 0, at = 0; n < nodes; n++) {
+  nodeKind[n] = data.nodes[5 * n];
+  first[n] = at += data.nodes[5 * n + 1];
+  count[n] = data.nodes[5 * n + 2];
+  next[n] = n + data.nodes[5 * n + 3];
+  const rise = data.nodes[5 * n + 4];
+  const up = parent[n] = rise ? n - rise : -1;
   depth[n] = up < 0 ? 0 : depth[up] + 1;
   number[n] = up < 0 ? 0 : children[up]++;
   own(n);
-  up = n;
 }
 data.tokens = data.nodes = null;
 

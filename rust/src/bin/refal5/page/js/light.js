@@ -24,6 +24,7 @@ function paint() {
     element.classList.toggle('at', n === chosen.node);
     element.setAttribute('aria-selected', n === chosen.node);
   }
+  climb(node);
   activate(source.element, byId('t' + chosen.token));
   activate(tree.element, byId('n' + chosen.node));
 }
