@@ -182,23 +182,6 @@ fn where_a_semicolon_may_lack() {
     }
 }
 
-/// Each row names its parent; a row that names another is no lawful tree's.
-#[test]
-fn parents() {
-    let src = "F{,A(B):{=;}=;}";
-    let rows = tree(src);
-    let parents: Vec<u32> = rows.iter().map(|row| row[7]).collect();
-    assert_eq!(parents, [NO_PARENT, 0, 1, 1, 3, 4, 4, 6, 3, 8, 9, 9, 1]);
-    for at in 0..rows.len() {
-        for other in [0, parents[at].wrapping_sub(1), parents[at].wrapping_add(1)] {
-            let mut rows = rows.clone();
-            rows[at][7] = other;
-            let refused = write::text(&rows.concat(), src.as_bytes()).is_err();
-            assert_eq!(refused, other != parents[at], "{at}: {other}");
-        }
-    }
-}
-
 #[test]
 fn depth() {
     for (open, close, found) in [("(", ")", 9), ("<G ", ">", 11)] {

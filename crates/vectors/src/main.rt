@@ -17,6 +17,18 @@ const RECORD: usize = 64;
 
 const TREE: usize = 320;
 
+// How much is lent at most, and the bytes of an input at most: what two digits say, and what fits into a record.
+const MOST_LENT: usize = 99;
+
+const MOST_INPUT: usize = 58;
+
+// A token for each byte, and Eof; two nodes for each token; the words of a tree that a block holds.
+const TOKEN_WORDS: usize = (MOST_INPUT + 1) * TOKEN_WIDTH;
+
+const NODE_WORDS: usize = 2 * (MOST_INPUT + 1) * NODE_WIDTH;
+
+const TREE_WORDS: usize = 79;
+
 // Two decimal digits; 0 for anything else.
 fn two(digits: [u8; 2]) -> usize
     ensures { result ≤ 99 }
@@ -90,7 +102,7 @@ fn tokens<'a>(input: &[u8], words: &'a mut [u32]) -> Option<&'a [u32]> {
 }
 
 fn nodes<'a>(tokens: &[u32], words: &'a mut [u32]) -> Option<&'a [u32]> {
-    rows(words, 8, |words, answer| {
+    rows(words, NODE_WIDTH, |words, answer| {
         refal5::refal5_parse(tokens, words, answer)
     })
 }
@@ -114,7 +126,7 @@ fn replay_tree<'a>(
     let Some((block, behind)) = after.split_first_chunk::<TREE>() else {
         return Ok(&after[..0]);
     };
-    let mut tree = [0u32; 79];
+    let mut tree = [0u32; TREE_WORDS];
     put_tree(block, &mut tree);
     if let Some(tree) = tree.get(..two([block[0], block[1]])) {
         put_bytes(rt, out, |out, answer| {
@@ -132,12 +144,12 @@ fn replay<'a>(rt: &impl Print, record: &[u8; RECORD], after: &'a [u8]) -> io::Re
     let Some(input) = record[5..63].get(..two([record[1], record[2]])) else {
         return Ok(&after[..0]);
     };
-    let mut bytes = [0xa5u8; 99];
+    let mut bytes = [0xa5u8; MOST_LENT];
     let out = &mut bytes[..lent];
-    let mut words = [0xa5a5_a5a5u32; 99];
+    let mut words = [0xa5a5_a5a5u32; MOST_LENT];
     let rows = &mut words[..lent];
-    let mut token_words = [0u32; 354];
-    let mut node_words = [0u32; 960];
+    let mut token_words = [0u32; TOKEN_WORDS];
+    let mut node_words = [0u32; NODE_WORDS];
     match record[0] {
         b'n' => put_bytes(rt, out, |out, answer| {
             refal5::refal5_canonical_name(input, out, answer)
