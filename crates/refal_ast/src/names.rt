@@ -9,7 +9,7 @@ use crate::answers::{Reason, Refusal};
 pub const PROGRAM_ENTRY_POINT: [u8; 2] = *b"Go";
 
 // The canonical form of a byte of an index: letters fold.
-fn index_byte(b: u8) -> u8
+pub fn index_byte(b: u8) -> u8
     ensures { result ≡ upper_byte b }
 {
     b.to_ascii_uppercase()

@@ -102,17 +102,25 @@ impl NodeKind {
     }
 }
 
-// Where the text of row i starts, and its length, whatever the row's kind.
+// The word of row i in a column, whatever the row's kind. That the row is there is asked here and of `read`: it is what refal_files' `Row` keeps.
+pub fn word(tree: &[u32], i: usize, column: usize) -> u32
+    requires { HasRow tree.now i × (column < node_width) }
+    ensures { result ≡ word_at tree.now i column }
+{
+    tree[WIDTH * i + column]
+}
+
+// Where the text of row i starts, and its length.
 pub fn text_start(tree: &[u32], i: usize) -> u32
     requires { HasRow tree.now i }
     ensures { result ≡ word_at tree.now i col_start }
 {
-    tree[WIDTH * i + START]
+    word(tree, i, START)
 }
 
 pub fn text_len(tree: &[u32], i: usize) -> u32
     requires { HasRow tree.now i }
     ensures { result ≡ word_at tree.now i col_len }
 {
-    tree[WIDTH * i + LEN]
+    word(tree, i, LEN)
 }

@@ -42,7 +42,7 @@ impl<'a> Files<'a> {
         self.one.count() + self.two.count()
     }
 
-    // Row g.
+    // Row g. Its number is of both files, so no type keeps that it is one without holding both.
     #[tactic(auto, unfolding(crate::specs::FileLaws::row_at))]
     pub fn row(&self, g: usize) -> Row<'a>
         requires { g < rows_of self.now }

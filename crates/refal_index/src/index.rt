@@ -7,7 +7,7 @@ use refal_ast::names::name_byte;
 use refal_files::Files;
 
 // The lent words: a link for each row, then the heads of buckets. There is no heap, so a bucket is a chain of row numbers: 0 ends
-// it, g + 1 goes on at row g.
+// it, g + 1 goes on at row g. One slice with two counts, and not two slices: the definitions' words are one list.
 #[derive(Drop)]
 pub struct Index<'w> {
     words: &'w mut [u32],

@@ -1,4 +1,5 @@
-// White space and comments: each scan gets the flag, whether a star would start a comment.
+// White space and comments: each scan gets the flag, whether a star would start a comment. It is a fact about the bytes before, which the
+// definitions carry as a Bool.
 ghost use Rattle.std.specs.Prelude.{◌≡◌, IfOk, IfErr, IfSome, false, ◌+◌, ◌≤◌, ◌<◌, length, drop};
 ghost use Rattle.refal_lexer.specs.Carried.{line_after};
 ghost use Rattle.refal_lexer.specs.Blanks.{white_len, close_to, comment_at};

@@ -94,7 +94,7 @@ fn put_next(start: Start, row: usize, rows: &mut [u32]) -> Result<Cursor, Fault>
         Class::Upper => {
             let scanned = start.name();
             let Ok(token) = scanned else {
-                // The fault as it is.
+                // 01 asks for `let .. else` at each caller of a scan. It binds no fault, so the scan's own answer goes on.
                 return scanned.map(|_| here);
             };
             Ok(put(token, row, rows))

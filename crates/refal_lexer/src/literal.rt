@@ -82,7 +82,7 @@ impl Start<'_> {
         requires { row ≤ self.at }
         ensures { step_told result ≡ end_of self.entry.at row (lit_from quote.byte 0 1 0 (drop 1 self.entry.src.now)) }
     {
-        // By index, since a character has one byte to four.
+        // By index: a step is a character, of one byte to four or a doubled quote, and the bytes need not be UTF-8 here.
         let mut i = 1;
         let mut n = 0;
         while i < self.src.len() {
@@ -132,7 +132,7 @@ impl Start<'_> {
     {
         let scanned = self.behind(row, quote);
         let Ok(next) = scanned else {
-            // The fault as it is.
+            // As in `put_next`: the fault goes on in the scan's own answer.
             return scanned;
         };
         self.put_chars(next.at, quote, rows, row);

@@ -43,7 +43,8 @@ pub fn digits(src: &[u8], at: usize) -> Whole
     ensures within { result.end ≤ length src.now }
     ensures worth { result.worth ≡ macrodigit (drop at src.now) }
 {
-    // By index: `run_end` and a fold over the run, which proves, reads literals at three quarters of the speed and numbers at four fifths.
+    // By index, in one pass, since the end and the worth come together: `run_end` and then a fold over the run proves too, goes over it twice, and reads
+    // numbers at four fifths of the speed.
     let mut end = at;
     let mut worth = Some(0u32);
     while end < src.len() && src[end].is_ascii_digit() {
@@ -54,7 +55,8 @@ pub fn digits(src: &[u8], at: usize) -> Whole
     Whole { end, worth }
 }
 
-// Where the digits of a part start: at `at`, or behind a sign there, if the part is signed.
+// Where the digits of a part start: at `at`, or behind a sign there, if the part is signed. A flag: it says what the part is, and a
+// closure for one test would say no more.
 fn past_sign(src: &[u8], at: usize, signed: bool) -> usize
     requires { at ≤ length src.now }
     ensures { (result ≡ at + sign_bytes signed (drop at src.now)) × (at ≤ result) × (result ≤ length src.now) }
@@ -114,6 +116,7 @@ impl Start<'_> {
         ensures { scan_told result ≡ number_scan self.entry.at from self.entry.src.now }
     {
         let digits = digits(self.src, from);
+        // By `match`: with `map_err` over a closure that holds the start the proof did not close.
         let to = match fraction(self.src, digits.end) {
             Ok(to) => to,
             Err(bare) => return Err(self.over(Reason::FractionMissing, bare.end)),

@@ -1,4 +1,4 @@
-// Where a run of bytes that pass a test ends.
+// Where a run of bytes that pass a test ends. By its place in the bytes, as in number.rt.
 ghost use Rattle.std.specs.Prelude.{◌≡◌, ℕ, Bool, ◌+◌, ◌≤◌, length, drop};
 ghost use Rattle.refal_text.specs.Span.{span};
 ghost use Rattle.refal_lexer.specs.Classes.{name_byte};

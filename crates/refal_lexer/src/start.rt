@@ -7,7 +7,7 @@ use refal_ast::kinds::TokenKind;
 use refal_ast::tokens::Token;
 
 // What is left of a source.
-#[derive(Clone, Copy, Debug)]
+#[derive(Clone, Copy, Debug, PartialEq, Eq)]
 pub struct Rest<'a> {
     pub src: &'a [u8],
     pub at: usize,
@@ -15,7 +15,7 @@ pub struct Rest<'a> {
 }
 
 // Where a token or a comment starts: a byte or more is left.
-#[derive(Clone, Copy, Debug)]
+#[derive(Clone, Copy, Debug, PartialEq, Eq)]
 pub struct Start<'a> {
     pub src: &'a [u8],
     pub at: usize,
@@ -119,12 +119,9 @@ impl Start<'_> {
         ensures { token_told result ≡ token (token_code kind) 0 self.entry.at len self.entry.at (self.entry.at + len) }
     {
         Token {
-            kind,
-            detail: 0,
             start: self.at as u32,
             len: len as u32,
-            from: self.at as u32,
-            to: (self.at + len) as u32,
+            ..self.bare(kind, len)
         }
     }
 

@@ -62,12 +62,10 @@ impl Start<'_> {
         ensures { token_told result ≡ token tok_variable b (self.entry.at + skip) (len - skip) self.entry.at (self.entry.at + len) }
     {
         Token {
-            kind: TokenKind::Variable,
             detail: u32::from(b),
             start: (self.at + skip) as u32,
             len: (len - skip) as u32,
-            from: self.at as u32,
-            to: (self.at + len) as u32,
+            ..self.bare(TokenKind::Variable, len)
         }
     }
 

@@ -121,7 +121,7 @@ impl<'t> Place<'t> {
         Ok(end)
     }
 
-    // The call that opens at the place.
+    // The call that opens at the place. Apart from `bracket`, since a name with a refusal of its own stands between.
     #[cycle(bracket_call_terms_until)]
     fn call(self, rows: &mut [u32], level: Level) -> Result<Place<'t>, SyntaxError>
         requires { Few self.row self.at 2 × (term_at self.tokens.now self.at ≡ Call) }
@@ -172,7 +172,7 @@ impl<'t> Place<'t> {
     }
 
     // Whether one of two kinds stands after terms, or after a block. After terms Eof is 35 and another kind 34; after a block another
-    // kind is 35.
+    // kind is 35. `terms` is a flag: what it chooses is one refusal, and an enum would say no more than its name.
     pub fn follows(self, terms: bool, also: TokenKind, want: TokenKind) -> Result<(), SyntaxError>
         ensures { FollowsPost self.entry terms (token_code also) (token_code want) result }
     {

@@ -18,7 +18,7 @@ use crate::parts::Parts;
 use refal_ast::answers::{Reason, Refusal};
 
 // A form: its sign, its power of ten and its digits.
-#[derive(Clone, Copy, PartialEq)]
+#[derive(Clone, Copy, Debug, PartialEq)]
 struct Form<'a> {
     minus: bool,
     power: i64,

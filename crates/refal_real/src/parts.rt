@@ -6,7 +6,7 @@ use refal_ast::limits;
 use refal_lexer::{class, number};
 
 // A real's sign, its digits before and behind the point, and its exponent: an E, a sign or none and digits, or nothing.
-#[derive(Clone, Copy, Debug)]
+#[derive(Clone, Copy, Debug, PartialEq)]
 pub struct Parts<'a> {
     pub minus: bool,
     pub digits: Digits<'a>,

@@ -87,6 +87,8 @@ fn row_spelled(node: Node, src: &[u8]) -> bool
 pub fn spellings(tree: &[u32], src: &[u8]) -> bool
     ensures { result ≡ all_spelled src.now tree.now }
 {
+    // Not by `all`: a row of an unknown kind passes, and a `for` says so plainly. Tree and source are apart here: refal_files, whose
+    // `File` joins them, stands above.
     for row in tree.chunks_exact(nodes::WIDTH) {
         let Ok(node) = Node::read(row, 0) else {
             continue;

@@ -7,7 +7,7 @@ ghost use Rattle.refal_text.specs.Told.{char_told, place_told};
 ghost use Rattle.refal_text.specs.White.{white_space};
 ghost use Rattle.refal_text.specs.Span.{span};
 
-// A character and how many bytes it has.
+// A character and how many bytes it has. No ghost field keeps that these are some: the definitions have a `Char` of no bytes for none.
 #[derive(Clone, Copy, Debug, PartialEq, Eq)]
 pub struct Char {
     pub code: u32,
@@ -21,7 +21,7 @@ pub fn byte(src: &[u8], i: usize) -> u8
     src.get(i).copied().unwrap_or(0)
 }
 
-// How many one bits a lead byte begins with.
+// How many one bits a lead byte begins with: 01 names the leading zeros of the complement.
 pub fn lead(a: u8) -> u32
     ensures { result ≡ leads a }
 {
@@ -133,7 +133,8 @@ fn ascii_run(src: &[u8]) -> usize
     at + src[at..].iter().take_while(|b| b.is_ascii()).count()
 }
 
-// Where the first ill-formed sequence stands, if there is one. By index: the step is a run, or the bytes of a character.
+// Where the first ill-formed sequence stands, if there is one. By `decode`, which scans go by too, so that the table stands once; std's `from_utf8` would
+// be a second one. By index: the step is a run, or the bytes of a character.
 #[tactic(auto, using(crate::specs::Utf8Laws::well_ascii_run, crate::specs::Utf8Laws::well_end, crate::specs::Utf8Laws::well_stop, crate::specs::Utf8Laws::well_step))]
 pub fn ill_formed(src: &[u8]) -> Option<usize>
     ensures told { place_told (length src.now) result ≡ well_to 0 src.now }
@@ -157,8 +158,5 @@ pub fn ill_formed(src: &[u8]) -> Option<usize>
 pub fn is_white(x: u32) -> bool
     ensures { result ≡ white_space x }
 {
-    matches!(
-        x,
-        9..=13 | 32 | 133 | 160 | 5760 | 8192..=8202 | 8232 | 8233 | 8239 | 8287 | 12288
-    )
+    char::from_u32(x).is_some_and(|c| c.is_whitespace())
 }

@@ -2,7 +2,7 @@
 #![tactic(auto)]
 
 mod fields;
-mod kinds;
+pub mod kinds;
 pub mod states;
 
 ghost use Rattle.std.specs.Prelude.{◌≡◌, ◌*◌, ◌≤◌, length};
