@@ -69,7 +69,7 @@ unfolding first_unbound is_unbound is_use bound_by is_variable scope enc_p enc_b
 unbound = (refl, refl)
 
 -- F{e.1=;=e.1;}
-sentence_ends : Finds (file (b_all (s_more (s_more s0 (rule (of e_1) c0 (e_terms none))) (rule none c0 (e_terms (of e_1)))))) (Some 7) false
+sentence_ends : Finds (file (b_all (s_more (s_more s0 (rule (of e_1) c0 (e_terms none))) (rule none c0 (e_terms (of e_1)))))) (Some 8) false
 unfolding first_unbound is_unbound is_use bound_by is_variable scope enc_p enc_b enc_t size_p size_b size_t canonical_index same_list passes passes_body variables binds is_bound all_bound
 sentence_ends = (refl, refl)
 

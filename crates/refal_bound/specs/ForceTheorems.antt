@@ -296,3 +296,7 @@ passes_exactly w s = passes_lem w s
 
 pub finds_first : FindsFirst
 finds_first w s u = finds_lem w s u
+
+-- the row that is found is a variable
+pub found_variable : (w s : List ℕ) (u : ℕ) → first_unbound w s ≡ Some u → kind_at w u ≡ node_variable
+found_variable w s u e = ((finds_lem w s u).0 e).0.used.variable

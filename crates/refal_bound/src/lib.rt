@@ -6,7 +6,7 @@ ghost use Rattle.refal_ast.specs.KindCodes.{node_code};
 ghost use Rattle.refal_ast.specs.Nodes.{whole_rows};
 ghost use Rattle.refal_files.specs.FileLaws.{row_count};
 ghost use Rattle.refal_bound.specs.Bound.{binds_in, is_use, is_variable, bound_by, is_unbound, first_unbound, index_at};
-ghost use Rattle.refal_bound.specs.View.{RowAt, IsPattern};
+ghost use Rattle.refal_bound.specs.View.{RowAt, IsPattern, IsFirst};
 ghost use Rattle.refal_tree.specs.Ranges.{kind_at, detail_at};
 
 use refal_ast::kinds::NodeKind;
@@ -156,10 +156,20 @@ fn is_unbound(file: &File, u: usize) -> bool
 }
 
 // The row of the first variable that is used unbound.
-#[tactic(auto, unfolding(crate::specs::Bound::first_unbound))]
-pub fn first_unbound(file: &File) -> Option<usize>
+fn first_unbound(file: &File) -> Option<usize>
     requires { whole_rows file.now.tree.now ≡ true }
     ensures { result ≡ first_unbound file.now.tree.now file.now.source.now }
 {
     (0..file.count()).find(|u| is_unbound(file, *u))
+}
+
+// The first variable that is used unbound.
+pub fn unbound(file: &File) -> Option<Node>
+    requires { whole_rows file.now.tree.now ≡ true }
+    ensures { IsFirst file.now.tree.now file.now.source.now result }
+{
+    match first_unbound(file) {
+        Some(u) => row(file.tree, u),
+        None => None,
+    }
 }

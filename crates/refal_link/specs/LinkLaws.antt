@@ -23,6 +23,7 @@ use Rattle.refal_spelling.specs.Spellings.{all_spelled}
 use Rattle.refal_files.specs.Files.{Placed, text_of, both_rows, of_kind}
 use Rattle.refal_files.specs.FileLaws.{both_count, row_at, rows_from, rows_end, kind_in, kind_out, kind_end}
 use Rattle.refal_index.specs.Named.{answers_to, seen}
+use Rattle.refal_link.specs.Unbound.{both_bound}
 use Rattle.refal_link.specs.Link.{functions, declared, calls, among, repeated, missing, shown, shown_at, resolved, linked, checked, link_answer}
 
 -- ---- lawful words are not too many
@@ -31,6 +32,10 @@ unfolding lawful
 lawful_length w h =
     leb-true (length w) (node_width * most_rows)
     (and_right (whole_rows w) (leb (length w) (node_width * most_rows)) (and_left (whole_rows w && leb (length w) (node_width * most_rows)) (found (tree_of most_levels w)) h))
+
+pub lawful_whole : (w : List ℕ) → lawful w ≡ true → whole_rows w ≡ true
+unfolding lawful
+lawful_whole w h = and_left (whole_rows w) (leb (length w) (node_width * most_rows)) (and_left (whole_rows w && leb (length w) (node_width * most_rows)) (found (tree_of most_levels w)) h)
 
 -- ---- the functions before g, newest first
 unfoldable pub earlier : (ℕ → Placed) → ℕ → List Placed
@@ -248,6 +253,6 @@ pub passed : (w s : List ℕ) (rest : Answer) → lawful w ≡ true → all_spel
 passed w s rest a b = rw (a, b) refl
 
 module _ (w₁ s₁ w₂ s₂ : List ℕ) (a : lawful w₁ ≡ true) (b : all_spelled s₁ w₁ ≡ true) where
-  pub both_checked : lawful w₂ ≡ true → all_spelled s₂ w₂ ≡ true → linked (both_rows w₁ s₁ w₂ s₂) ≡ link_answer w₁ s₁ w₂ s₂
+  pub both_checked : lawful w₂ ≡ true → all_spelled s₂ w₂ ≡ true → both_bound w₁ s₁ w₂ s₂ (linked (both_rows w₁ s₁ w₂ s₂)) ≡ link_answer w₁ s₁ w₂ s₂
   unfolding link_answer
   both_checked c d = sym (passed w₁ s₁ _ a b ∙ passed w₂ s₂ _ c d)

@@ -9,6 +9,7 @@ use Rattle.refal_files.specs.declared.File.{File}
 use Rattle.refal_files.specs.declared.Files.{Files}
 use Rattle.refal_link.specs.Link.{functions, repeated, shown, resolved, linked, refuse, checked, link_answer}
 use Rattle.refal_link.specs.LinkLaws.{lost}
+use Rattle.refal_link.specs.Unbound.{bound, both_bound}
 
 -- the rows of both
 abbrev pub rows : Files → List Placed
@@ -44,7 +45,15 @@ pub linked_is : (f : Files) → shown 60 (repeated [] (functions (rows f))) (res
 unfolding linked
 linked_is f = refl
 
--- file one's 40 and 41 come first, then file two's
-pub answer_is : (f : Files) → checked_file f.one (checked_file f.two (linked (rows f))) ≡ answer_for f
+-- what 62 makes of an answer
+abbrev pub after_bound : Files → Answer → Answer
+after_bound f = both_bound f.one.tree.now f.one.source.now f.two.tree.now f.two.source.now
+
+-- 62 of a file, before the rest
+abbrev pub bound_file : ℕ → File → Answer → Answer
+bound_file which f = bound which f.tree.now f.source.now
+
+-- file one's 40 and 41 come first, then file two's, then all of 60 and 61, then 62
+pub answer_is : (f : Files) → checked_file f.one (checked_file f.two (after_bound f (linked (rows f)))) ≡ answer_for f
 unfolding link_answer
 answer_is f = refl
