@@ -7,3 +7,5 @@ pub mod Cases
 pub mod View
 pub mod BoundLaws
 pub mod ForceTheorems
+pub mod Rows
+pub mod Parts
