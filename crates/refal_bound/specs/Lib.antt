@@ -9,3 +9,4 @@ pub mod BoundLaws
 pub mod ForceTheorems
 pub mod Rows
 pub mod Parts
+pub mod WalkTheorems
