@@ -1,5 +1,6 @@
 -- The code's files and answers as Link.antt has them.
 use Rattle.std.specs.Prelude.{ℕ, Bool, true, false, List, [], ◌≡◌, refl, Result, Ok, Err}
+use Rattle.std.proofs.Common.{◌∙◌}
 use Rattle.refal_ast.specs.Told.{reason_code, refusal_told}
 use Rattle.refal_ast.specs.Answers.{Answer, Refused}
 use Rattle.refal_ast.specs.declared.answers.Reason.{Reason}
@@ -57,3 +58,9 @@ bound_file which f = bound which f.tree.now f.source.now
 pub answer_is : (f : Files) → checked_file f.one (checked_file f.two (after_bound f (linked (rows f)))) ≡ answer_for f
 unfolding link_answer
 answer_is f = refl
+
+-- where both files pass 40 and 41
+pub checked_both : (f : Files) → ((rest : Answer) → rest ≡ checked_file f.one rest) → ((rest : Answer) → rest ≡ checked_file f.two rest) → after_bound f (linked (rows f)) ≡ answer_for f
+checked_both f one two =
+    let a = after_bound f (linked (rows f)) in
+    two a ∙ one (checked_file f.two a) ∙ answer_is f
