@@ -7,6 +7,7 @@ pub mod Cases
 pub mod View
 pub mod BoundLaws
 pub mod ForceTheorems
+pub mod Climb
 pub mod Rows
 pub mod Parts
 pub mod WalkTheorems

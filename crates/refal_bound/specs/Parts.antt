@@ -11,6 +11,7 @@ use Rattle.refal_bound.specs.Bound.{scope}
 use Rattle.refal_bound.specs.Force.{Variable, PatternOf, first, behind, Binds, Use, InForce, variable_at, Bound}
 use Rattle.refal_bound.specs.ForceTheorems.{pattern_scope}
 use Rattle.refal_bound.specs.Walks.{same_variable, is_bound, all_bound}
+use Rattle.refal_bound.specs.Climb.{Climbs, direct, lift}
 
 -- ---- lists of variables
 same_is : (x y : Variable) → same_variable x y ≡ true → x ≡ y
@@ -127,6 +128,7 @@ module _ (w s : List ℕ) where
     pub leads : Open J bound i → Open J bound' k
     pub fine : Open J bound i → ok ≡ true → Fine i k
     pub ok_if : Open J bound i → Fine i k → ok ≡ true
+    pub climbs : (t b : ℕ) → i ≤ t → t < k → kind_at w t ≡ node_terms → t < b → b < next_at w t → Climbs w t b
 
   known_up : (J i k : ℕ) (x : Variable) → i ≤ k → Known J i x → Known J k x
   known_up J i k x l K =
@@ -140,6 +142,7 @@ module _ (w s : List ℕ) where
     leads = λ O. O;
     fine = λ O e. λ u lo hi U. absurd (omega arith);
     ok_if = λ O F. refl;
+    climbs = λ t b lo hi z l h. absurd (omega arith);
   }
 
   pub part_then : {J : ℕ} {b₁ b₂ b₃ : List Variable} {x y : Bool} {i k l : ℕ} → Part J b₁ b₂ x i k → Part J b₂ b₃ y k l → Part J b₁ b₃ (x && y) i l
@@ -151,6 +154,7 @@ module _ (w s : List ℕ) where
         inner = λ a t A lo hi. split (λ m. P.inner a t A lo m) (λ m. Q.inner a t A m hi) (dec_le (t + 1) k);
         leads = λ O. Q.leads (P.leads O);
         fine = λ O e. λ u lo hi U. split (λ m. P.fine O (and_left x y e) u lo m U) (λ m. Q.fine (P.leads O) (and_right x y e) u m hi U) (dec_le (u + 1) k);
+        climbs = λ t c lo hi z m h. split (λ n. P.climbs t c lo n z m h) (λ n. Q.climbs t c n hi z m h) (dec_le (t + 1) k);
         ok_if = λ O F. both (P.ok_if O (λ u lo hi U. F u lo (omega arith) U)) (Q.ok_if (P.leads O) (λ u lo hi U. F u (omega arith) hi U));
       }
     where
@@ -173,6 +177,7 @@ module _ (w s : List ℕ) where
     };
     fine = λ O e. λ u lo hi U. let z : u ≡ i = omega arith in absurd (m (ap (kind_at w) (sym z) ∙ U.variable));
     ok_if = λ O F. refl;
+    climbs = λ t b lo hi k l h. let z : t ≡ i = omega arith in absurd (n (ap (kind_at w) (sym z) ∙ k));
   }
     where
       clear : Open J bound i → (q t : ℕ) → PatternOf w q t → t < i + 1 → Dec (t + 1 ≤ i) → next_at w t ≤ i + 1
@@ -197,6 +202,7 @@ module _ (w s : List ℕ) where
         };
         fine = λ O e. P.fine (within O) e;
         ok_if = λ O F. P.ok_if (within O) F;
+        climbs = P.climbs;
       }
     where
       within : Open J bound i → Open x bound i
@@ -219,33 +225,36 @@ module _ (w s : List ℕ) where
     pub variable : kind_at w row ≡ node_variable
     pub is : V row ≡ x
 
-  -- ---- terms: rows i to k hold no Terms row, and their variables are these
-  pub record InTerms (xs : List Variable) (i k : ℕ) : Type 0 where
+  -- ---- terms: rows i to k hold no Terms row, stand below row q, and their variables are these
+  pub record InTerms (q : ℕ) (xs : List Variable) (i k : ℕ) : Type 0 where
     pub le : i ≤ k
     pub no_terms : (t : ℕ) → i ≤ t → t < k → kind_at w t ≡ node_terms → ⊥
     pub here : (b : ℕ) → i ≤ b → b < k → kind_at w b ≡ node_variable → is_bound xs (V b) ≡ true
     pub there : (x : Variable) → is_bound xs x ≡ true → Among i k x
+    pub climbs : (b : ℕ) → i ≤ b → b < k → Climbs w q b
 
   among_in : (i k j l : ℕ) (x : Variable) → j ≤ i → k ≤ l → Among i k x → Among j l x
   among_in i k j l x m n A = let lo = A.lo in let hi = A.hi in record { row = A.row; lo = omega arith; hi = omega arith; variable = A.variable; is = A.is }
 
-  pub in_none : (i : ℕ) → InTerms [] i i
-  in_none i = record {
+  pub in_none : (q i : ℕ) → InTerms q [] i i
+  in_none q i = record {
     le = le_refl _;
     no_terms = λ t lo hi e. absurd (omega arith);
     here = λ b lo hi e. absurd (omega arith);
     there = λ x e. none_bound x e;
+    climbs = λ b lo hi. absurd (omega arith);
   }
 
-  pub in_then : {xs ys : List Variable} {i k l : ℕ} → InTerms xs i k → InTerms ys k l → InTerms (xs ++ ys) i l
-  in_then {xs} {ys} {i} {k} {l} A B =
-      let p = A.le in
-      let q = B.le in
+  pub in_then : {q : ℕ} {xs ys : List Variable} {i k l : ℕ} → InTerms q xs i k → InTerms q ys k l → InTerms q (xs ++ ys) i l
+  in_then {q} {xs} {ys} {i} {k} {l} A B =
+      let a = A.le in
+      let b = B.le in
       record {
         le = omega arith;
         no_terms = λ t lo hi e. split (λ m. A.no_terms t lo m e) (λ m. B.no_terms t m hi e) (dec_le (t + 1) k);
-        here = λ b lo hi e. split (λ m. bound_left xs ys (V b) (A.here b lo m e)) (λ m. bound_right xs ys (V b) (B.here b m hi e)) (dec_le (b + 1) k);
-        there = λ x e. bound_cases xs ys x e (λ h. among_in i k i l x (le_refl _) q (A.there x h)) (λ h. among_in k l i l x p (le_refl _) (B.there x h));
+        here = λ v lo hi e. split (λ m. bound_left xs ys (V v) (A.here v lo m e)) (λ m. bound_right xs ys (V v) (B.here v m hi e)) (dec_le (v + 1) k);
+        climbs = λ v lo hi. split (λ m. A.climbs v lo m) (λ m. B.climbs v m hi) (dec_le (v + 1) k);
+        there = λ x e. bound_cases xs ys x e (λ h. among_in i k i l x (le_refl _) b (A.there x h)) (λ h. among_in k l i l x a (le_refl _) (B.there x h));
       }
     where
       split : {C : Type 0} {t : ℕ} → (t < k → C) → (k ≤ t → C) → Dec (t + 1 ≤ k) → C
@@ -253,16 +262,21 @@ module _ (w s : List ℕ) where
       split {C} {t} f g (no m) = g (omega arith)
 
   -- a row that is neither Terms nor a variable, before terms
-  pub in_row : {xs : List Variable} (i k : ℕ) → (kind_at w i ≡ node_terms → ⊥) → (kind_at w i ≡ node_variable → ⊥) → InTerms xs (i + 1) k → InTerms xs i k
-  in_row {xs} i k n m A =
+  pub in_row : {q : ℕ} {xs : List Variable} (i k : ℕ) → (kind_at w i ≡ node_terms → ⊥) → (kind_at w i ≡ node_variable → ⊥) → parent_at w i ≡ q → q < i → InTerms i xs (i + 1) k → InTerms q xs i k
+  in_row {q} {xs} i k n m f l A =
       let p = A.le in
       record {
         le = omega arith;
         no_terms = λ t lo hi e. terms t lo hi e (dec_le (i + 1) t);
         here = λ b lo hi e. here b lo hi e (dec_le (i + 1) b);
         there = λ x e. among_in (i + 1) k i k x (omega arith) (le_refl _) (A.there x e);
+        climbs = λ b lo hi. climbs b lo hi (dec_le (i + 1) b);
       }
     where
+      climbs : (b : ℕ) → i ≤ b → b < k → Dec (i + 1 ≤ b) → Climbs w q b
+      climbs b lo hi (yes h) = lift w q i b n f l (A.climbs b h hi)
+      climbs b lo hi (no h) = let z : i ≡ b = omega arith in subst (Climbs w q) z (direct i n f l)
+
       terms : (t : ℕ) → i ≤ t → t < k → kind_at w t ≡ node_terms → Dec (i + 1 ≤ t) → ⊥
       terms t lo hi e (yes h) = A.no_terms t h hi e
       terms t lo hi e (no h) = let z : i ≡ t = omega arith in n (ap (kind_at w) z ∙ e)
@@ -272,8 +286,9 @@ module _ (w s : List ℕ) where
       here b lo hi e (no h) = let z : i ≡ b = omega arith in absurd (m (ap (kind_at w) z ∙ e))
 
   -- a variable's row
-  pub in_variable : (x : Variable) (i : ℕ) → kind_at w i ≡ node_variable → V i ≡ x → InTerms (x ∷ []) i (i + 1)
-  in_variable x i k e = record {
+  pub in_variable : {q : ℕ} (x : Variable) (i : ℕ) → kind_at w i ≡ node_variable → parent_at w i ≡ q → q < i → V i ≡ x → InTerms q (x ∷ []) i (i + 1)
+  in_variable {q} x i k f l e = record {
+    climbs = λ b lo hi. let z : i ≡ b = omega arith in subst (Climbs w q) z (direct i (λ h. let y = sym k ∙ h in omega arith) f l);
     le = omega arith;
     no_terms = λ t lo hi h. let z : i ≡ t = omega arith in let y = ap (kind_at w) z ∙ h in absurd (omega arith);
     here = λ b lo hi h. let z : b ≡ i = omega arith in subst (λ (y : Variable). is_bound (x ∷ []) y ≡ true) (sym (ap V z ∙ e)) (bound_one x);
@@ -281,7 +296,7 @@ module _ (w s : List ℕ) where
   }
 
   -- ---- a Terms row and its terms
-  module _ (J : ℕ) (bound xs : List Variable) (i x : ℕ) (A : InTerms xs (i + 1) x) (kind : kind_at w i ≡ node_terms) where
+  module _ (J : ℕ) (bound xs : List Variable) (i x : ℕ) (A : InTerms i xs (i + 1) x) (kind : kind_at w i ≡ node_terms) (next : x ≡ next_at w i) where
     not_variable : (b : ℕ) → kind_at w b ≡ node_variable → i ≤ b → i + 1 ≤ b
     not_variable b e lo = go (dec_le (i + 1) b)
       where
@@ -289,8 +304,19 @@ module _ (w s : List ℕ) where
         go (yes h) = h
         go (no h) = let z : i ≡ b = omega arith in let y = ap (kind_at w) z ∙ e in absurd (omega arith)
 
+    -- whatever they are
+    its_climbs : (t b : ℕ) → i ≤ t → t < x → kind_at w t ≡ node_terms → t < b → b < next_at w t → Climbs w t b
+    its_climbs t b lo hi k l h = go (dec_le (i + 1) t)
+      where
+        go : Dec (i + 1 ≤ t) → Climbs w t b
+        go (yes m) = absurd (A.no_terms t m hi k)
+        go (no m) =
+            let z : i ≡ t = omega arith in
+            let n = ap (next_at w) z in
+            subst (λ (y : ℕ). Climbs w y b) z (A.climbs b (omega arith) (omega arith))
+
     -- a pattern binds
-    module _ (q : ℕ) (P : PatternOf w q i) (next : x ≡ next_at w i) (end : next_at w q ≡ J) where
+    module _ (q : ℕ) (P : PatternOf w q i) (end : next_at w q ≡ J) where
       its : (p t : ℕ) → PatternOf w p t → i ≤ t → t < x → t ≡ i
       its p t T lo hi = go (dec_le (i + 1) t)
         where
@@ -312,6 +338,7 @@ module _ (w s : List ℕ) where
               known = λ y e. bound_cases bound xs y e (λ h. known_up J i x y (omega arith) (O.known y h)) (λ h. new y (A.there y h));
               all = λ p b B h m. all O p b B h m (dec_le (b + 1) i);
             };
+            climbs = its_climbs;
             fine = λ O e. λ u lo hi U. absurd (U.free q (binds_here u (not_variable u U.variable lo) hi U.variable));
             ok_if = λ O F. refl;
           }
@@ -349,6 +376,7 @@ module _ (w s : List ℕ) where
           record {
             le = omega arith;
             inner = λ p t T lo hi. absurd (no_pattern p t T lo hi);
+            climbs = its_climbs;
             leads = λ O. record {
               clear = λ p t T h. clear O p t T h (dec_le (t + 1) i);
               known = λ y e. known_up J i x y (omega arith) (O.known y e);

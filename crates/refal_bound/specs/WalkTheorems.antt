@@ -26,6 +26,7 @@ use Rattle.refal_bound.specs.Force.{Variable, PatternOf, first, behind, Use, Pas
 use Rattle.refal_bound.specs.ForceTheorems.{passes_exactly}
 use Rattle.refal_bound.specs.Rows.{Row_at, Lies, lies_tree}
 use Rattle.refal_bound.specs.Parts.{not_pattern, V, Open, Fine, Part, part_none, part_then, part_row, close, InTerms, in_none, in_then, in_row, in_variable, part_pattern, part_use, none_bound}
+use Rattle.refal_bound.specs.Climb.{Climbs}
 use Rattle.refal_bound.specs.Walks.{all_bound, variables_term, variables, binds_right, binds_condition, binds, passes_right, passes_condition, passes_conditions, passes_end, passes_sentence, passes_sentences, passes_body, passes_item, passes, items, WalkAgrees, OrderFree}
 
 module _ (w s : List ℕ) where
@@ -36,52 +37,53 @@ module _ (w s : List ℕ) where
   -- ---- terms
   record TermsTo (xs : List Variable) (i j q : ℕ) (g : Forest) : Type 0 where
     end : ℕ
-    terms : InTerms w s xs i end
+    terms : InTerms w s q xs i end
     rest : Lies w end j q g
 
   -- a row that is neither Terms nor a variable, and those below it
-  over : {xs : List Variable} {i j q : ℕ} {r : Row} {g : Forest} → Row_at w i j q r → (r.kind ≡ node_terms → ⊥) → (r.kind ≡ node_variable → ⊥) → TermsTo xs (i + 1) (next_at w i) i empty → Lies w (next_at w i) j q g → TermsTo xs i j q g
+  over : {xs : List Variable} {i j q : ℕ} {r : Row} {g : Forest} → Row_at w i j q r → (r.kind ≡ node_terms → ⊥) → (r.kind ≡ node_variable → ⊥) → q < i → TermsTo xs (i + 1) (next_at w i) i empty → Lies w (next_at w i) j q g → TermsTo xs i j q g
   unfolding Lies
-  over {xs} {i} {j} {q} {r} {g} R n m T L =
+  over {xs} {i} {j} {q} {r} {g} R n m b T L =
       let k = kind_of R in
       record {
         end = next_at w i;
-        terms = in_row w s i (next_at w i) (λ e. n (sym k ∙ e)) (λ e. m (sym k ∙ e)) (subst (InTerms w s xs (i + 1)) T.rest T.terms);
+        terms = in_row w s i (next_at w i) (λ e. n (sym k ∙ e)) (λ e. m (sym k ∙ e)) R.parent b (subst (InTerms w s i xs (i + 1)) T.rest T.terms);
         rest = L;
       }
 
-  leaf_rows : (x : Leaf) (a b i j q : ℕ) (g : Forest) → Lies w i j q (for_term (leaf x a b) g) → TermsTo (variables_term s (leaf x a b)) i j q g
+  leaf_rows : (x : Leaf) (a b i j q : ℕ) (g : Forest) → Lies w i j q (for_term (leaf x a b) g) → q < i → TermsTo (variables_term s (leaf x a b)) i j q g
   unfolding Lies for_t variables
-  leaf_rows (symbol (Char x)) a b i j q g L = over L.0 (λ e. omega arith) (λ e. omega arith) (record { end = i + 1; terms = in_none w s (i + 1); rest = L.1 }) L.2
-  leaf_rows (symbol (Identifier x l)) a b i j q g L = over L.0 (λ e. omega arith) (λ e. omega arith) (record { end = i + 1; terms = in_none w s (i + 1); rest = L.1 }) L.2
-  leaf_rows (symbol (Number x l)) a b i j q g L = over L.0 (λ e. omega arith) (λ e. omega arith) (record { end = i + 1; terms = in_none w s (i + 1); rest = L.1 }) L.2
-  leaf_rows (variable v x l) a b i j q g L =
+  leaf_rows (symbol (Char x)) a b i j q g L m = over L.0 (λ e. omega arith) (λ e. omega arith) m (record { end = i + 1; terms = in_none w s i (i + 1); rest = L.1 }) L.2
+  leaf_rows (symbol (Identifier x l)) a b i j q g L m = over L.0 (λ e. omega arith) (λ e. omega arith) m (record { end = i + 1; terms = in_none w s i (i + 1); rest = L.1 }) L.2
+  leaf_rows (symbol (Number x l)) a b i j q g L m = over L.0 (λ e. omega arith) (λ e. omega arith) m (record { end = i + 1; terms = in_none w s i (i + 1); rest = L.1 }) L.2
+  leaf_rows (variable v x l) a b i j q g L m =
       let e = L.0.is in
       record {
         end = i + 1;
-        terms = in_variable w s _ i (kind_of L.0) (λ t. record { letter = (e t).detail; index = canonical_index (text_at s (e t).start (e t).len) });
+        terms = in_variable w s _ i (kind_of L.0) L.0.parent m (λ t. record { letter = (e t).detail; index = canonical_index (text_at s (e t).start (e t).len) });
         rest = subst (λ (n : ℕ). Lies w n j q g) (sym L.1) L.2;
       }
 
   mutual
     unfolding Lies for_t variables
 
-    term_rows : (x : Term) (i j q : ℕ) (g : Forest) → Lies w i j q (for_term x g) → TermsTo (variables_term s x) i j q g
-    term_rows (leaf x a b) i j q g L = leaf_rows x a b i j q g L
-    term_rows (bracket a f b) i j q g L = over L.0 (λ e. omega arith) (λ e. omega arith) (terms_rows f (i + 1) (next_at w i) i empty L.1) L.2
-    term_rows (call a x l f b) i j q g L = over L.0 (λ e. omega arith) (λ e. omega arith) (terms_rows f (i + 1) (next_at w i) i empty L.1) L.2
+    term_rows : (x : Term) (i j q : ℕ) (g : Forest) → Lies w i j q (for_term x g) → q < i → TermsTo (variables_term s x) i j q g
+    term_rows (leaf x a b) i j q g L m = leaf_rows x a b i j q g L m
+    term_rows (bracket a f b) i j q g L m = over L.0 (λ e. omega arith) (λ e. omega arith) m (terms_rows f (i + 1) (next_at w i) i empty L.1 (omega arith)) L.2
+    term_rows (call a x l f b) i j q g L m = over L.0 (λ e. omega arith) (λ e. omega arith) m (terms_rows f (i + 1) (next_at w i) i empty L.1 (omega arith)) L.2
 
-    terms_rows : (f : Terms) (i j q : ℕ) (g : Forest) → Lies w i j q (for_t f g) → TermsTo (variables s f) i j q g
-    terms_rows t0 i j q g L = record { end = i; terms = in_none w s i; rest = L }
-    terms_rows (t_more f x) i j q g L =
-        let A = terms_rows f i j q (for_term x g) L in
-        let B = term_rows x A.end j q g A.rest in
+    terms_rows : (f : Terms) (i j q : ℕ) (g : Forest) → Lies w i j q (for_t f g) → q < i → TermsTo (variables s f) i j q g
+    terms_rows t0 i j q g L m = record { end = i; terms = in_none w s q i; rest = L }
+    terms_rows (t_more f x) i j q g L m =
+        let A = terms_rows f i j q (for_term x g) L m in
+        let l = A.terms.le in
+        let B = term_rows x A.end j q g A.rest (omega arith) in
         record { end = B.end; terms = in_then w s A.terms B.terms; rest = B.rest }
 
   -- a Terms row's terms
-  inner_terms : (f : Terms) (i x : ℕ) → Lies w (i + 1) x i (for_t f empty) → InTerms w s (variables s f) (i + 1) x
+  inner_terms : (f : Terms) (i x : ℕ) → Lies w (i + 1) x i (for_t f empty) → InTerms w s i (variables s f) (i + 1) x
   unfolding Lies
-  inner_terms f i x L = let A = terms_rows f (i + 1) x i empty L in subst (InTerms w s (variables s f) (i + 1)) A.rest A.terms
+  inner_terms f i x L = let A = terms_rows f (i + 1) x i empty L (omega arith) in subst (InTerms w s i (variables s f) (i + 1)) A.rest A.terms
 
   -- ---- parts, and what follows them
   record PartTo (J : ℕ) (bound bound' : List Variable) (ok : Bool) (i j q : ℕ) (g : Forest) : Type 0 where
@@ -100,7 +102,7 @@ module _ (w s : List ℕ) where
   use_terms f J bound i j q g L l m n =
       let R = L.0 in
       let h = R.hi in
-      part_use w s J bound (variables s f) i (next_at w i) (inner_terms f i (next_at w i) L.1) (kind_of R) n (omega arith) m
+      part_use w s J bound (variables s f) i (next_at w i) (inner_terms f i (next_at w i) L.1) (kind_of R) refl n (omega arith) m
 
   -- the sentence q, of which some parts stand before row i
   record Within (q J i : ℕ) : Type 0 where
@@ -123,7 +125,7 @@ module _ (w s : List ℕ) where
         → Part w s J bound (binds_right s bound r) (passes_right s bound r) i j
     right_part (r_terms f) J bound i j c q L kc pc n kq e l m =
         subst (Part w s J bound (bound ++ variables s f) true i) L.2
-        (part_pattern w s J bound (variables s f) i (next_at w i) (inner_terms f i (next_at w i) L.1) (kind_of L.0) q (behind c (kind_of L.0) L.0.parent kc n pc kq) refl e)
+        (part_pattern w s J bound (variables s f) i (next_at w i) (inner_terms f i (next_at w i) L.1) (kind_of L.0) refl q (behind c (kind_of L.0) L.0.parent kc n pc kq) e)
     right_part (r_block a v b) J bound i j c q L kc pc n kq e l m =
         let h = L.0.hi in
         subst (Part w s J bound bound (passes_body s bound v) i) L.2
@@ -175,7 +177,7 @@ module _ (w s : List ℕ) where
         let lo = T.lo in
         let kt : kind_at w (i + 1) ≡ node_terms = kind_of T in
         let bound' : List Variable = bound ++ variables s f in
-        let P = part_pattern w s X bound (variables s f) (i + 1) (next_at w (i + 1)) (inner_terms f (i + 1) (next_at w (i + 1)) L.1.1) kt i (first kt T.parent k refl) refl refl in
+        let P = part_pattern w s X bound (variables s f) (i + 1) (next_at w (i + 1)) (inner_terms f (i + 1) (next_at w (i + 1)) L.1.1) kt refl i (first kt T.parent k refl) refl in
         let C = conditions_part cs X bound' (next_at w (i + 1)) X i (for_end x empty) L.1.2 k refl (le_refl _) (omega arith) in
         let c = C.part.le in
         let E = end_part x X (binds s bound' cs) C.end X i C.rest (record { kind = k; past = omega arith; end = refl }) (le_refl _) (omega arith) in
@@ -255,6 +257,10 @@ module _ (w s : List ℕ) where
       size_tree t ∙ (let z = length_tree t in let y = ap length (of_tree most_levels w t e).words in let x : size_p t ≡ row_count w = omega arith in x) in
       let A = program_part t (row_count w) 0 (row_count w) no_parent empty (subst (λ (k : ℕ). Lies w 0 k no_parent (to_forest t)) n (lies_tree w t e)) (le_refl _) (le_refl _) in
       subst (Part w s (row_count w) [] [] (passes s t) 0) A.rest A.part
+
+  -- from each row inside a Terms row the way up leads to it
+  all_climb : (t : Program) → tree_of most_levels w ≡ some t → (i b : ℕ) → i < row_count w → kind_at w i ≡ node_terms → i < b → b < next_at w i → Climbs w i b
+  all_climb t e i b l k lo hi = (all_part t e).climbs i b (omega arith) l k lo hi
 
   agrees : (t : Program) → tree_of most_levels w ≡ some t → (first_unbound w s ≡ None) ↔ (passes s t ≡ true)
   agrees t e =
