@@ -1,14 +1,18 @@
 -- The Terms row that a term stands in, found by going from row to parent.
-use Rattle.std.specs.Prelude.{ℕ, zero, suc, ◌≤◌, ◌<◌, Bool, true, false, not, ◌||◌, List, ◌≡◌, refl, eqb, ltb}
-use Rattle.std.proofs.Common.{ap, ap₂, sym, ◌∙◌, arith, le_refl, eq-eqb, ne_eqb, lt-ltb, ltb-true}
+use Rattle.std.specs.Prelude.{ℕ, zero, suc, ◌≤◌, ◌<◌, Bool, true, false, not, ◌&&◌, ◌||◌, List, ◌≡◌, refl, eqb, leb, ltb}
+use Rattle.std.proofs.Common.{ap, ap₂, sym, ◌∙◌, arith, le_refl, lt-ltb, ltb-true}
 use Rattle.refal_text.specs.Pick.{pick}
-use Rattle.refal_ast.specs.Kinds.{node_terms}
+use Rattle.refal_ast.specs.Kinds.{node_terms, node_call}
 use Rattle.refal_tree.specs.Ranges.{kind_at, parent_at}
 
+-- a kind that is no Terms row's
+abbrev pub goes_up : ℕ → Bool
+goes_up k = (leb 1 k && leb k node_call) && not (eqb k node_terms)
+
 module _ (w : List ℕ) where
-  -- row i is a Terms row, or its parent does not stand before it
+  -- the way up ends at a Terms row, and where the kind is none or the parent does not stand before the row
   abbrev pub is_top : ℕ → Bool
-  is_top i = eqb (kind_at w i) node_terms || not (ltb (parent_at w i) i)
+  is_top i = not (goes_up (kind_at w i)) || not (ltb (parent_at w i) i)
 
   -- k only bounds the way
   unfoldable pub climb : ℕ → ℕ → ℕ
@@ -20,7 +24,7 @@ module _ (w : List ℕ) where
   terms_above i = climb i i
 
   top_false : (i : ℕ) → is_top i ≡ false → parent_at w i < i
-  top_false i e = go (eqb (kind_at w i) node_terms) (ltb (parent_at w i) i) refl e
+  top_false i e = go (not (goes_up (kind_at w i))) (ltb (parent_at w i) i) refl e
     where
       go : (a b : Bool) → ltb (parent_at w i) i ≡ b → (a || not b) ≡ false → parent_at w i < i
       go false true q h = ltb-true _ _ q
@@ -60,20 +64,20 @@ module _ (w : List ℕ) where
       let z = top_false (suc i) e in
       ap (λ (b : Bool). pick b (suc i) (climb i (parent_at w (suc i)))) e ∙ enough i (parent_at w (suc i)) (parent_at w (suc i)) (omega arith) (le_refl _)
 
-  -- the way from row b leads to row t, over rows that are no Terms rows
+  -- the way from row b leads up to row t
   pub data Climbs (t : ℕ) : ℕ → Type 0 where
-    direct : (b : ℕ) → (kind_at w b ≡ node_terms → ⊥) → parent_at w b ≡ t → t < b → Climbs t b
-    up : (b p : ℕ) → (kind_at w b ≡ node_terms → ⊥) → parent_at w b ≡ p → p < b → Climbs t p → Climbs t b
+    direct : (b : ℕ) → goes_up (kind_at w b) ≡ true → parent_at w b ≡ t → t < b → Climbs t b
+    up : (b p : ℕ) → goes_up (kind_at w b) ≡ true → parent_at w b ≡ p → p < b → Climbs t p → Climbs t b
 
-  pub lift : (t p b : ℕ) → (kind_at w p ≡ node_terms → ⊥) → parent_at w p ≡ t → t < p → Climbs p b → Climbs t b
+  pub lift : (t p b : ℕ) → goes_up (kind_at w p) ≡ true → parent_at w p ≡ t → t < p → Climbs p b → Climbs t b
   lift t p _ n e l (direct b m f k) = up b p m f k (direct p n e l)
   lift t p _ n e l (up b r m f k c) = up b r m f k (lift t p r n e l c)
 
-  not_top : (b p : ℕ) → (kind_at w b ≡ node_terms → ⊥) → parent_at w b ≡ p → p < b → is_top b ≡ false
-  not_top b p n e l = ap₂ (λ (x y : Bool). x || not y) (ne_eqb _ _ n) (ap (λ (x : ℕ). ltb x b) e ∙ lt-ltb p b l)
+  not_top : (b p : ℕ) → goes_up (kind_at w b) ≡ true → parent_at w b ≡ p → p < b → is_top b ≡ false
+  not_top b p n e l = ap₂ (λ (x y : Bool). not x || not y) n (ap (λ (x : ℕ). ltb x b) e ∙ lt-ltb p b l)
 
   -- so it is the one found
   pub climbs_is : (t b : ℕ) → kind_at w t ≡ node_terms → Climbs t b → terms_above b ≡ t
   climbs_is t _ k (direct b n e l) =
-      above_turn b (not_top b t n e l) ∙ ap terms_above e ∙ above_top t (ap (λ (x : Bool). x || not (ltb (parent_at w t) t)) (eq-eqb _ _ k))
+      above_turn b (not_top b t n e l) ∙ ap terms_above e ∙ above_top t (ap (λ (x : ℕ). not (goes_up x) || not (ltb (parent_at w t) t)) k)
   climbs_is t _ k (up b p n e l c) = above_turn b (not_top b p n e l) ∙ ap terms_above e ∙ climbs_is t p k c

@@ -15,13 +15,13 @@ use Rattle.refal_bound.specs.BoundLaws.{scope_first, scope_second}
 use Rattle.refal_bound.specs.Force.{Variable, PatternOf, first, behind, Binds, Use, InForce, variable_at, Bound, Unbound, Passes, PassesExactly, FindsFirst}
 
 -- ---- numbers of a range that pass a test
-record Hit (test : ℕ → Bool) (a n : ℕ) : Type 0 where
-  at : ℕ
-  low : a ≤ at
-  high : at < a + n
-  passes : test at ≡ true
+pub record Hit (test : ℕ → Bool) (a n : ℕ) : Type 0 where
+  pub at : ℕ
+  pub low : a ≤ at
+  pub high : at < a + n
+  pub passes : test at ≡ true
 
-any_some : (test : ℕ → Bool) (a n : ℕ) → list_any test (range_with_len a n) ≡ true → Hit test a n
+pub any_some : (test : ℕ → Bool) (a n : ℕ) → list_any test (range_with_len a n) ≡ true → Hit test a n
 any_some test a zero e = absurd (true≢false (sym e))
 any_some test a (suc n) e = go (test a) refl (any_some test (a + 1) n) e
   where
@@ -29,7 +29,7 @@ any_some test a (suc n) e = go (test a) refl (any_some test (a + 1) n) e
     go true q ih h = record { at = a; low = le_refl _; high = omega arith; passes = q }
     go false q ih h = let r = ih h in let lo = r.low in let hi = r.high in record { at = r.at; low = omega arith; high = omega arith; passes = r.passes }
 
-any_hit : (test : ℕ → Bool) (a n i : ℕ) → a ≤ i → i < a + n → test i ≡ true → list_any test (range_with_len a n) ≡ true
+pub any_hit : (test : ℕ → Bool) (a n i : ℕ) → a ≤ i → i < a + n → test i ≡ true → list_any test (range_with_len a n) ≡ true
 any_hit test a zero i lo hi e = absurd (omega arith)
 any_hit test a (suc n) i lo hi e = go (test a) refl (dec_le (a + 1) i) (λ l. any_hit test (a + 1) n i l (omega arith) e)
   where
@@ -47,17 +47,17 @@ find_none test a (suc n) i e lo hi = go (test a) refl (dec_le (a + 1) i) (λ h l
     go false q (yes l) ih h = ih h l
     go false q (no l) ih h = let z : i ≡ a = omega arith in ap test z ∙ q
 
-none_find : (test : ℕ → Bool) (a n : ℕ) → ((i : ℕ) → a ≤ i → i < a + n → test i ≡ false) → find test (range_with_len a n) ≡ None
+pub none_find : (test : ℕ → Bool) (a n : ℕ) → ((i : ℕ) → a ≤ i → i < a + n → test i ≡ false) → find test (range_with_len a n) ≡ None
 none_find test a zero h = refl
 none_find test a (suc n) h =
     ap (λ (b : Bool). cond b (Some a) (find test (range_with_len (a + 1) n))) (h a (le_refl _) (omega arith))
     ∙ none_find test (a + 1) n (λ i lo hi. h i (omega arith) (omega arith))
 
-record First (test : ℕ → Bool) (a n u : ℕ) : Type 0 where
-  low : a ≤ u
-  high : u < a + n
-  passes : test u ≡ true
-  least : (v : ℕ) → a ≤ v → v < u → test v ≡ false
+pub record First (test : ℕ → Bool) (a n u : ℕ) : Type 0 where
+  pub low : a ≤ u
+  pub high : u < a + n
+  pub passes : test u ≡ true
+  pub least : (v : ℕ) → a ≤ v → v < u → test v ≡ false
 
 find_some : (test : ℕ → Bool) (a n u : ℕ) → find test (range_with_len a n) ≡ Some u → First test a n u
 find_some test a zero u e = let z : ◌≡◌ {A = ℕ} 0 1 = cc in absurd (omega arith)
@@ -80,7 +80,7 @@ find_some test a (suc n) u e = go (test a) refl (find_some test (a + 1) n u) e
         least v lv hv f (yes l) = f v l hv
         least v lv hv f (no l) = let z : v ≡ a = omega arith in ap test z ∙ q
 
-some_find : (test : ℕ → Bool) (a n u : ℕ) → First test a n u → find test (range_with_len a n) ≡ Some u
+pub some_find : (test : ℕ → Bool) (a n u : ℕ) → First test a n u → find test (range_with_len a n) ≡ Some u
 some_find test a n u F = go (find test (range_with_len a n)) refl
   where
     same : (v : ℕ) → First test a n v → Dec (u + 1 ≤ v) → Dec (v + 1 ≤ u) → Some v ≡ Some u
@@ -94,12 +94,12 @@ some_find test a n u F = go (find test (range_with_len a n)) refl
 
 -- ---- patterns
 module _ (w : List ℕ) where
-  record Scoped (t end : ℕ) : Type 0 where
-    sentence : ℕ
-    of : PatternOf w sentence t
-    is : end ≡ next_at w sentence
+  pub record Scoped (t end : ℕ) : Type 0 where
+    pub sentence : ℕ
+    pub of : PatternOf w sentence t
+    pub is : end ≡ next_at w sentence
 
-  scope_pattern : (t end : ℕ) → scope w t ≡ Some end → Scoped t end
+  pub scope_pattern : (t end : ℕ) → scope w t ≡ Some end → Scoped t end
   unfolding scope
   scope_pattern t end e = go (eqb (kind_at w t) node_terms) (eqb (kind_at w q) node_sentence) (eqb t (q + 1)) (eqb (kind_at w q) node_condition) (eqb (kind_at w c) node_sentence) refl refl refl refl refl e
     where
@@ -149,7 +149,7 @@ module _ (w : List ℕ) where
           go false e = refl
 
   -- ---- uses
-  binds_some : (u : ℕ) → kind_at w u ≡ node_variable → some_in 0 u (binds_in w u) ≡ true → (q : ℕ) × Binds w q u
+  pub binds_some : (u : ℕ) → kind_at w u ≡ node_variable → some_in 0 u (binds_in w u) ≡ true → (q : ℕ) × Binds w q u
   binds_some u k e = let r = any_some (binds_in w u) 0 (u - 0) e in let hi = r.high in at r.at (omega arith) (scope w r.at) refl r.passes
     where
       at : (t : ℕ) → t < u → (o : Option ℕ) → scope w t ≡ o → inside w o t u ≡ true → (q : ℕ) × Binds w q u
@@ -158,7 +158,7 @@ module _ (w : List ℕ) where
           let S = scope_pattern t end s in
           (S.sentence, record { pattern = t; of = S.of; behind = l; within = ltb-true _ _ h; variable = k })
 
-  some_binds : (q u : ℕ) → Binds w q u → some_in 0 u (binds_in w u) ≡ true
+  pub some_binds : (q u : ℕ) → Binds w q u → some_in 0 u (binds_in w u) ≡ true
   some_binds q u B =
       let b = B.behind in
       any_hit (binds_in w u) 0 (u - 0) B.pattern (omega arith) (omega arith)

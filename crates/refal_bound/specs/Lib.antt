@@ -11,3 +11,4 @@ pub mod Climb
 pub mod Rows
 pub mod Parts
 pub mod WalkTheorems
+pub mod Scan

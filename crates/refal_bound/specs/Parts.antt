@@ -11,7 +11,7 @@ use Rattle.refal_bound.specs.Bound.{scope}
 use Rattle.refal_bound.specs.Force.{Variable, PatternOf, first, behind, Binds, Use, InForce, variable_at, Bound}
 use Rattle.refal_bound.specs.ForceTheorems.{pattern_scope}
 use Rattle.refal_bound.specs.Walks.{same_variable, is_bound, all_bound}
-use Rattle.refal_bound.specs.Climb.{Climbs, direct, lift}
+use Rattle.refal_bound.specs.Climb.{goes_up, Climbs, direct, lift}
 
 -- ---- lists of variables
 same_is : (x y : Variable) → same_variable x y ≡ true → x ≡ y
@@ -262,8 +262,8 @@ module _ (w s : List ℕ) where
       split {C} {t} f g (no m) = g (omega arith)
 
   -- a row that is neither Terms nor a variable, before terms
-  pub in_row : {q : ℕ} {xs : List Variable} (i k : ℕ) → (kind_at w i ≡ node_terms → ⊥) → (kind_at w i ≡ node_variable → ⊥) → parent_at w i ≡ q → q < i → InTerms i xs (i + 1) k → InTerms q xs i k
-  in_row {q} {xs} i k n m f l A =
+  pub in_row : {q : ℕ} {xs : List Variable} (i k : ℕ) → (kind_at w i ≡ node_terms → ⊥) → (kind_at w i ≡ node_variable → ⊥) → goes_up (kind_at w i) ≡ true → parent_at w i ≡ q → q < i → InTerms i xs (i + 1) k → InTerms q xs i k
+  in_row {q} {xs} i k n m g f l A =
       let p = A.le in
       record {
         le = omega arith;
@@ -274,8 +274,8 @@ module _ (w s : List ℕ) where
       }
     where
       climbs : (b : ℕ) → i ≤ b → b < k → Dec (i + 1 ≤ b) → Climbs w q b
-      climbs b lo hi (yes h) = lift w q i b n f l (A.climbs b h hi)
-      climbs b lo hi (no h) = let z : i ≡ b = omega arith in subst (Climbs w q) z (direct i n f l)
+      climbs b lo hi (yes h) = lift w q i b g f l (A.climbs b h hi)
+      climbs b lo hi (no h) = let z : i ≡ b = omega arith in subst (Climbs w q) z (direct i g f l)
 
       terms : (t : ℕ) → i ≤ t → t < k → kind_at w t ≡ node_terms → Dec (i + 1 ≤ t) → ⊥
       terms t lo hi e (yes h) = A.no_terms t h hi e
@@ -288,7 +288,7 @@ module _ (w s : List ℕ) where
   -- a variable's row
   pub in_variable : {q : ℕ} (x : Variable) (i : ℕ) → kind_at w i ≡ node_variable → parent_at w i ≡ q → q < i → V i ≡ x → InTerms q (x ∷ []) i (i + 1)
   in_variable {q} x i k f l e = record {
-    climbs = λ b lo hi. let z : i ≡ b = omega arith in subst (Climbs w q) z (direct i (λ h. let y = sym k ∙ h in omega arith) f l);
+    climbs = λ b lo hi. let z : i ≡ b = omega arith in subst (Climbs w q) z (direct i (ap goes_up k) f l);
     le = omega arith;
     no_terms = λ t lo hi h. let z : i ≡ t = omega arith in let y = ap (kind_at w) z ∙ h in absurd (omega arith);
     here = λ b lo hi h. let z : b ≡ i = omega arith in subst (λ (y : Variable). is_bound (x ∷ []) y ≡ true) (sym (ap V z ∙ e)) (bound_one x);

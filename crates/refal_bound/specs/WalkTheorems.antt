@@ -26,7 +26,7 @@ use Rattle.refal_bound.specs.Force.{Variable, PatternOf, first, behind, Use, Pas
 use Rattle.refal_bound.specs.ForceTheorems.{passes_exactly}
 use Rattle.refal_bound.specs.Rows.{Row_at, Lies, lies_tree}
 use Rattle.refal_bound.specs.Parts.{not_pattern, V, Open, Fine, Part, part_none, part_then, part_row, close, InTerms, in_none, in_then, in_row, in_variable, part_pattern, part_use, none_bound}
-use Rattle.refal_bound.specs.Climb.{Climbs}
+use Rattle.refal_bound.specs.Climb.{goes_up, Climbs}
 use Rattle.refal_bound.specs.Walks.{all_bound, variables_term, variables, binds_right, binds_condition, binds, passes_right, passes_condition, passes_conditions, passes_end, passes_sentence, passes_sentences, passes_body, passes_item, passes, items, WalkAgrees, OrderFree}
 
 module _ (w s : List ℕ) where
@@ -41,21 +41,21 @@ module _ (w s : List ℕ) where
     rest : Lies w end j q g
 
   -- a row that is neither Terms nor a variable, and those below it
-  over : {xs : List Variable} {i j q : ℕ} {r : Row} {g : Forest} → Row_at w i j q r → (r.kind ≡ node_terms → ⊥) → (r.kind ≡ node_variable → ⊥) → q < i → TermsTo xs (i + 1) (next_at w i) i empty → Lies w (next_at w i) j q g → TermsTo xs i j q g
+  over : {xs : List Variable} {i j q : ℕ} {r : Row} {g : Forest} → Row_at w i j q r → (r.kind ≡ node_terms → ⊥) → (r.kind ≡ node_variable → ⊥) → goes_up r.kind ≡ true → q < i → TermsTo xs (i + 1) (next_at w i) i empty → Lies w (next_at w i) j q g → TermsTo xs i j q g
   unfolding Lies
-  over {xs} {i} {j} {q} {r} {g} R n m b T L =
+  over {xs} {i} {j} {q} {r} {g} R n m u b T L =
       let k = kind_of R in
       record {
         end = next_at w i;
-        terms = in_row w s i (next_at w i) (λ e. n (sym k ∙ e)) (λ e. m (sym k ∙ e)) R.parent b (subst (InTerms w s i xs (i + 1)) T.rest T.terms);
+        terms = in_row w s i (next_at w i) (λ e. n (sym k ∙ e)) (λ e. m (sym k ∙ e)) (ap goes_up k ∙ u) R.parent b (subst (InTerms w s i xs (i + 1)) T.rest T.terms);
         rest = L;
       }
 
   leaf_rows : (x : Leaf) (a b i j q : ℕ) (g : Forest) → Lies w i j q (for_term (leaf x a b) g) → q < i → TermsTo (variables_term s (leaf x a b)) i j q g
   unfolding Lies for_t variables
-  leaf_rows (symbol (Char x)) a b i j q g L m = over L.0 (λ e. omega arith) (λ e. omega arith) m (record { end = i + 1; terms = in_none w s i (i + 1); rest = L.1 }) L.2
-  leaf_rows (symbol (Identifier x l)) a b i j q g L m = over L.0 (λ e. omega arith) (λ e. omega arith) m (record { end = i + 1; terms = in_none w s i (i + 1); rest = L.1 }) L.2
-  leaf_rows (symbol (Number x l)) a b i j q g L m = over L.0 (λ e. omega arith) (λ e. omega arith) m (record { end = i + 1; terms = in_none w s i (i + 1); rest = L.1 }) L.2
+  leaf_rows (symbol (Char x)) a b i j q g L m = over L.0 (λ e. omega arith) (λ e. omega arith) refl m (record { end = i + 1; terms = in_none w s i (i + 1); rest = L.1 }) L.2
+  leaf_rows (symbol (Identifier x l)) a b i j q g L m = over L.0 (λ e. omega arith) (λ e. omega arith) refl m (record { end = i + 1; terms = in_none w s i (i + 1); rest = L.1 }) L.2
+  leaf_rows (symbol (Number x l)) a b i j q g L m = over L.0 (λ e. omega arith) (λ e. omega arith) refl m (record { end = i + 1; terms = in_none w s i (i + 1); rest = L.1 }) L.2
   leaf_rows (variable v x l) a b i j q g L m =
       let e = L.0.is in
       record {
@@ -69,8 +69,8 @@ module _ (w s : List ℕ) where
 
     term_rows : (x : Term) (i j q : ℕ) (g : Forest) → Lies w i j q (for_term x g) → q < i → TermsTo (variables_term s x) i j q g
     term_rows (leaf x a b) i j q g L m = leaf_rows x a b i j q g L m
-    term_rows (bracket a f b) i j q g L m = over L.0 (λ e. omega arith) (λ e. omega arith) m (terms_rows f (i + 1) (next_at w i) i empty L.1 (omega arith)) L.2
-    term_rows (call a x l f b) i j q g L m = over L.0 (λ e. omega arith) (λ e. omega arith) m (terms_rows f (i + 1) (next_at w i) i empty L.1 (omega arith)) L.2
+    term_rows (bracket a f b) i j q g L m = over L.0 (λ e. omega arith) (λ e. omega arith) refl m (terms_rows f (i + 1) (next_at w i) i empty L.1 (omega arith)) L.2
+    term_rows (call a x l f b) i j q g L m = over L.0 (λ e. omega arith) (λ e. omega arith) refl m (terms_rows f (i + 1) (next_at w i) i empty L.1 (omega arith)) L.2
 
     terms_rows : (f : Terms) (i j q : ℕ) (g : Forest) → Lies w i j q (for_t f g) → q < i → TermsTo (variables s f) i j q g
     terms_rows t0 i j q g L m = record { end = i; terms = in_none w s q i; rest = L }
@@ -259,7 +259,7 @@ module _ (w s : List ℕ) where
       subst (Part w s (row_count w) [] [] (passes s t) 0) A.rest A.part
 
   -- from each row inside a Terms row the way up leads to it
-  all_climb : (t : Program) → tree_of most_levels w ≡ some t → (i b : ℕ) → i < row_count w → kind_at w i ≡ node_terms → i < b → b < next_at w i → Climbs w i b
+  pub all_climb : (t : Program) → tree_of most_levels w ≡ some t → (i b : ℕ) → i < row_count w → kind_at w i ≡ node_terms → i < b → b < next_at w i → Climbs w i b
   all_climb t e i b l k lo hi = (all_part t e).climbs i b (omega arith) l k lo hi
 
   agrees : (t : Program) → tree_of most_levels w ≡ some t → (first_unbound w s ≡ None) ↔ (passes s t ≡ true)

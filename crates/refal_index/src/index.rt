@@ -17,7 +17,7 @@ pub struct Index<'w> {
 }
 
 impl<'w> Index<'w> {
-    ghost use Rattle.std.specs.Prelude.{ℕ};
+    ghost use Rattle.std.specs.Prelude.{ℕ, get_or};
     ghost use Rattle.refal_files.specs.Files.{Placed};
     ghost use Rattle.refal_files.specs.View.{rows_of, row_of};
     ghost use Rattle.refal_index.specs.Chain.{pushed};
@@ -58,7 +58,7 @@ impl<'w> Index<'w> {
     }
 
     // Row g is put in by its name, above all rows that are in.
-    fn push(&mut self, name: &[u8], g: usize)
+    pub fn push(&mut self, name: &[u8], g: usize)
         requires { g < self.old.rows }
         ensures put { self.new.words.now ≡ pushed self.old.words.now self.old.rows (bucket_of self.old.buckets name.now) g }
         ensures shape { (self.new.rows ≡ self.old.rows) × (self.new.buckets ≡ self.old.buckets) }
@@ -66,6 +66,21 @@ impl<'w> Index<'w> {
         let at = self.rows + self.bucket(name);
         self.words[g] = self.words[at];
         self.words[at] = g as u32 + 1;
+    }
+
+    // Where the rows of a name's bucket begin: the newest row's number and one more, 0 where there is none.
+    pub fn first(&self, name: &[u8]) -> usize
+        ensures { result ≡ get_or self.now.words.now (self.now.rows + bucket_of self.now.buckets name.now) 0 }
+    {
+        self.words[self.rows + self.bucket(name)] as usize
+    }
+
+    // Where they go on below row g.
+    pub fn after(&self, g: usize) -> usize
+        requires { g < self.now.rows }
+        ensures { result ≡ get_or self.now.words.now g 0 }
+    {
+        self.words[g] as usize
     }
 
     // Whether a row that is in bears the name: only the rows of the name's bucket are looked at.
