@@ -1,6 +1,8 @@
 -- The Terms row that a term stands in, found by going from row to parent.
 use Rattle.std.specs.Prelude.{ℕ, zero, suc, ◌≤◌, ◌<◌, Bool, true, false, not, ◌&&◌, ◌||◌, List, ◌≡◌, refl, eqb, leb, ltb}
-use Rattle.std.proofs.Common.{ap, ap₂, sym, ◌∙◌, arith, le_refl, lt-ltb, ltb-true}
+use Rattle.std.proofs.Common.{ap, ap₂, sym, ◌∙◌, arith, le_refl, le-leb, leb-true, lt-ltb, ltb-true, eqb-true}
+use Rattle.std.proofs.lemmas.Bool.{lt-leb, le-ltb}
+use Rattle.refal_ast.specs.Nodes.{Node, node_at}
 use Rattle.refal_text.specs.Pick.{pick}
 use Rattle.refal_ast.specs.Kinds.{node_terms, node_call}
 use Rattle.refal_tree.specs.Ranges.{kind_at, parent_at}
@@ -13,6 +15,43 @@ module _ (w : List ℕ) where
   -- the way up ends at a Terms row, and where the kind is none or the parent does not stand before the row
   abbrev pub is_top : ℕ → Bool
   is_top i = not (goes_up (kind_at w i)) || not (ltb (parent_at w i) i)
+
+  top_if : (i : ℕ) → goes_up (kind_at w i) ≡ false → is_top i ≡ true
+  top_if i e = ap (λ (b : Bool). not b || not (ltb (parent_at w i) i)) e
+
+  pub top_unknown : (i : ℕ) → (1 ≤ kind_at w i → node_call < kind_at w i) → is_top i ≡ true
+  top_unknown i h = top_if i (go (leb 1 (kind_at w i)) refl)
+    where
+      go : (b : Bool) → leb 1 (kind_at w i) ≡ b → ((b && leb (kind_at w i) node_call) && not (eqb (kind_at w i) node_terms)) ≡ false
+      go true e = ap (λ (b : Bool). b && not (eqb (kind_at w i) node_terms)) (lt-leb (kind_at w i) node_call (h (leb-true 1 (kind_at w i) e)))
+      go false e = refl
+
+  module _ (i : ℕ) (x : Node) (is : x ≡ node_at w i) where
+    kind_is : x.kind ≡ kind_at w i
+    kind_is = ap (λ (y : Node). y.kind) is
+
+    parent_is : x.parent ≡ parent_at w i
+    parent_is = ap (λ (y : Node). y.parent) is
+
+    pub top_terms : eqb x.kind node_terms ≡ true → is_top i ≡ true
+    top_terms e = top_if i (ap goes_up (sym kind_is ∙ eqb-true _ _ e))
+
+    pub top_last : i ≤ x.parent → is_top i ≡ true
+    top_last h =
+        let z : parent_at w i ≡ x.parent = sym parent_is in
+        ap (λ (b : Bool). not (goes_up (kind_at w i)) || not b) (le-ltb (parent_at w i) i (omega arith)) ∙ go (goes_up (kind_at w i))
+      where
+        go : (b : Bool) → (not b || true) ≡ true
+        go true = refl
+        go false = refl
+
+    pub top_not : 1 ≤ x.kind → x.kind ≤ node_call → eqb x.kind node_terms ≡ false → (i ≤ x.parent → ⊥) → (is_top i ≡ false) × (x.parent ≡ parent_at w i)
+    top_not lo hi e n = (
+      ap₂ (λ (a b : Bool). not a || not b)
+      (ap goes_up (sym kind_is) ∙ ap₂ (λ (a b : Bool). (a && b) && not (eqb x.kind node_terms)) (le-leb 1 x.kind lo) (le-leb x.kind node_call hi) ∙ ap not e)
+      (ap (λ (y : ℕ). ltb y i) (sym parent_is) ∙ lt-ltb x.parent i (omega arith)),
+      parent_is,
+    )
 
   -- k only bounds the way
   unfoldable pub climb : ℕ → ℕ → ℕ

@@ -1,16 +1,16 @@
 -- What a scan over the rows keeps: how far the patterns before a row reach, and, in lent words, the bindings before it that are still in force.
 use Rattle.std.specs.Prelude.{ℕ, zero, suc, ◌+◌, ◌-◌, ◌*◌, ◌≤◌, ◌<◌, Bool, true, false, not, ◌&&◌, ◌||◌, List, [], ◌∷◌, map, ◌≡◌, refl, eqb, leb, ltb, max, get_or, length, Option, None, Some}
-use Rattle.std.proofs.Common.{true≢false, ap, ap₂, sym, subst, ◌∙◌, arith, le_refl, eq-eqb, eqb-true, lt-ltb, ltb-true, ne_eqb}
+use Rattle.std.proofs.Common.{true≢false, ap, ap₂, sym, subst, ◌∙◌, arith, add-one, le_refl, eq-eqb, eqb-true, leb-true, lt-ltb, ltb-true, ne_eqb}
 use Rattle.std.proofs.lemmas.Bool.{lt-leb, not-true}
 use Rattle.std.proofs.Math.Decide.{dec_le}
 use Rattle.std.proofs.Math.Option.{some}
 use Rattle.refal_text.specs.Pick.{pick}
 use Rattle.refal_rows.specs.Tests.{and_left, and_right, range_lo, range_hi}
 use Rattle.refal_ast.specs.Kinds.{node_terms, node_variable, node_call}
-use Rattle.refal_ast.specs.Limits.{most_levels}
+use Rattle.refal_ast.specs.Limits.{most_levels, most_rows}
 use Rattle.refal_ast.specs.Names.{pick_byte, upper_byte, name_byte, canonical_name, canonical_index, indices_equal, indices_equal_lem, equal_indices, names_equal, equal_names}
-use Rattle.refal_ast.specs.Nodes.{node_at}
-use Rattle.refal_tree.specs.Lawful.{lawful, lawful_is, tree_of, tree_of_lem}
+use Rattle.refal_ast.specs.Nodes.{node_width, node_at, whole_rows}
+use Rattle.refal_tree.specs.Lawful.{lawful, lawful_is, tree_of, tree_of_lem, found}
 use Rattle.refal_tree.specs.Ranges.{kind_at, detail_at, next_at, parent_at}
 use Rattle.refal_files.specs.Files.{Placed, placed}
 use Rattle.refal_files.specs.FileLaws.{row_count}
@@ -23,6 +23,17 @@ use Rattle.refal_bound.specs.ForceTheorems.{Hit, any_some, any_hit, First, some_
 use Rattle.refal_bound.specs.Climb.{goes_up, is_top, Climbs, terms_above, climbs_is}
 use Rattle.refal_bound.specs.Parts.{pattern_kind}
 use Rattle.refal_bound.specs.WalkTheorems.{all_climb}
+
+-- ---- lawful words
+pub lawful_whole : (w : List ℕ) → lawful w ≡ true → whole_rows w ≡ true
+unfolding lawful
+lawful_whole w h = and_left (whole_rows w) (leb (length w) (node_width * most_rows)) (and_left (whole_rows w && leb (length w) (node_width * most_rows)) (found (tree_of most_levels w)) h)
+
+pub lawful_few : (w : List ℕ) → lawful w ≡ true → length w ≤ node_width * most_rows
+unfolding lawful
+lawful_few w h =
+    leb-true (length w) (node_width * most_rows)
+    (and_right (whole_rows w) (leb (length w) (node_width * most_rows)) (and_left (whole_rows w && leb (length w) (node_width * most_rows)) (found (tree_of most_levels w)) h))
 
 -- ---- how far patterns reach
 abbrev pub end_of : Option ℕ → ℕ → ℕ
@@ -38,6 +49,14 @@ module _ (w : List ℕ) where
   unfoldable pub reach : ℕ → ℕ
   reach zero = 0
   reach (suc u) = max (reach u) (pattern_end u)
+
+  pub reach_start : reach 0 ≡ 0
+  unfolding reach
+  reach_start = refl
+
+  pub reach_next : (u : ℕ) → reach (u + 1) ≡ max (reach u) (pattern_end u)
+  unfolding reach
+  reach_next u = rw (add-one u) refl
 
   reach_some : (u v : ℕ) → v < reach u → (t : ℕ) × (t < u) × (binds_in w v t ≡ true)
   unfolding reach

@@ -5,6 +5,7 @@ use Rattle.refal_tree.specs.Ranges.{kind_at}
 use Rattle.refal_bound.specs.Bound.{first_unbound}
 use Rattle.refal_bound.specs.View.{RowAt, IsFirst}
 use Rattle.refal_bound.specs.ForceTheorems.{found_variable}
+use Rattle.refal_bound.specs.Scan.{lawful_whole}
 use Rattle.refal_ast.specs.declared.nodes.Node.{Node}
 use Rattle.refal_bound.proofs.unbound.Goals as goal
 
@@ -14,6 +15,9 @@ first_row w s u None e h =
     let l = h (omega arith) in
     absurd (omega arith)
 first_row w s u (Some x) e h = (u, e, h)
+
+pub row-requires : goal.row-requires
+row-requires c = lawful_whole c.args.file.now.tree.now c.requires
 
 pub returns-in-Some : goal.returns-in-Some
 returns-in-Some c = first_row c.args.file.now.tree.now c.args.file.now.source.now c.in-Some.u c.row.result (sym c.in-Some.ensures) c.row.ensures
