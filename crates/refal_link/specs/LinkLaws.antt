@@ -26,17 +26,6 @@ use Rattle.refal_index.specs.Named.{answers_to, seen}
 use Rattle.refal_link.specs.Unbound.{both_bound}
 use Rattle.refal_link.specs.Link.{functions, declared, calls, among, repeated, missing, shown, shown_at, resolved, linked, checked, link_answer}
 
--- ---- lawful words are not too many
-pub lawful_length : (w : List ℕ) → lawful w ≡ true → length w ≤ node_width * most_rows
-unfolding lawful
-lawful_length w h =
-    leb-true (length w) (node_width * most_rows)
-    (and_right (whole_rows w) (leb (length w) (node_width * most_rows)) (and_left (whole_rows w && leb (length w) (node_width * most_rows)) (found (tree_of most_levels w)) h))
-
-pub lawful_whole : (w : List ℕ) → lawful w ≡ true → whole_rows w ≡ true
-unfolding lawful
-lawful_whole w h = and_left (whole_rows w) (leb (length w) (node_width * most_rows)) (and_left (whole_rows w && leb (length w) (node_width * most_rows)) (found (tree_of most_levels w)) h)
-
 -- ---- the functions before g, newest first
 unfoldable pub earlier : (ℕ → Placed) → ℕ → List Placed
 earlier R zero = []

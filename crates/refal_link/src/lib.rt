@@ -5,7 +5,6 @@
 ghost use Rattle.std.specs.Prelude.{◌≡◌, true, false, ℕ, ◌≤◌, ◌<◌, [], eqb, IfOk};
 ghost use Rattle.refal_text.specs.Pick.{pick};
 ghost use Rattle.refal_ast.specs.Kinds.{node_call};
-ghost use Rattle.refal_ast.specs.Nodes.{whole_rows};
 ghost use Rattle.refal_ast.specs.Answers.{refusal, Answer, Refused};
 ghost use Rattle.refal_ast.specs.Told.{told, refusal_told, reason_code, file_code};
 ghost use Rattle.refal_tree.specs.Lawful.{lawful};
@@ -130,11 +129,11 @@ fn check(file: &File) -> Result<(), Reason>
 }
 
 // The first variable of a file that is used unbound is refused.
-fn bound(file: &File, which: answers::File) -> Result<(), Refusal>
-    requires { whole_rows file.now.tree.now ≡ true }
+fn bound(file: &File, which: answers::File, work: &mut [u32]) -> Result<(), Refusal>
+    requires { lawful file.now.tree.now ≡ true }
     ensures { (rest : Answer) → refused_or result rest ≡ bound_file (file_code which) file.now rest }
 {
-    match refal_bound::unbound(file) {
+    match refal_bound::unbound(file, work) {
         Some(variable) => Err(refusal_at(Reason::VariableUnbound, which, &variable)),
         None => Ok(()),
     }
@@ -147,8 +146,8 @@ fn answer(files: &Files, work: &mut [u32]) -> Result<usize, Refusal>
     check(&files.one)?;
     check(&files.two)?;
     let calls = link_rows(files, work)?;
-    bound(&files.one, answers::File::One)?;
-    bound(&files.two, answers::File::Two)?;
+    bound(&files.one, answers::File::One, work)?;
+    bound(&files.two, answers::File::Two, work)?;
     Ok(calls)
 }
 

@@ -3,7 +3,7 @@ use Rattle.std.proofs.Common.{arith, ap, ◌∙◌}
 use Rattle.std.proofs.lemmas.Result.{err_from_is_err_and}
 use Rattle.refal_ast.specs.Answers.{Done}
 use Rattle.refal_link.specs.Link.{linked}
-use Rattle.refal_link.specs.LinkLaws.{lawful_length, lawful_whole}
+use Rattle.refal_bound.specs.Scan.{lawful_few}
 use Rattle.refal_link.specs.View.{rows, checked_file, bound_file, after_bound, answer_is, checked_both}
 use Rattle.refal_link.proofs.answer.Goals as goal
 
@@ -23,8 +23,8 @@ returns-in_err-check-2 c =
 pub link_rows-requires : goal.link_rows-requires
 link_rows-requires c =
     let f = c.args.files.now in
-    let x = lawful_length f.one.tree.now c.in_ok-check.ensures.is_tree in
-    let y = lawful_length f.two.tree.now c.in_ok-check-2.ensures.is_tree in
+    let x = lawful_few f.one.tree.now c.in_ok-check.ensures.is_tree in
+    let y = lawful_few f.two.tree.now c.in_ok-check-2.ensures.is_tree in
     omega arith
 
 pub returns-in_err-calls : goal.returns-in_err-calls
@@ -34,7 +34,7 @@ returns-in_err-calls c =
     rw (p.1, p.2) (ap (after_bound f) c.in_err-calls.ensures ∙ checked_both f c.in_ok-check.ensures.answer c.in_ok-check-2.ensures.answer)
 
 pub bound-requires : goal.bound-requires
-bound-requires c = lawful_whole c.args.files.now.one.tree.now c.in_ok-check.ensures.is_tree
+bound-requires c = c.in_ok-check.ensures.is_tree
 
 pub returns-in_err-bound : goal.returns-in_err-bound
 returns-in_err-bound c =
@@ -46,7 +46,7 @@ returns-in_err-bound c =
     ∙ checked_both f c.in_ok-check.ensures.answer c.in_ok-check-2.ensures.answer)
 
 pub bound-requires-2 : goal.bound-requires-2
-bound-requires-2 c = lawful_whole c.args.files.now.two.tree.now c.in_ok-check-2.ensures.is_tree
+bound-requires-2 c = c.in_ok-check-2.ensures.is_tree
 
 pub returns-in_err-bound-2 : goal.returns-in_err-bound-2
 returns-in_err-bound-2 c =
