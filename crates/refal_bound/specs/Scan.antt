@@ -1,10 +1,11 @@
 -- What a scan over the rows keeps: how far the patterns before a row reach, and, in lent words, the bindings before it that are still in force.
-use Rattle.std.specs.Prelude.{ℕ, zero, suc, ◌+◌, ◌-◌, ◌*◌, ◌≤◌, ◌<◌, Bool, true, false, not, ◌&&◌, ◌||◌, List, [], ◌∷◌, map, ◌≡◌, refl, eqb, leb, ltb, max, get_or, length, Option, None, Some}
-use Rattle.std.proofs.Common.{true≢false, ap, ap₂, sym, subst, ◌∙◌, arith, add-one, le_refl, eq-eqb, eqb-true, leb-true, lt-ltb, ltb-true, ne_eqb}
+use Rattle.std.specs.Prelude.{ℕ, zero, suc, ◌+◌, ◌-◌, ◌*◌, ◌%◌, ◌≤◌, ◌<◌, Bool, true, false, not, ◌&&◌, ◌||◌, List, [], ◌∷◌, map, ◌≡◌, refl, eqb, leb, ltb, max, get_or, set, length, Option, None, Some}
+use Rattle.std.proofs.Common.{true≢false, ap, ap₂, sym, subst, ◌∙◌, arith, add-one, mod-lt, le_refl, eq-eqb, eqb-true, leb-true, lt-ltb, ltb-true, ne_eqb, get_or-set_same, get_or-set_other}
 use Rattle.std.proofs.lemmas.Bool.{lt-leb, not-true}
 use Rattle.std.proofs.Math.Decide.{dec_le}
 use Rattle.std.proofs.Math.Option.{some}
 use Rattle.refal_text.specs.Pick.{pick}
+use Rattle.refal_rows.specs.Rows.{pick_list}
 use Rattle.refal_rows.specs.Tests.{and_left, and_right, range_lo, range_hi}
 use Rattle.refal_ast.specs.Kinds.{node_terms, node_variable, node_call}
 use Rattle.refal_ast.specs.Limits.{most_levels, most_rows}
@@ -14,8 +15,8 @@ use Rattle.refal_tree.specs.Lawful.{lawful, lawful_is, tree_of, tree_of_lem, fou
 use Rattle.refal_tree.specs.Ranges.{kind_at, detail_at, next_at, parent_at}
 use Rattle.refal_files.specs.Files.{Placed, placed}
 use Rattle.refal_files.specs.FileLaws.{row_count}
-use Rattle.refal_index.specs.Hash.{bucket_of, equal_buckets, bucket_below}
-use Rattle.refal_index.specs.Chain.{only, any_of, Falls, Chain, Chained, falls_up, pushed, index_push, Walk, walk_start, walk_hit, walk_end}
+use Rattle.refal_index.specs.Hash.{bucket_of, equal_buckets}
+use Rattle.refal_index.specs.Chain.{only, any_of, Falls, Chain, Chained, falls_up, falls_only, chain_low, chain_keep, pushed, index_push, Walk, walk_start, walk_hit, walk_end}
 use Rattle.refal_index.specs.Named.{Holds, entered}
 use Rattle.refal_bound.specs.Bound.{some_in, scope, within, inside, binds_in, is_use, index_at, is_variable, bound_by, is_unbound, first_unbound}
 use Rattle.refal_bound.specs.Force.{Variable, PatternOf, Binds, InForce, variable_at, Bound}
@@ -156,10 +157,136 @@ member_below n g (x ∷ l) f e = go (eqb g x) refl (λ h. member_below x g l f.1
     go true q ih h = let z = eqb-true g x q in omega (arith, f.0)
     go false q ih h = let z = ih h in omega (arith, f.0)
 
+-- the list without row g
+unfoldable without : ℕ → List ℕ → List ℕ
+without g [] = []
+without g (x ∷ l) = pick_list (eqb x g) (without g l) (x ∷ without g l)
+
+falls_without : (g n : ℕ) (l : List ℕ) → Falls n l → Falls n (without g l)
+unfolding without
+falls_without g n [] f = tt
+falls_without g n (x ∷ l) f = go (eqb x g) (falls_without g x l f.1)
+  where
+    go : (b : Bool) → Falls x (without g l) → Falls n (pick_list b (without g l) (x ∷ without g l))
+    go true r = falls_up x n (without g l) (omega (arith, f.0)) r
+    go false r = (f.0, r)
+
+without_none : (g n : ℕ) (l : List ℕ) → n ≤ g → Falls n l → without g l ≡ l
+unfolding without
+without_none g n [] h f = refl
+without_none g n (x ∷ l) h f =
+    ap (λ (b : Bool). pick_list b (without g l) (x ∷ without g l)) (ne_eqb x g (λ e. omega (arith, f.0)))
+    ∙ ap (λ (y : List ℕ). x ∷ y) (without_none g x l (omega (arith, f.0)) f.1)
+
+only_without : (k : ℕ → ℕ) (h g : ℕ) (l : List ℕ) → only k h (without g l) ≡ without g (only k h l)
+unfolding without only
+only_without k h g [] = refl
+only_without k h g (x ∷ l) = go (eqb x g) refl (eqb (k x) h) refl (only_without k h g l)
+  where
+    go : (b : Bool) → eqb x g ≡ b → (d : Bool) → eqb (k x) h ≡ d → only k h (without g l) ≡ without g (only k h l)
+        → only k h (pick_list b (without g l) (x ∷ without g l)) ≡ without g (pick_list d (x ∷ only k h l) (only k h l))
+    go true p true q ih = ih ∙ sym (ap (λ (t : Bool). pick_list t (without g (only k h l)) (x ∷ without g (only k h l))) p)
+    go true p false q ih = ih
+    go false p true q ih =
+        ap (λ (t : Bool). pick_list t (x ∷ only k h (without g l)) (only k h (without g l))) q
+        ∙ ap (λ (y : List ℕ). x ∷ y) ih
+        ∙ sym (ap (λ (t : Bool). pick_list t (without g (only k h l)) (x ∷ without g (only k h l))) p)
+    go false p false q ih = ap (λ (t : Bool). pick_list t (x ∷ only k h (without g l)) (only k h (without g l))) q ∙ ih
+
+-- in another bucket nothing is left out
+only_other : (k : ℕ → ℕ) (h g : ℕ) (l : List ℕ) → (k g ≡ h → ⊥) → without g (only k h l) ≡ only k h l
+unfolding without only
+only_other k h g [] n = refl
+only_other k h g (x ∷ l) n = go (eqb (k x) h) refl (eqb x g) refl (only_other k h g l n)
+  where
+    go : (d : Bool) → eqb (k x) h ≡ d → (b : Bool) → eqb x g ≡ b → without g (only k h l) ≡ only k h l → without g (pick_list d (x ∷ only k h l) (only k h l)) ≡ pick_list d (x ∷ only k h l) (only k h l)
+    go true q true p ih = absurd (n (ap k (sym (eqb-true x g p)) ∙ eqb-true (k x) h q))
+    go true q false p ih = ap (λ (t : Bool). pick_list t (without g (only k h l)) (x ∷ without g (only k h l))) p ∙ ap (λ (y : List ℕ). x ∷ y) ih
+    go false q b p ih = ih
+
+any_without : (g x : ℕ) (l : List ℕ) → (x ≡ g → ⊥) → any_of (eqb x) (without g l) ≡ any_of (eqb x) l
+unfolding without any_of
+any_without g x [] n = refl
+any_without g x (y ∷ l) n = go (eqb y g) refl (any_without g x l n)
+  where
+    go : (b : Bool) → eqb y g ≡ b → any_of (eqb x) (without g l) ≡ any_of (eqb x) l → any_of (eqb x) (pick_list b (without g l) (y ∷ without g l)) ≡ (eqb x y || any_of (eqb x) l)
+    go true p ih = ih ∙ sym (ap (λ (t : Bool). t || any_of (eqb x) l) (ne_eqb x y (λ e. n (e ∙ eqb-true y g p))))
+    go false p ih = ap (λ (t : Bool). eqb x y || t) ih
+
+not_without : (g : ℕ) (l : List ℕ) → any_of (eqb g) (without g l) ≡ false
+unfolding without any_of
+not_without g [] = refl
+not_without g (y ∷ l) = go (eqb y g) refl (not_without g l)
+  where
+    go : (b : Bool) → eqb y g ≡ b → any_of (eqb g) (without g l) ≡ false → any_of (eqb g) (pick_list b (without g l) (y ∷ without g l)) ≡ false
+    go true p ih = ih
+    go false p ih = ap (λ (t : Bool). t || any_of (eqb g) (without g l)) (ne_eqb g y (λ e. true≢false (sym (eq-eqb y g (sym e)) ∙ p))) ∙ ih
+
+-- the first row of a bucket
+record Front (w : List ℕ) (n : ℕ) (c : List ℕ) (g : ℕ) : Type 0 where
+  rest : List ℕ
+  is : c ≡ g ∷ rest
+  falls : Falls g rest
+  chain : Chain w (get_or w g 0) rest
+  below : g < n
+
+front : (w : List ℕ) (n p : ℕ) (c : List ℕ) (g : ℕ) → Falls n c → Chain w p c → p ≡ g + 1 → Front w n c g
+front w n p [] g f C e = absurd (omega arith)
+front w n p (x ∷ c) g f C e =
+    let z : x ≡ g = omega (arith, C.0) in
+    record { rest = c; is = ap (λ (y : ℕ). y ∷ c) z; falls = subst (λ (y : ℕ). Falls y c) z f.1; chain = subst (λ (y : ℕ). Chain w (get_or w y 0) c) z C.1; below = omega (arith, f.0) }
+
+key_of : (k : ℕ → ℕ) (h g : ℕ) (m r : List ℕ) → only k h m ≡ g ∷ r → k g ≡ h
+unfolding only
+key_of k h g [] r e = let z : ◌≡◌ {A = ℕ} 0 1 = cc in absurd (omega arith)
+key_of k h g (x ∷ m) r e = go (eqb (k x) h) refl (key_of k h g m r) e
+  where
+    go : (b : Bool) → eqb (k x) h ≡ b → (only k h m ≡ g ∷ r → k g ≡ h) → pick_list b (x ∷ only k h m) (only k h m) ≡ g ∷ r → k g ≡ h
+    go true q ih e = let z : x ≡ g = cc in ap k (sym z) ∙ eqb-true (k x) h q
+    go false q ih e = ih e
+
+module _ (W : List ℕ) (n b : ℕ) (k : ℕ → ℕ) (l : List ℕ) (h g : ℕ) (hb : h < b) (room : n + b ≤ length W) (C : Chained W n b k l) (at : get_or W (n + h) 0 ≡ g + 1) where
+  pop_front : Front W n (only k h l) g
+  pop_front = front W n (get_or W (n + h) 0) (only k h l) g (falls_only k h n l C.falls) (C.chains h hb) at
+
+  pub pop_low : (get_or W g 0 ≤ g) × (g < n)
+  pop_low = (chain_low W g (get_or W g 0) pop_front.rest pop_front.falls pop_front.chain, pop_front.below)
+
+  -- the row is of the bucket
+  pop_key : k g ≡ h
+  pop_key = key_of k h g l pop_front.rest pop_front.is
+
+  popped : Chained (set W (n + h) (get_or W g 0)) n b k (without g l)
+  unfolding without pop_front
+  popped = record { falls = falls_without g n l C.falls; chains = λ j jb. go j jb (eqb j h) refl }
+    where
+      W' : List ℕ
+      W' = set W (n + h) (get_or W g 0)
+
+      links : (i : ℕ) → i < n → get_or W' i 0 ≡ get_or W i 0
+      links i m = get_or-set_other W (n + h) i (get_or W g 0) 0 (λ e. omega arith)
+
+      own : Chain W' (get_or W' (n + h) 0) (only k h (without g l))
+      own =
+          let F = pop_front in
+          let e : only k h (without g l) ≡ F.rest =
+          only_without k h g l ∙ ap (without g) F.is ∙ ap (λ (t : Bool). pick_list t (without g F.rest) (g ∷ without g F.rest)) (eq-eqb g g refl) ∙ without_none g g F.rest (le_refl _) F.falls in
+          rw (get_or-set_same W (n + h) (get_or W g 0) 0 (omega arith), e) (chain_keep W W' n (get_or W g 0) F.rest links (falls_up g n F.rest (let z = F.below in omega arith) F.falls) F.chain)
+
+      go : (j : ℕ) → j < b → (t : Bool) → eqb j h ≡ t → Chain W' (get_or W' (n + j) 0) (only k j (without g l))
+      go j jb true e = subst (λ (i : ℕ). Chain W' (get_or W' (n + i) 0) (only k i (without g l))) (sym (eqb-true j h e)) own
+      go j jb false e =
+          let d : j ≡ h → ⊥ = λ z. true≢false (sym (eq-eqb j h z) ∙ e) in
+          rw (get_or-set_other W (n + h) (n + j) (get_or W g 0) 0 (λ z. d (omega arith)), only_without k j g l, only_other k j g l (λ z. d (sym z ∙ pop_key)))
+          (chain_keep W W' n (get_or W (n + j) 0) (only k j l) links (falls_only k j n l C.falls) (C.chains j jb))
+
 module _ (w s : List ℕ) where
-  -- a row's bucket
+  -- a variable's bucket: that of its index, moved on by its letter
   abbrev pub bucket : ℕ → ℕ → ℕ
-  bucket b g = bucket_of b (index_at w s g)
+  bucket b g = (bucket_of b (index_at w s g) + detail_at w g) % b
+
+  in_buckets : (b g : ℕ) → 0 < b → bucket b g < b
+  in_buckets b g h = mod-lt (bucket_of b (index_at w s g) + detail_at w g) h
 
   -- over n links and b buckets the words hold bindings that stand before row u, newest first: all that are in force at u
   pub record Keeps (W : List ℕ) (n b u : ℕ) : Type 0 where
@@ -201,7 +328,7 @@ module _ (w s : List ℕ) where
   unfolding any_of
   keeps_push W n b u q l h room B K = record {
     rows = u ∷ K.rows;
-    chained = index_push W n b (bucket b) u K.rows l room (bucket_below b (index_at w s u) h) K.falls K.chained;
+    chained = index_push W n b (bucket b) u K.rows l room (in_buckets b u h) K.falls K.chained;
     falls = (omega arith, K.falls);
     sound = λ g e. sound g (eqb g u) refl e;
     all = λ p g C m k. all p g C m k (dec_le (g + 1) u);
@@ -224,10 +351,11 @@ module _ (w s : List ℕ) where
   serves_bucket b u g e =
       let v = and_left _ _ e in
       let x = and_right (eqb (kind_at w g) node_variable) _ v in
-      one_bucket b (index_at w s g) (index_at w s u) (and_right (eqb (detail_at w g) (detail_at w u)) _ x)
+      ap₂ (λ (h d : ℕ). (h + d) % b) (one_bucket b (index_at w s g) (index_at w s u) (and_right (eqb (detail_at w g) (detail_at w u)) _ x))
+      (eqb-true _ _ (and_left (eqb (detail_at w g) (detail_at w u)) _ x))
 
   pub serve_start : (W : List ℕ) (n b u : ℕ) → 0 < b → Keeps W n b u → Walk W n b (bucket b) (serves u) (get_or W (n + bucket b u) 0)
-  serve_start W n b u h K = walk_start W n b (bucket b) (serves u) K.rows (bucket b u) (bucket_below b (index_at w s u) h) (λ g e. serves_bucket b u g e) K.chained
+  serve_start W n b u h K = walk_start W n b (bucket b) (serves u) K.rows (bucket b u) (in_buckets b u h) (λ g e. serves_bucket b u g e) K.chained
 
   -- ---- what the look-up tells, in a lawful tree
   module _ (ok : lawful w ≡ true) where
@@ -236,6 +364,36 @@ module _ (w s : List ℕ) where
         let L = (lawful_is w).0 ok in
         let e : tree_of most_levels w ≡ some L.tree = ap (tree_of most_levels) L.words ∙ tree_of_lem most_levels L.tree L.deep in
         climbs_is w t g k (all_climb w s L.tree e t g l k lo hi)
+
+    -- the newest binding of a bucket goes, which is no longer in force
+    pub keeps_pop : (W : List ℕ) (n b u h g : ℕ) → u < row_count w → h < b → n + b ≤ length W → get_or W (n + h) 0 ≡ g + 1 → within w (scope w (terms_above w g)) u ≡ false → Keeps W n b u → Keeps (set W (n + h) (get_or W g 0)) n b u
+    keeps_pop W n b u h g below hb room at out K = record {
+      rows = without g K.rows;
+      chained = popped W n b (bucket b) K.rows h g hb room K.chained at;
+      falls = falls_without g u K.rows K.falls;
+      sound = λ x e. sound x (eqb x g) refl e;
+      all = λ q x B l m. all q x B l m (eqb x g) refl;
+    }
+      where
+        sound : (x : ℕ) (t : Bool) → eqb x g ≡ t → any_of (eqb x) (without g K.rows) ≡ true → (q : ℕ) × Binds w q x
+        sound x true p e = absurd (true≢false (sym e ∙ ap (λ (y : ℕ). any_of (eqb y) (without g K.rows)) (eqb-true x g p) ∙ not_without g K.rows))
+        sound x false p e = K.sound x (sym (any_without g x K.rows (λ z. true≢false (sym (eq-eqb x g z) ∙ p))) ∙ e)
+
+        gone : (q : ℕ) → Binds w q g → g < u → u < next_at w q → ⊥
+        gone q B l m =
+            let x = B.behind in
+            let t : ℕ = B.pattern in
+            let z = above_is t g (omega arith) (pattern_kind w q t B.of) x B.within in
+            let v : within w (scope w (terms_above w g)) u ≡ true = ap (λ (o : Option ℕ). within w o u) (ap (scope w) z ∙ pattern_scope w q t B.of) ∙ lt-ltb _ _ m in
+            true≢false (sym v ∙ out)
+
+        all : (q x : ℕ) → Binds w q x → x < u → u < next_at w q → (t : Bool) → eqb x g ≡ t → any_of (eqb x) (without g K.rows) ≡ true
+        all q x B l m true p = let z = eqb-true x g p in absurd (gone q (subst (Binds w q) z B) (omega arith) m)
+        all q x B l m false p = any_without g x K.rows (λ z. true≢false (sym (eq-eqb x g z) ∙ p)) ∙ K.all q x B l m
+
+    -- and the one below it is lower
+    pub pop_falls : (W : List ℕ) (n b u h g : ℕ) → h < b → n + b ≤ length W → get_or W (n + h) 0 ≡ g + 1 → Keeps W n b u → (get_or W g 0 ≤ g) × (g < n)
+    pop_falls W n b u h g hb room at K = pop_low W n b (bucket b) K.rows h g hb room K.chained at
 
     module _ (W : List ℕ) (n b u : ℕ) (below : u < row_count w) (K : Keeps W n b u) where
       serves_bound : any_of (serves u) K.rows ≡ true → some_in 0 u (bound_by w s u) ≡ true

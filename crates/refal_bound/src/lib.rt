@@ -9,7 +9,7 @@ ghost use Rattle.refal_tree.specs.Lawful.{lawful};
 ghost use Rattle.refal_bound.specs.Bound.{some_in, scope, within, binds_in, is_use, is_variable, bound_by, is_unbound, first_unbound, index_at};
 ghost use Rattle.refal_bound.specs.View.{RowAt, IsPattern, IsFirst};
 ghost use Rattle.refal_bound.specs.Climb.{is_top, terms_above};
-ghost use Rattle.refal_bound.specs.Scan.{Keeps, reach, pattern_end, serves};
+ghost use Rattle.refal_bound.specs.Scan.{Keeps, bucket, reach, pattern_end, serves};
 ghost use Rattle.refal_tree.specs.Ranges.{kind_at, detail_at, parent_at};
 
 use refal_ast::kinds::NodeKind;
@@ -215,14 +215,34 @@ fn serves(file: &File, letter: u32, index: &[u8], u: usize, g: usize) -> bool
     is_variable(file, letter, index, g) && in_force(file.tree, g, u)
 }
 
-// Whether a binding before row u is equal to its variable and in force there: only those of the variable's bucket are looked at.
-fn is_bound(file: &File, bindings: &Index, letter: u32, index: &[u8], u: usize) -> bool
+// Bindings of bucket h that are no longer in force at row u are taken out, from the newest on. Scopes lie in one another, so that
+// below one in force all are.
+fn trim(file: &File, bindings: &mut Index, h: usize, u: usize)
+    requires rows { (lawful file.now.tree.now ≡ true) × (u < row_count file.now.tree.now) × (h < bindings.old.buckets) }
+    requires keeps { Keeps file.now.tree.now file.now.source.now bindings.old.words.now bindings.old.rows bindings.old.buckets u }
+    ensures kept { Keeps file.now.tree.now file.now.source.now bindings.new.words.now bindings.new.rows bindings.new.buckets u }
+    ensures shape { (bindings.new.rows ≡ bindings.old.rows) × (bindings.new.buckets ≡ bindings.old.buckets) }
+{
+    let mut next = bindings.first(h);
+    while let Some(g) = next.checked_sub(1) {
+        if in_force(file.tree, g, u) {
+            return;
+        }
+        next = bindings.after(g);
+        bindings.pop(h, g);
+    }
+}
+
+// Whether a binding before row u is equal to its variable and in force there: only those of the variable's bucket, h, are looked
+// at.
+fn is_bound(file: &File, bindings: &Index, h: usize, letter: u32, index: &[u8], u: usize) -> bool
     requires rows { (lawful file.now.tree.now ≡ true) × (u < row_count file.now.tree.now) × (bindings.now.rows ≡ row_count file.now.tree.now) }
     requires variable { (letter ≡ detail_at file.now.tree.now u) × (index.now ≡ index_at file.now.tree.now file.now.source.now u) }
+    requires buckets { (h < bindings.now.buckets) × (h ≡ bucket file.now.tree.now file.now.source.now bindings.now.buckets u) }
     requires keeps { Keeps file.now.tree.now file.now.source.now bindings.now.words.now bindings.now.rows bindings.now.buckets u }
     ensures { result ≡ some_in 0 u (bound_by file.now.tree.now file.now.source.now u) }
 {
-    let mut next = bindings.first(index);
+    let mut next = bindings.first(h);
     while let Some(g) = next.checked_sub(1) {
         if serves(file, letter, index, u, g) {
             return true;
@@ -249,11 +269,13 @@ fn scan_row(file: &File, bindings: &mut Index, u: usize, far: usize) -> bool
         return true;
     }
     let index = index(file, u);
+    let h = bindings.bucket_from(index, node.detail);
+    trim(file, bindings, h, u);
     if u < far {
-        bindings.push(index, u);
+        bindings.push(h, u);
         return true;
     }
-    is_bound(file, bindings, node.detail, index, u)
+    is_bound(file, bindings, h, node.detail, index, u)
 }
 
 // The row after the pattern t, 0 where row t is none.

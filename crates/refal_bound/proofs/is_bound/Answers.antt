@@ -1,6 +1,5 @@
 -- `refal_bound::is_bound` meets its contract: the walk over a bucket's rows.
 use Rattle.std.proofs.Common.{◌≡◌, ◌+◌, ◌<◌, true, false, arith, ap, sym, subst, ◌∙◌, ℕ, List, get_or}
-use Rattle.refal_index.specs.Hash.{bucket_of}
 use Rattle.refal_index.specs.Chain.{Walk, walk_low, walk_next}
 use Rattle.refal_bound.specs.Scan.{bucket, serves, serve_start, serve_hit, serve_end, lawful_whole}
 use Rattle.refal_bound.proofs.is_bound.Goals as goal
@@ -12,7 +11,7 @@ loop-g-init c =
     let s = a.file.now.source.now in
     let i = a.bindings.now in
     subst (Walk i.words.now i.rows i.buckets (bucket w s i.buckets) (serves w s a.u))
-    (sym (c.first-next.ensures ∙ ap (λ (name : List ℕ). get_or i.words.now (i.rows + bucket_of i.buckets name) 0) c.requires.variable.1))
+    (sym (c.first-next.ensures ∙ ap (λ (h : ℕ). get_or i.words.now (i.rows + h) 0) c.requires.buckets.1))
     (serve_start w s i.words.now i.rows i.buckets a.u i.sized.1 c.requires.keeps)
 
 pub serves-requires-clause-rows : goal.serves-requires-clause-rows
