@@ -1,7 +1,7 @@
 -- Unbound variables, row by row of a file's tree and its source (02, card 5). A sentence's pattern binds its variables, and so does a pattern
 -- behind the `:` of one of its conditions, variables at all levels below it; every other variable is used. A binding is in force from its row to the
 -- sentence's end.
-use Rattle.std.specs.Prelude.{ℕ, ◌+◌, ◌-◌, Bool, true, false, not, ◌&&◌, List, eqb, ltb, min, Option, None, Some}
+use Rattle.std.specs.Prelude.{ℕ, ◌+◌, ◌-◌, Bool, false, not, ◌&&◌, List, eqb, ltb, min, Option, None, Some}
 use Rattle.std.specs.List.{list_any, range_with_len, find}
 use Rattle.refal_text.specs.Pick.{pick}
 use Rattle.refal_ast.specs.Kinds.{node_sentence, node_condition, node_terms, node_variable}

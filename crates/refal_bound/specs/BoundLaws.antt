@@ -1,7 +1,6 @@
 -- Laws of Bound: what is known at each kind of row.
-use Rattle.std.specs.Prelude.{ℕ, ◌+◌, ◌<◌, ◌≤◌, Bool, true, false, not, ◌&&◌, List, ◌≡◌, refl, eqb, Option, None, Some}
+use Rattle.std.specs.Prelude.{ℕ, ◌+◌, ◌<◌, ◌≤◌, Bool, true, false, not, ◌&&◌, List, ◌≡◌, refl, eqb, None, Some}
 use Rattle.std.proofs.Common.{ap, sym, subst, ◌∙◌, arith, eq-eqb, eqb-true, ne_eqb}
-use Rattle.refal_text.specs.Pick.{pick}
 use Rattle.refal_ast.specs.Kinds.{node_sentence, node_condition, node_terms, node_variable, node_call}
 use Rattle.refal_ast.specs.Nodes.{Node, node_at}
 use Rattle.refal_tree.specs.Ranges.{kind_at, next_at, parent_at}
@@ -118,7 +117,7 @@ module _ (w : List ℕ) (t : ℕ) where
         pub at_second : Terms → Behind → eqb y.kind node_condition ≡ true → eqb z.kind node_sentence ≡ true → (scope w t ≡ Some z.next) × (x.next ≡ next_at w t)
         at_second e f k s = (
           scope_second (same_kind node_terms true e) (condition_not k) (parent_kind node_condition true k) (not_first f) (outer_kind true s)
-          ∙ ap Some (sym (ap (λ (v : Node). v.next) at_z ∙ ap (next_at w) outer_is)),
+              ∙ ap Some (sym (ap (λ (v : Node). v.next) at_z ∙ ap (next_at w) outer_is)),
           end_is,
         )
 

@@ -1,9 +1,8 @@
 -- Small files, whose answers compute: trees of one function over a source of indices.
 use Rattle.std.specs.Prelude.{ℕ, Bool, true, false, List, [], ◌∷◌, ◌≡◌, refl, Option, None, Some}
-use Rattle.refal_ast.specs.Tree.{Leaf, symbol, variable, Term, leaf, bracket, call, Terms, t0, t_more, Right, r_terms, r_block, Condition, condition, Conditions, c0, c_more}
-use Rattle.refal_ast.specs.Tree.{End, e_terms, e_block, Sentence, sentence, Sentences, s0, s_more, Body, b_all, b_off, Item, declaration, function, Program, p0, p_more}
+use Rattle.refal_ast.specs.Tree.{variable, Term, leaf, bracket, call, Terms, t0, t_more, r_terms, r_block, condition, Conditions, c0, c_more}
+use Rattle.refal_ast.specs.Tree.{End, e_terms, e_block, Sentence, sentence, s0, s_more, Body, b_all, function, Program, p0, p_more}
 use Rattle.refal_ast.specs.Encode.{enc_p}
-use Rattle.refal_ast.specs.declared.tree.VariableKind.{VariableKind}
 use Rattle.refal_ast.specs.declared.tree.VariableKind.TheVariants.{Symbol as kind_s, Term as kind_t, Expression as kind_e}
 use Rattle.refal_ast.specs.Encode.{enc_b, enc_t}
 use Rattle.refal_ast.specs.Tree.{size_p, size_b, size_t}

@@ -48,8 +48,8 @@ module _ (w : List ℕ) where
     pub top_not : 1 ≤ x.kind → x.kind ≤ node_call → eqb x.kind node_terms ≡ false → (i ≤ x.parent → ⊥) → (is_top i ≡ false) × (x.parent ≡ parent_at w i)
     top_not lo hi e n = (
       ap₂ (λ (a b : Bool). not a || not b)
-      (ap goes_up (sym kind_is) ∙ ap₂ (λ (a b : Bool). (a && b) && not (eqb x.kind node_terms)) (le-leb 1 x.kind lo) (le-leb x.kind node_call hi) ∙ ap not e)
-      (ap (λ (y : ℕ). ltb y i) (sym parent_is) ∙ lt-ltb x.parent i (omega arith)),
+          (ap goes_up (sym kind_is) ∙ ap₂ (λ (a b : Bool). (a && b) && not (eqb x.kind node_terms)) (le-leb 1 x.kind lo) (le-leb x.kind node_call hi) ∙ ap not e)
+          (ap (λ (y : ℕ). ltb y i) (sym parent_is) ∙ lt-ltb x.parent i (omega arith)),
       parent_is,
     )
 

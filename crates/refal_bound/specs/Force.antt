@@ -1,6 +1,6 @@
 -- Which binding is in force at which use, said of rows and without the definition of the first unbound variable. The theorems are proved in
 -- ForceTheorems.antt.
-use Rattle.std.specs.Prelude.{ℕ, ◌+◌, ◌<◌, List, ◌≡◌, ◌↔◌, Option, None, Some}
+use Rattle.std.specs.Prelude.{ℕ, ◌+◌, ◌<◌, List, ◌≡◌, ◌↔◌, None, Some}
 use Rattle.refal_ast.specs.Kinds.{node_sentence, node_condition, node_terms, node_variable}
 use Rattle.refal_ast.specs.Names.{canonical_index}
 use Rattle.refal_tree.specs.Ranges.{kind_at, detail_at, next_at, parent_at}

@@ -1,5 +1,5 @@
 -- The theorems of Force.antt.
-use Rattle.std.specs.Prelude.{ℕ, zero, suc, ◌+◌, ◌-◌, ◌≤◌, ◌<◌, Bool, true, false, not, ◌&&◌, ◌||◌, List, [], ◌∷◌, ◌≡◌, ◌↔◌, refl, eqb, ltb, min, cond, Option, None, Some}
+use Rattle.std.specs.Prelude.{ℕ, zero, suc, ◌+◌, ◌-◌, ◌≤◌, ◌<◌, Bool, true, false, not, ◌&&◌, ◌||◌, List, ◌≡◌, ◌↔◌, refl, eqb, min, cond, Option, None, Some}
 use Rattle.std.specs.List.{list_any, range_with_len, find}
 use Rattle.std.proofs.Common.{true≢false, ap, ap₂, sym, subst, ◌∙◌, arith, le_refl, eq-eqb, eqb-true, lt-ltb, ltb-true}
 use Rattle.std.proofs.lemmas.Bool.{not-true}
@@ -7,12 +7,12 @@ use Rattle.std.proofs.Math.Decide.{dec_le}
 use Rattle.refal_text.specs.Pick.{pick}
 use Rattle.refal_rows.specs.Tests.{and_left, and_right}
 use Rattle.refal_ast.specs.Kinds.{node_sentence, node_condition, node_terms, node_variable}
-use Rattle.refal_ast.specs.Names.{indices_equal, canonical_index, indices_equal_lem, equal_indices}
+use Rattle.refal_ast.specs.Names.{indices_equal_lem, equal_indices}
 use Rattle.refal_tree.specs.Ranges.{kind_at, detail_at, next_at, parent_at}
 use Rattle.refal_files.specs.FileLaws.{row_count}
-use Rattle.refal_bound.specs.Bound.{some_in, first_in, begins, behind_colon, scope, within, inside, binds_in, is_use, index_at, is_variable, bound_by, is_unbound, first_unbound}
+use Rattle.refal_bound.specs.Bound.{some_in, scope, within, inside, binds_in, is_use, index_at, is_variable, bound_by, is_unbound, first_unbound}
 use Rattle.refal_bound.specs.BoundLaws.{scope_first, scope_second}
-use Rattle.refal_bound.specs.Force.{Variable, PatternOf, first, behind, Binds, Use, InForce, variable_at, Bound, Unbound, Passes, PassesExactly, FindsFirst}
+use Rattle.refal_bound.specs.Force.{Variable, PatternOf, first, behind, Binds, Use, Bound, Unbound, Passes, PassesExactly, FindsFirst}
 
 -- ---- numbers of a range that pass a test
 pub record Hit (test : ℕ → Bool) (a n : ℕ) : Type 0 where

@@ -1,5 +1,5 @@
 -- Parts of a tree's rows, by what is bound before and behind them.
-use Rattle.std.specs.Prelude.{ℕ, ◌+◌, ◌≤◌, ◌<◌, Bool, true, false, ◌&&◌, ◌||◌, List, [], ◌∷◌, ◌++◌, ◌≡◌, refl, eqb, Option, Some}
+use Rattle.std.specs.Prelude.{ℕ, ◌+◌, ◌≤◌, ◌<◌, Bool, true, false, ◌&&◌, ◌||◌, List, [], ◌∷◌, ◌++◌, ◌≡◌, refl, eqb, Some}
 use Rattle.std.proofs.Common.{true≢false, ap, sym, subst, ◌∙◌, arith, le_refl, eq-eqb, eqb-true}
 use Rattle.std.proofs.Math.Decide.{dec_le}
 use Rattle.refal_rows.specs.Tests.{and_left, and_right}
@@ -7,8 +7,7 @@ use Rattle.refal_ast.specs.Kinds.{node_sentence, node_condition, node_terms, nod
 use Rattle.refal_ast.specs.Names.{same_list, same_true, same_refl}
 use Rattle.refal_tree.specs.Ranges.{kind_at, next_at, parent_at}
 use Rattle.refal_files.specs.FileLaws.{row_count}
-use Rattle.refal_bound.specs.Bound.{scope}
-use Rattle.refal_bound.specs.Force.{Variable, PatternOf, first, behind, Binds, Use, InForce, variable_at, Bound}
+use Rattle.refal_bound.specs.Force.{Variable, PatternOf, first, behind, Binds, Use, variable_at, Bound}
 use Rattle.refal_bound.specs.ForceTheorems.{pattern_scope}
 use Rattle.refal_bound.specs.Walks.{same_variable, is_bound, all_bound}
 use Rattle.refal_bound.specs.Climb.{goes_up, Climbs, direct, lift}

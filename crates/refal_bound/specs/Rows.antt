@@ -1,10 +1,10 @@
 -- The rows of a forest where it stands among the words of a tree.
-use Rattle.std.specs.Prelude.{ℕ, ◌+◌, ◌*◌, ◌≤◌, ◌<◌, List, [], ◌∷◌, ◌++◌, ◌≡◌, refl, length, get_or}
+use Rattle.std.specs.Prelude.{ℕ, ◌+◌, ◌*◌, ◌≤◌, ◌<◌, List, [], ◌++◌, ◌≡◌, refl, length, get_or}
 use Rattle.std.proofs.Common.{append_assoc, append-nil, sym, ap, subst, ◌∙◌, arith, length-append, get_or-append-add}
 use Rattle.std.proofs.Math.Option.{some}
 use Rattle.refal_ast.specs.Limits.{most_levels}
 use Rattle.refal_ast.specs.Nodes.{node_width, no_parent, word_at}
-use Rattle.refal_ast.specs.Tree.{Program, size_p}
+use Rattle.refal_ast.specs.Tree.{Program}
 use Rattle.refal_tree.specs.Forest.{Row, Forest, empty, tree, size_g, row_words, enc_g}
 use Rattle.refal_tree.specs.ForestLaws.{length_enc}
 use Rattle.refal_tree.specs.Lawful.{tree_of, of_tree}
@@ -51,8 +51,7 @@ lies (tree r f g) P S n q l =
     subst (λ (v : List ℕ). Lies v x (n + (1 + size_g f + size_g g)) q g) (sym (before_rest P R A B S))
     (subst (λ (m : ℕ). Lies ((P ++ (R ++ A)) ++ (B ++ S)) x m q g) (let e : x + size_g g ≡ n + (1 + size_g f + size_g g) = omega arith in e)
     (lies g (P ++ (R ++ A)) S x q
-    (let k = length-append P (R ++ A) in let m = length_enc f (n + 1) n in let e : length (P ++ (R ++ A)) ≡ node_width * x = omega arith in e))) in
-    (
+    (let k = length-append P (R ++ A) in let m = length_enc f (n + 1) n in let e : length (P ++ (R ++ A)) ≡ node_width * x = omega arith in e))) in (
       record { is = here; lo = omega arith; hi = omega arith; parent = word 7 },
       subst (λ (y : ℕ). Lies w (n + 1) y n f) (sym next) kids,
       subst (λ (y : ℕ). Lies w y (n + (1 + size_g f + size_g g)) q g) (sym next) rest,

@@ -1,27 +1,26 @@
 -- What a scan over the rows keeps: how far the patterns before a row reach, and, in lent words, the bindings before it that are still in force.
-use Rattle.std.specs.Prelude.{ℕ, zero, suc, ◌+◌, ◌-◌, ◌*◌, ◌%◌, ◌≤◌, ◌<◌, Bool, true, false, not, ◌&&◌, ◌||◌, List, [], ◌∷◌, map, ◌≡◌, refl, eqb, leb, ltb, max, get_or, set, length, Option, None, Some}
+use Rattle.std.specs.Prelude.{ℕ, zero, suc, ◌+◌, ◌-◌, ◌*◌, ◌%◌, ◌≤◌, ◌<◌, Bool, true, false, not, ◌&&◌, ◌||◌, List, [], ◌∷◌, ◌≡◌, refl, eqb, leb, ltb, max, get_or, set, length, Option, None, Some}
 use Rattle.std.proofs.Common.{true≢false, ap, ap₂, sym, subst, ◌∙◌, arith, add-one, mod-lt, le_refl, eq-eqb, eqb-true, leb-true, lt-ltb, ltb-true, ne_eqb, get_or-set_same, get_or-set_other}
-use Rattle.std.proofs.lemmas.Bool.{lt-leb, not-true}
+use Rattle.std.proofs.lemmas.Bool.{lt-leb}
 use Rattle.std.proofs.Math.Decide.{dec_le}
 use Rattle.std.proofs.Math.Option.{some}
-use Rattle.refal_text.specs.Pick.{pick}
 use Rattle.refal_rows.specs.Rows.{pick_list}
 use Rattle.refal_rows.specs.Tests.{and_left, and_right, range_lo, range_hi}
-use Rattle.refal_ast.specs.Kinds.{node_terms, node_variable, node_call}
+use Rattle.refal_ast.specs.Kinds.{node_terms, node_variable}
 use Rattle.refal_ast.specs.Limits.{most_levels, most_rows}
-use Rattle.refal_ast.specs.Names.{pick_byte, upper_byte, name_byte, canonical_name, canonical_index, indices_equal, indices_equal_lem, equal_indices, names_equal, equal_names}
+use Rattle.refal_ast.specs.Names.{pick_byte, upper_byte, name_byte, canonical_name, canonical_index, indices_equal, indices_equal_lem, equal_indices, equal_names}
 use Rattle.refal_ast.specs.Nodes.{node_width, node_at, whole_rows}
 use Rattle.refal_tree.specs.Lawful.{lawful, lawful_is, tree_of, tree_of_lem, found}
-use Rattle.refal_tree.specs.Ranges.{kind_at, detail_at, next_at, parent_at}
+use Rattle.refal_tree.specs.Ranges.{kind_at, detail_at, next_at}
 use Rattle.refal_files.specs.Files.{Placed, placed}
 use Rattle.refal_files.specs.FileLaws.{row_count}
 use Rattle.refal_index.specs.Hash.{bucket_of, equal_buckets}
 use Rattle.refal_index.specs.Chain.{only, any_of, Falls, Chain, Chained, falls_up, falls_only, chain_low, chain_keep, pushed, index_push, Walk, walk_start, walk_hit, walk_end}
 use Rattle.refal_index.specs.Named.{Holds, entered}
 use Rattle.refal_bound.specs.Bound.{some_in, scope, within, inside, binds_in, is_use, index_at, is_variable, bound_by, is_unbound, first_unbound}
-use Rattle.refal_bound.specs.Force.{Variable, PatternOf, Binds, InForce, variable_at, Bound}
-use Rattle.refal_bound.specs.ForceTheorems.{Hit, any_some, any_hit, First, some_find, none_find, Scoped, scope_pattern, pattern_scope, binds_some, some_binds, bound_some, some_bound}
-use Rattle.refal_bound.specs.Climb.{goes_up, is_top, Climbs, terms_above, climbs_is}
+use Rattle.refal_bound.specs.Force.{Variable, Binds}
+use Rattle.refal_bound.specs.ForceTheorems.{any_some, any_hit, some_find, none_find, pattern_scope, binds_some, some_binds, bound_some, some_bound}
+use Rattle.refal_bound.specs.Climb.{terms_above, climbs_is}
 use Rattle.refal_bound.specs.Parts.{pattern_kind}
 use Rattle.refal_bound.specs.WalkTheorems.{all_climb}
 

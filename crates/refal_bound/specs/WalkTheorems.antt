@@ -1,31 +1,30 @@
 -- The theorems of Walks.antt: each part of a tree, by its rows.
-use Rattle.std.specs.Prelude.{ℕ, ◌+◌, ◌≤◌, ◌<◌, Bool, true, false, ◌&&◌, List, [], ◌∷◌, ◌++◌, ◌≡◌, ◌↔◌, refl, Option, None, IsPermutation, length}
+use Rattle.std.specs.Prelude.{ℕ, ◌+◌, ◌≤◌, ◌<◌, Bool, true, false, ◌&&◌, List, [], ◌∷◌, ◌++◌, ◌≡◌, ◌↔◌, refl, None, IsPermutation, length}
 use Rattle.std.proofs.Common.{ap, sym, subst, ◌∙◌, arith, le_refl}
 use Rattle.std.proofs.Math.Option.{some}
 use Rattle.std.specs.List.{list_all}
 use Rattle.std.proofs.lemmas.List.Folds.{list_all-append}
 use Rattle.std.proofs.lemmas.List.Sums.{list_all-from_AllPass, AllPass-from_list_all}
 use Rattle.std.proofs.lemmas.List.Sorted.{All-permutation, IsPermutation-sym}
-use Rattle.refal_rows.specs.Tests.{and_left, and_right}
 use Rattle.refal_ast.specs.Kinds.{node_sentence, node_condition, node_terms, node_variable}
 use Rattle.refal_ast.specs.Limits.{most_levels}
-use Rattle.refal_ast.specs.Nodes.{node_width, no_parent}
+use Rattle.refal_ast.specs.Nodes.{no_parent}
 use Rattle.refal_ast.specs.Names.{canonical_index}
 use Rattle.refal_ast.specs.Tree.{Leaf, symbol, variable, Term, leaf, bracket, call, Terms, t0, t_more, Right, r_terms, r_block, Condition, condition, Conditions, c0, c_more}
 use Rattle.refal_ast.specs.Tree.{End, e_terms, e_block, Sentence, sentence, Sentences, s0, s_more, Body, b_all, b_off, Names, n_one, n_more, Item, declaration, function, Program, p0, p_more, size_p}
 use Rattle.refal_ast.specs.declared.tree.Symbol.TheVariants.{Char, Identifier, Number}
 use Rattle.refal_tree.specs.Forest.{Row, Forest, empty, tree, size_g}
 use Rattle.refal_tree.specs.Lawful.{tree_of, of_tree, length_tree}
-use Rattle.refal_tree.specs.Ranges.{row_at, kind_at, next_at, parent_at}
+use Rattle.refal_tree.specs.Ranges.{kind_at, next_at, parent_at}
 use Rattle.refal_tree.specs.Typed.{plain, for_term, for_t, for_terms, for_right, for_condition, for_c, for_end, for_sentence, for_s, for_b, for_n, for_item, for_p, to_forest}
 use Rattle.refal_tree.specs.TypedWords.{size_tree}
 use Rattle.refal_spelling.specs.Spell.{text_at}
 use Rattle.refal_files.specs.FileLaws.{row_count}
 use Rattle.refal_bound.specs.Bound.{first_unbound}
-use Rattle.refal_bound.specs.Force.{Variable, PatternOf, first, behind, Use, Passes}
+use Rattle.refal_bound.specs.Force.{Variable, PatternOf, first, behind}
 use Rattle.refal_bound.specs.ForceTheorems.{passes_exactly}
 use Rattle.refal_bound.specs.Rows.{Row_at, Lies, lies_tree}
-use Rattle.refal_bound.specs.Parts.{not_pattern, V, Open, Fine, Part, part_none, part_then, part_row, close, InTerms, in_none, in_then, in_row, in_variable, part_pattern, part_use, none_bound}
+use Rattle.refal_bound.specs.Parts.{not_pattern, Open, Part, part_none, part_then, part_row, close, InTerms, in_none, in_then, in_row, in_variable, part_pattern, part_use, none_bound}
 use Rattle.refal_bound.specs.Climb.{goes_up, Climbs}
 use Rattle.refal_bound.specs.Walks.{all_bound, variables_term, variables, binds_right, binds_condition, binds, passes_right, passes_condition, passes_conditions, passes_end, passes_sentence, passes_sentences, passes_body, passes_item, passes, items, WalkAgrees, OrderFree}
 
@@ -143,7 +142,7 @@ module _ (w s : List ℕ) where
         record {
           end = next_at w i;
           part = part_then w s (plain_row J bound R (λ z. omega arith) (λ z. omega arith))
-          (part_then w s U (right_part r J bound (next_at w (i + 1)) (next_at w i) i q L.1.2 k R.parent (λ z. omega arith) kq e (omega arith) m));
+              (part_then w s U (right_part r J bound (next_at w (i + 1)) (next_at w i) i q L.1.2 k R.parent (λ z. omega arith) kq e (omega arith) m));
           rest = L.2;
         }
 
@@ -184,7 +183,7 @@ module _ (w s : List ℕ) where
         record {
           end = X;
           part = close w s J bound i X (omega arith)
-          (part_then w s (plain_row X bound R (λ z. omega arith) (λ z. omega arith)) (part_then w s P (part_then w s C.part E)));
+              (part_then w s (plain_row X bound R (λ z. omega arith) (λ z. omega arith)) (part_then w s P (part_then w s C.part E)));
           rest = L.2;
         }
 

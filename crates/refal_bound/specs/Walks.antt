@@ -1,6 +1,6 @@
 -- Unbound variables as 02, card 5, words it: a walk over the sentences of a tree with a list of what is bound. The theorems are proved in
 -- WalkTheorems.antt.
-use Rattle.std.specs.Prelude.{ℕ, Bool, true, false, ◌&&◌, ◌||◌, List, [], ◌∷◌, ◌++◌, ◌≡◌, ◌↔◌, eqb, Option, None, IsPermutation}
+use Rattle.std.specs.Prelude.{ℕ, Bool, true, false, ◌&&◌, ◌||◌, List, [], ◌∷◌, ◌++◌, ◌≡◌, ◌↔◌, eqb, None, IsPermutation}
 use Rattle.std.proofs.Math.Option.{some}
 use Rattle.refal_ast.specs.Names.{canonical_index, same_list}
 use Rattle.refal_ast.specs.Tree.{Leaf, symbol, variable, Term, leaf, bracket, call, Terms, t0, t_more, Right, r_terms, r_block, Condition, condition, Conditions, c0, c_more}

@@ -105,8 +105,7 @@ fn is_use(tree: &[u32], u: usize) -> bool
     requires { whole_rows tree.now ≡ true }
     ensures { result ≡ is_use tree.now u }
 {
-    is_kind(tree, u, NodeKind::Variable)
-        && !(0..u).any(|t| binds_in(tree, u, t))
+    is_kind(tree, u, NodeKind::Variable) && !(0..u).any(|t| binds_in(tree, u, t))
 }
 
 // The text of row i.

@@ -1,10 +1,9 @@
 -- `refal_bound::bound_by` meets its contract: the pattern's rows before u are searched.
-use Rattle.std.proofs.Common.{rules, tests, ◌≡◌, ◌&&◌, ◌+◌, ◌-◌, min, arith, refl, ap, ap₂, sym, ◌∙◌, Bool, ℕ, lt-ltb}
+use Rattle.std.proofs.Common.{rules, tests, ◌≡◌, ◌+◌, ◌-◌, min, refl, ◌∙◌, lt-ltb}
 use Rattle.std.specs.List.{list_any, range_with_len}
 use Rattle.std.proofs.lemmas.Iterator.{YieldsList-from_range}
 use Rattle.std.proofs.lemmas.Iterator.Search.{any_from_yields_List}
-use Rattle.refal_tree.specs.Ranges.{next_at, detail_at}
-use Rattle.refal_bound.specs.Bound.{is_variable, index_at, bound_by, scope, within}
+use Rattle.refal_bound.specs.Bound.{is_variable, bound_by}
 use Rattle.refal_bound.proofs.bound_by.Goals as goal
 
 pub returns-in-Some : goal.returns-in-Some

@@ -1,6 +1,5 @@
 -- `refal_bound::first_unbound` meets its contract: the first row that is unbound.
-use Rattle.std.proofs.Common.{rules, tests, ◌≡◌, ◌-◌, arith, refl, ap, sym, ◌∙◌, option_map, Option, Some, None, ℕ}
-use Rattle.std.specs.List.{find, range_with_len}
+use Rattle.std.proofs.Common.{rules, tests, ◌≡◌, ◌-◌, refl, sym, ◌∙◌, option_map, Option, Some, None, ℕ}
 use Rattle.std.proofs.lemmas.Iterator.{YieldsList-from_range}
 use Rattle.std.proofs.lemmas.Iterator.Search.{find_from_yields_List}
 use Rattle.refal_files.specs.FileLaws.{row_count}

@@ -1,5 +1,5 @@
 -- `refal_bound::is_use` meets its contract: the rows before are searched for a pattern.
-use Rattle.std.proofs.Common.{rules, tests, ◌≡◌, ◌&&◌, ◌-◌, not, refl, ap, ap₂, sym, ◌∙◌, Bool}
+use Rattle.std.proofs.Common.{rules, tests, ◌≡◌, ◌&&◌, ◌-◌, not, refl, ap, sym, ◌∙◌, Bool}
 use Rattle.std.specs.List.{list_any, range_with_len}
 use Rattle.std.proofs.lemmas.Iterator.{YieldsList-from_range}
 use Rattle.std.proofs.lemmas.Iterator.Search.{any_from_yields_List}

@@ -1,8 +1,8 @@
 -- `refal_bound::scan` meets its contract.
-use Rattle.std.proofs.Common.{◌≡◌, ◌<◌, ◌≤◌, ◌+◌, true, false, not, max, arith, ap, ap₂, sym, subst, ◌∙◌, refl, ℕ, Bool, List}
+use Rattle.std.proofs.Common.{◌≡◌, ◌<◌, ◌≤◌, ◌+◌, true, false, not, max, arith, ap, ap₂, sym, ◌∙◌, refl, ℕ, Bool, List}
 use Rattle.std.proofs.Math.Decide.{dec_le}
 use Rattle.refal_bound.specs.Bound.{is_unbound}
-use Rattle.refal_bound.specs.Scan.{reach, reach_start, reach_next, pattern_end, scan_found, scan_none, lawful_whole}
+use Rattle.refal_bound.specs.Scan.{reach_start, reach_next, scan_found, scan_none, lawful_whole}
 use Rattle.refal_bound.proofs.scan.Goals as goal
 
 not_false_lem : (b : Bool) → false ≡ not b → b ≡ true
@@ -37,8 +37,7 @@ loop-u-preserved c =
     let w = c.args.file.now.tree.now in
     let s = c.args.file.now.source.now in
     let u = c.loop-u.u in
-    let I = c.loop-u.invariant in
-    (
+    let I = c.loop-u.invariant in (
       c.scan_row.ensures.shape.0 ∙ I.0,
       c.max-far.ensures ∙ ap₂ max I.1 c.pattern_end.ensures ∙ sym (reach_next w u),
       c.scan_row.ensures.kept,

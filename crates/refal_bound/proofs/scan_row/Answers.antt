@@ -8,7 +8,7 @@ use Rattle.refal_index.specs.Hash.{bucket_of}
 use Rattle.refal_index.specs.Chain.{pushed}
 use Rattle.refal_bound.specs.Bound.{some_in, index_at, bound_by}
 use Rattle.refal_bound.specs.BoundLaws.{unknown, unbound_unknown}
-use Rattle.refal_bound.specs.Scan.{Keeps, bucket, reach, keeps_skip, keeps_push, no_variable, in_pattern, used_here, binding_here, no_binding_here, other_binds_nothing}
+use Rattle.refal_bound.specs.Scan.{Keeps, bucket, keeps_skip, keeps_push, no_variable, in_pattern, used_here, binding_here, no_binding_here, other_binds_nothing}
 use Rattle.refal_bound.proofs.scan_row.Goals as goal
 
 not_not : (b : Bool) → b ≡ not (not b)

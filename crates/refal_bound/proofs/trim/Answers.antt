@@ -1,8 +1,8 @@
 -- `refal_bound::trim` meets its contract: a turn takes out the bucket's first row, which is not in force.
-use Rattle.std.proofs.Common.{◌≡◌, ◌+◌, ◌<◌, ◌≤◌, false, refl, arith, ap, sym, subst, ◌∙◌, ℕ, get_or, get_or-set_same}
+use Rattle.std.proofs.Common.{◌≡◌, ◌+◌, ◌<◌, ◌≤◌, false, arith, sym, subst, ◌∙◌, ℕ, get_or, get_or-set_same}
 use Rattle.refal_bound.specs.Bound.{scope, within}
 use Rattle.refal_bound.specs.Climb.{terms_above}
-use Rattle.refal_bound.specs.Scan.{Keeps, keeps_pop, pop_falls, lawful_whole}
+use Rattle.refal_bound.specs.Scan.{keeps_pop, pop_falls, lawful_whole}
 use Rattle.refal_bound.proofs.trim.Goals as goal
 
 pub in_force-requires : goal.in_force-requires
@@ -47,8 +47,7 @@ loop-g-preserved c =
     let at : get_or i.words.now (i.rows + a.h) 0 ≡ g + 1 = sym I.2 ∙ (let z : c.loop-g.next ≡ g + 1 = omega arith in z) in
     let h : a.h < i.buckets = subst (λ (n : ℕ). a.h < n) (sym I.1) c.requires.rows.2 in
     let room = i.sized.3 in
-    let out : within w (scope w (terms_above w g)) a.u ≡ false = cc in
-    (
+    let out : within w (scope w (terms_above w g)) a.u ≡ false = cc in (
       P.shape.0 ∙ I.0,
       P.shape.1 ∙ I.1,
       rw (P.out, P.shape.0) (c.after-next.ensures ∙ sym (get_or-set_same i.words.now (i.rows + a.h) v 0 (omega arith))),

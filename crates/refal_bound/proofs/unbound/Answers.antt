@@ -1,7 +1,5 @@
 -- `refal_bound::unbound` meets its contract: the row that is found is a variable, so its kind is known.
-use Rattle.std.proofs.Common.{◌≡◌, ◌<◌, ◌≤◌, arith, sym, ◌∙◌, List, ℕ, Option, Some, None}
-use Rattle.refal_ast.specs.Kinds.{node_variable, node_call}
-use Rattle.refal_tree.specs.Ranges.{kind_at}
+use Rattle.std.proofs.Common.{◌≡◌, arith, sym, List, ℕ, Option, Some, None}
 use Rattle.refal_bound.specs.Bound.{first_unbound}
 use Rattle.refal_bound.specs.View.{RowAt, IsFirst}
 use Rattle.refal_bound.specs.ForceTheorems.{found_variable}
