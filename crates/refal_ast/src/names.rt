@@ -69,11 +69,7 @@ fn equal<F: Fn(u8) -> u8>(left: &[u8], right: &[u8], form: F) -> bool
     requires forms { (x y : ℕ) → F.post form x y → y ≡ f x }
     ensures { result ≡ same_list (map f left.now) (map f right.now) }
 {
-    left.len() == right.len()
-        && left
-            .iter()
-            .zip(right)
-            .all(|(l, r)| form(*l) == form(*r))
+    left.len() == right.len() && left.iter().zip(right).all(|(l, r)| form(*l) == form(*r))
 }
 
 // Whether two names are equal.

@@ -1,5 +1,5 @@
 -- Laws of linking's loops over the rows' numbers: what is left from g on decides.
-use Prim.Native.Nat.{ℕ, zero, suc, ◌+◌, ◌-◌, ◌*◌, ◌/◌, ◌≤◌, ◌<◌, min}
+use Prim.Native.Nat.{ℕ, zero, suc, ◌+◌, ◌-◌, ◌/◌, ◌≤◌, ◌<◌, min}
 use Rattle.std.proofs.Math.Bool.{Bool, true, false, not}
 use Rattle.std.specs.Prelude.{◌&&◌, ◌||◌, ◌≡◌, leb, drop}
 use Rattle.std.proofs.Common.{◌∙◌, le_refl, add-one}
@@ -9,16 +9,13 @@ use Rattle.std.proofs.Math.Path.{refl, ap, sym}
 use native.Mathlib.Omega.{arith}
 use Rattle.std.proofs.Math.Dec.{eqb}
 use Rattle.std.proofs.Math.ListN.{length}
-use borrow.Author.Tests.{leb-true, le-leb, lt-leb, eqb-true, eqb-false, eq-eqb, ne_eqb, not-true, not-false}
+use borrow.Author.Tests.{le-leb, lt-leb, eqb-true, eqb-false, eq-eqb, ne_eqb, not-true, not-false}
 use Rattle.refal_text.specs.Pick.{pick}
 use Rattle.refal_rows.specs.Tests.{and_left, and_right}
 use Rattle.refal_ast.specs.Kinds.{node_name, node_function, node_call}
-use Rattle.refal_ast.specs.Limits.{most_rows}
 use Rattle.refal_ast.specs.Names.{names_equal}
-use Rattle.refal_ast.specs.Nodes.{node_width, whole_rows}
 use Rattle.refal_ast.specs.Answers.{Answer, Done}
-use Rattle.refal_tree.specs.Lawful.{lawful, tree_of, found}
-use Rattle.refal_ast.specs.Limits.{most_levels}
+use Rattle.refal_tree.specs.Lawful.{lawful, found}
 use Rattle.refal_spelling.specs.Spellings.{all_spelled}
 use Rattle.refal_files.specs.Files.{Placed, text_of, both_rows, of_kind}
 use Rattle.refal_files.specs.FileLaws.{both_count, row_at, rows_from, rows_end, kind_in, kind_out, kind_end}
