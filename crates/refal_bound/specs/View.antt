@@ -10,7 +10,7 @@ use Rattle.refal_ast.specs.Rows.{node_told}
 use Rattle.refal_tree.specs.Ranges.{kind_at, next_at}
 use Rattle.refal_bound.specs.Bound.{scope, first_unbound}
 use Rattle.refal_ast.specs.declared.nodes.Node.{Node}
-use Rattle.refal_bound.specs.declared.Pattern.{Pattern}
+use Rattle.refal_bound.specs.declared.patterns.Pattern.{Pattern}
 
 -- the result is row i of the words, or None where there is none or its kind is unknown
 abbrev pub RowAt : List ℕ → ℕ → Option Node → Type 0

@@ -1,9 +1,9 @@
--- `refal_bound::trim` meets its contract: a turn takes out the bucket's first row, which is not in force.
+-- `refal_bound::scan::trim` meets its contract: a turn takes out the bucket's first row, which is not in force.
 use Rattle.std.proofs.Common.{◌≡◌, ◌+◌, ◌<◌, ◌≤◌, false, arith, sym, subst, ◌∙◌, ℕ, get_or, get_or-set_same}
 use Rattle.refal_bound.specs.Bound.{scope, within}
 use Rattle.refal_bound.specs.Climb.{terms_above}
 use Rattle.refal_bound.specs.Scan.{keeps_pop, pop_falls, lawful_whole}
-use Rattle.refal_bound.proofs.trim.Goals as goal
+use Rattle.refal_bound.proofs.scan.trim.Goals as goal
 
 pub in_force-requires : goal.in_force-requires
 in_force-requires c = lawful_whole c.args.file.now.tree.now c.requires.rows.0

@@ -1,7 +1,7 @@
--- `refal_bound::trim`: what is in force is kept, and the bucket's first row falls.
+-- `refal_bound::scan::trim`: what is in force is kept, and the bucket's first row falls.
 use Rattle.std.proofs.Common.{◌≡◌, ◌+◌, get_or}
 use Rattle.refal_bound.specs.Scan.{Keeps}
-use Rattle.refal_bound.proofs.trim.Given as goal
+use Rattle.refal_bound.proofs.scan.trim.Given as goal
 
 abbrev pub invariant-loop-g : goal.invariant-loop-g
 invariant-loop-g l =

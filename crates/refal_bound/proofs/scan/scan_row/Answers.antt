@@ -1,4 +1,4 @@
--- `refal_bound::scan_row` meets its contract: what each kind of row does to what is in force.
+-- `refal_bound::scan::scan_row` meets its contract: what each kind of row does to what is in force.
 use Rattle.std.proofs.Common.{◌≡◌, ◌<◌, ◌≤◌, true, false, not, eqb, arith, ap, sym, subst, ◌∙◌, ℕ, Bool, List, ◌+◌, ◌%◌, refl}
 use Rattle.refal_ast.specs.Kinds.{node_variable}
 use Rattle.refal_ast.specs.KindCodes.{node_code}
@@ -9,7 +9,7 @@ use Rattle.refal_index.specs.Chain.{pushed}
 use Rattle.refal_bound.specs.Bound.{some_in, index_at, bound_by}
 use Rattle.refal_bound.specs.BoundLaws.{unknown, unbound_unknown}
 use Rattle.refal_bound.specs.Scan.{Keeps, bucket, keeps_skip, keeps_push, no_variable, in_pattern, used_here, binding_here, no_binding_here, other_binds_nothing}
-use Rattle.refal_bound.proofs.scan_row.Goals as goal
+use Rattle.refal_bound.proofs.scan.scan_row.Goals as goal
 
 not_not : (b : Bool) → b ≡ not (not b)
 not_not true = refl

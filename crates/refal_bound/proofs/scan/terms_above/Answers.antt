@@ -1,7 +1,7 @@
--- `refal_bound::terms_above` meets its contract: a turn goes up by one row.
+-- `refal_bound::scan::terms_above` meets its contract: a turn goes up by one row.
 use Rattle.std.proofs.Common.{ap, sym, ◌∙◌}
 use Rattle.refal_bound.specs.Climb.{terms_above, above_turn, above_top}
-use Rattle.refal_bound.proofs.terms_above.Goals as goal
+use Rattle.refal_bound.proofs.scan.terms_above.Goals as goal
 
 pub loop-parent-preserved : goal.loop-parent-preserved
 loop-parent-preserved c =

@@ -1,9 +1,9 @@
--- `refal_bound::scan` meets its contract.
+-- `refal_bound::scan::scan` meets its contract.
 use Rattle.std.proofs.Common.{◌≡◌, ◌<◌, ◌≤◌, ◌+◌, true, false, not, max, arith, ap, ap₂, sym, ◌∙◌, refl, ℕ, Bool, List}
 use Rattle.std.proofs.Math.Decide.{dec_le}
 use Rattle.refal_bound.specs.Bound.{is_unbound}
 use Rattle.refal_bound.specs.Scan.{reach_start, reach_next, scan_found, scan_none, lawful_whole}
-use Rattle.refal_bound.proofs.scan.Goals as goal
+use Rattle.refal_bound.proofs.scan.scan.Goals as goal
 
 not_false_lem : (b : Bool) → false ≡ not b → b ≡ true
 not_false_lem true e = refl

@@ -1,7 +1,7 @@
--- `refal_bound::terms_above`: the way from row `at` on leads where the way from row i does; rows fall.
+-- `refal_bound::scan::terms_above`: the way from row `at` on leads where the way from row i does; rows fall.
 use Rattle.std.proofs.Common.{◌≡◌}
 use Rattle.refal_bound.specs.Climb.{terms_above}
-use Rattle.refal_bound.proofs.terms_above.Given as goal
+use Rattle.refal_bound.proofs.scan.terms_above.Given as goal
 
 abbrev pub invariant-loop-parent : goal.invariant-loop-parent
 invariant-loop-parent l = terms_above l.tree l.i ≡ terms_above l.tree l.at

@@ -1,10 +1,10 @@
--- `refal_bound::is_use` meets its contract: the rows before are searched for a pattern.
+-- `refal_bound::plain::is_use` meets its contract: the rows before are searched for a pattern.
 use Rattle.std.proofs.Common.{rules, tests, ◌≡◌, ◌&&◌, ◌-◌, not, refl, ap, sym, ◌∙◌, Bool}
 use Rattle.std.specs.List.{list_any, range_with_len}
 use Rattle.std.proofs.lemmas.Iterator.{YieldsList-from_range}
 use Rattle.std.proofs.lemmas.Iterator.Search.{any_from_yields_List}
 use Rattle.refal_bound.specs.Bound.{binds_in, is_use}
-use Rattle.refal_bound.proofs.is_use.Goals as goal
+use Rattle.refal_bound.proofs.plain.is_use.Goals as goal
 
 pub returns-then-is_kind : goal.returns-then-is_kind
 unfolding is_use

@@ -1,11 +1,11 @@
--- `refal_bound::is_unbound` meets its contract: the rows before are searched for a pattern that binds an equal variable.
+-- `refal_bound::plain::is_unbound` meets its contract: the rows before are searched for a pattern that binds an equal variable.
 use Rattle.std.proofs.Common.{rules, tests, ◌≡◌, ◌&&◌, ◌-◌, not, refl, ap, sym, ◌∙◌, Bool}
 use Rattle.std.specs.List.{list_any, range_with_len}
 use Rattle.std.proofs.lemmas.Iterator.{YieldsList-from_range}
 use Rattle.std.proofs.lemmas.Iterator.Search.{any_from_yields_List}
 use Rattle.refal_bound.specs.Bound.{bound_by, is_unbound}
 use Rattle.refal_bound.specs.BoundLaws.{unbound_unknown}
-use Rattle.refal_bound.proofs.is_unbound.Goals as goal
+use Rattle.refal_bound.proofs.plain.is_unbound.Goals as goal
 
 pub returns-in_default : goal.returns-in_default
 returns-in_default c = sym (unbound_unknown _ _ _ c.in_default.ensures.1)

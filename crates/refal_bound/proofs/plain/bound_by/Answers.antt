@@ -1,10 +1,10 @@
--- `refal_bound::bound_by` meets its contract: the pattern's rows before u are searched.
+-- `refal_bound::plain::bound_by` meets its contract: the pattern's rows before u are searched.
 use Rattle.std.proofs.Common.{rules, tests, ◌≡◌, ◌+◌, ◌-◌, min, refl, ◌∙◌, lt-ltb}
 use Rattle.std.specs.List.{list_any, range_with_len}
 use Rattle.std.proofs.lemmas.Iterator.{YieldsList-from_range}
 use Rattle.std.proofs.lemmas.Iterator.Search.{any_from_yields_List}
 use Rattle.refal_bound.specs.Bound.{is_variable, bound_by}
-use Rattle.refal_bound.proofs.bound_by.Goals as goal
+use Rattle.refal_bound.proofs.plain.bound_by.Goals as goal
 
 pub returns-in-Some : goal.returns-in-Some
 unfolding bound_by

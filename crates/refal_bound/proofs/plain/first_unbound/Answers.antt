@@ -1,10 +1,10 @@
--- `refal_bound::first_unbound` meets its contract: the first row that is unbound.
+-- `refal_bound::plain::first_unbound` meets its contract: the first row that is unbound.
 use Rattle.std.proofs.Common.{rules, tests, ◌≡◌, ◌-◌, refl, sym, ◌∙◌, option_map, Option, Some, None, ℕ}
 use Rattle.std.proofs.lemmas.Iterator.{YieldsList-from_range}
 use Rattle.std.proofs.lemmas.Iterator.Search.{find_from_yields_List}
 use Rattle.refal_files.specs.FileLaws.{row_count}
 use Rattle.refal_bound.specs.Bound.{is_unbound, first_unbound}
-use Rattle.refal_bound.proofs.first_unbound.Goals as goal
+use Rattle.refal_bound.proofs.plain.first_unbound.Goals as goal
 
 same : (o : Option ℕ) → option_map (λ (x : ℕ). x) o ≡ o
 same None = refl

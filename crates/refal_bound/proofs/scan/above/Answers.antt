@@ -1,10 +1,10 @@
--- `refal_bound::above` meets its contract.
+-- `refal_bound::scan::above` meets its contract.
 use Rattle.std.proofs.Common.{◌≡◌, true, false, eqb, arith}
 use Rattle.refal_ast.specs.Kinds.{node_terms}
 use Rattle.refal_ast.specs.KindCodes.{node_code}
 use Rattle.refal_bound.specs.View.{kind_in}
 use Rattle.refal_bound.specs.Climb.{top_unknown, top_terms, top_last, top_not}
-use Rattle.refal_bound.proofs.above.Goals as goal
+use Rattle.refal_bound.proofs.scan.above.Goals as goal
 
 pub returns-in_default : goal.returns-in_default
 returns-in_default c = top_unknown c.args.tree.now c.args.i c.in_default.ensures

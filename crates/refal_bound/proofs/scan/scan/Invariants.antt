@@ -1,9 +1,9 @@
--- `refal_bound::scan`: no row before is unbound, and what is in force is kept.
+-- `refal_bound::scan::scan`: no row before is unbound, and what is in force is kept.
 use Rattle.std.proofs.Common.{◌≡◌, ◌<◌, ℕ, false}
 use Rattle.refal_bound.specs.Bound.{is_unbound}
 use Rattle.refal_bound.specs.Scan.{Keeps, reach}
 use Rattle.refal_files.specs.FileLaws.{row_count}
-use Rattle.refal_bound.proofs.scan.Given as goal
+use Rattle.refal_bound.proofs.scan.scan.Given as goal
 
 abbrev pub invariant-loop-u : goal.invariant-loop-u
 invariant-loop-u l =

@@ -1,8 +1,8 @@
--- `refal_bound::is_bound` meets its contract: the walk over a bucket's rows.
+-- `refal_bound::scan::is_bound` meets its contract: the walk over a bucket's rows.
 use Rattle.std.proofs.Common.{◌≡◌, ◌+◌, true, false, arith, ap, sym, subst, ◌∙◌, ℕ, get_or}
 use Rattle.refal_index.specs.Chain.{Walk, walk_low, walk_next}
 use Rattle.refal_bound.specs.Scan.{bucket, serves, serve_start, serve_hit, serve_end, lawful_whole}
-use Rattle.refal_bound.proofs.is_bound.Goals as goal
+use Rattle.refal_bound.proofs.scan.is_bound.Goals as goal
 
 pub loop-g-init : goal.loop-g-init
 loop-g-init c =

@@ -1,7 +1,7 @@
--- `refal_bound::first_row` meets its contract: a lawful tree's rows are few.
+-- `refal_bound::scan::first_row` meets its contract: a lawful tree's rows are few.
 use Rattle.std.proofs.Common.{arith}
 use Rattle.refal_bound.specs.Scan.{keeps_start, lawful_whole, lawful_few}
-use Rattle.refal_bound.proofs.first_row.Goals as goal
+use Rattle.refal_bound.proofs.scan.first_row.Goals as goal
 
 pub first_unbound-requires : goal.first_unbound-requires
 first_unbound-requires c = lawful_whole c.args.file.now.tree.now c.requires
