@@ -206,7 +206,7 @@ pub fn original_agrees(case: &Case, outcome: &Outcome) -> bool {
     use crate::terms::{put_bytes, put_rows};
     let added = matches!(
         outcome.number(),
-        1 | 2 | 25 | 30 | 37 | 38 | 40 | 41 | 42 | 50 | 60 | 61
+        1 | 2 | 25 | 30 | 37 | 38 | 40 | 41 | 42 | 50 | 60 | 61 | 62
     );
     if added {
         return true;

@@ -46,6 +46,7 @@ reason_code reason.TextTooLong = 42
 reason_code reason.OutputShort = 50
 reason_code reason.FunctionRepeated = 60
 reason_code reason.FunctionMissing = 61
+reason_code reason.VariableUnbound = 62
 reason_code reason.NoReal = 64
 reason_code reason.ExponentTooLong = 65
 reason_code reason.DigitsShort = 66

@@ -49,6 +49,7 @@ pub enum Reason {
     OutputShort = 50,
     FunctionRepeated = 60,
     FunctionMissing = 61,
+    VariableUnbound = 62,
     NoReal = 64,
     ExponentTooLong = 65,
     DigitsShort = 66,

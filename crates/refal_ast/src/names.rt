@@ -1,6 +1,6 @@
 // Names: canonical forms and equality. Case folds; in names `-` and `_` are equivalent too.
 ghost use Rattle.std.specs.Prelude.{◌≡◌, ℕ, map};
-ghost use Rattle.refal_ast.specs.Names.{upper_byte, name_byte, canonical_name, canonical_index, names_equal, form_answer, form_bytes};
+ghost use Rattle.refal_ast.specs.Names.{upper_byte, name_byte, canonical_name, canonical_index, same_list, names_equal, indices_equal, form_answer, form_bytes};
 ghost use Rattle.refal_ast.specs.Told.{told};
 
 use crate::answers::{Reason, Refusal};
@@ -62,13 +62,28 @@ pub fn canonical_variable_index(index: &[u8], out: &mut [u8]) -> Result<usize, R
     canonical(index, out, index_byte)
 }
 
-// Whether two names are equal, in one pass and with no buffer.
+// Whether the forms of two texts are equal, in one pass and with no buffer.
+fn equal<F: Fn(u8) -> u8>(left: &[u8], right: &[u8], form: F) -> bool
+    ghost f: { ℕ → ℕ }
+    requires callable { F.IsAlwaysCallable form }
+    requires forms { (x y : ℕ) → F.post form x y → y ≡ f x }
+    ensures { result ≡ same_list (map f left.now) (map f right.now) }
+{
+    left.len() == right.len() && left.iter().zip(right).all(|(l, r)| form(*l) == form(*r))
+}
+
+// Whether two names are equal.
+#[tactic(auto, unfolding(crate::specs::Names::canonical_name))]
 pub fn identifiers_equal(left: &[u8], right: &[u8]) -> bool
     ensures { result ≡ names_equal left.now right.now }
 {
-    left.len() == right.len()
-        && left
-            .iter()
-            .zip(right)
-            .all(|(l, r)| name_byte(*l) == name_byte(*r))
+    equal(left, right, name_byte)
+}
+
+// Whether the indices of two variables are equal.
+#[tactic(auto, unfolding(crate::specs::Names::canonical_index))]
+pub fn indices_equal(left: &[u8], right: &[u8]) -> bool
+    ensures { result ≡ indices_equal left.now right.now }
+{
+    equal(left, right, index_byte)
 }

@@ -17,7 +17,7 @@ pub struct Index<'w> {
 }
 
 impl<'w> Index<'w> {
-    ghost use Rattle.std.specs.Prelude.{ℕ};
+    ghost use Rattle.std.specs.Prelude.{ℕ, ◌%◌, get_or, set};
     ghost use Rattle.refal_files.specs.Files.{Placed};
     ghost use Rattle.refal_files.specs.View.{rows_of, row_of};
     ghost use Rattle.refal_index.specs.Chain.{pushed};
@@ -45,27 +45,60 @@ impl<'w> Index<'w> {
         ensures shape { (self.new.rows ≡ self.old.rows) × (self.new.buckets ≡ self.old.buckets) }
     {
         if Bearers::All.contain(&files.row(g)) {
-            self.push(files.text(g), g);
+            let h = self.bucket(files.text(g));
+            self.push(h, g);
         }
     }
 
     // The bucket of a name.
-    fn bucket(&self, name: &[u8]) -> usize
+    pub fn bucket(&self, name: &[u8]) -> usize
         ensures { (result ≡ bucket_of self.now.buckets name.now) × (result < self.now.buckets) }
     {
         let spread = hash(name).wrapping_mul(2654435769);
         spread as usize * self.buckets / 4294967296
     }
 
-    // Row g is put in by its name, above all rows that are in.
-    fn push(&mut self, name: &[u8], g: usize)
-        requires { g < self.old.rows }
-        ensures put { self.new.words.now ≡ pushed self.old.words.now self.old.rows (bucket_of self.old.buckets name.now) g }
+    // The same, moved on by so many buckets, past the last one to the first.
+    pub fn bucket_from(&self, name: &[u8], by: u32) -> usize
+        ensures { (result ≡ (bucket_of self.now.buckets name.now + by) % self.now.buckets) × (result < self.now.buckets) }
+    {
+        (self.bucket(name) + by as usize) % self.buckets
+    }
+
+    // Row g is put into bucket h, above all rows that are in.
+    pub fn push(&mut self, h: usize, g: usize)
+        requires { (h < self.old.buckets) × (g < self.old.rows) }
+        ensures put { self.new.words.now ≡ pushed self.old.words.now self.old.rows h g }
         ensures shape { (self.new.rows ≡ self.old.rows) × (self.new.buckets ≡ self.old.buckets) }
     {
-        let at = self.rows + self.bucket(name);
+        let at = self.rows + h;
         self.words[g] = self.words[at];
         self.words[at] = g as u32 + 1;
+    }
+
+    // Row g, the newest of bucket h, is taken out.
+    pub fn pop(&mut self, h: usize, g: usize)
+        requires { (h < self.old.buckets) × (g < self.old.rows) }
+        ensures out { self.new.words.now ≡ set self.old.words.now (self.old.rows + h) (get_or self.old.words.now g 0) }
+        ensures shape { (self.new.rows ≡ self.old.rows) × (self.new.buckets ≡ self.old.buckets) }
+    {
+        self.words[self.rows + h] = self.words[g];
+    }
+
+    // Where the rows of bucket h begin: the newest row's number and one more, 0 where there is none.
+    pub fn first(&self, h: usize) -> usize
+        requires { h < self.now.buckets }
+        ensures { result ≡ get_or self.now.words.now (self.now.rows + h) 0 }
+    {
+        self.words[self.rows + h] as usize
+    }
+
+    // Where they go on below row g.
+    pub fn after(&self, g: usize) -> usize
+        requires { g < self.now.rows }
+        ensures { result ≡ get_or self.now.words.now g 0 }
+    {
+        self.words[g] as usize
     }
 
     // Whether a row that is in bears the name: only the rows of the name's bucket are looked at.

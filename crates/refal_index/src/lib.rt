@@ -10,7 +10,7 @@ ghost use Rattle.refal_files.specs.View.{rows_of, row_of, placed_of};
 ghost use Rattle.refal_index.specs.Named.{bears, answers_to};
 ghost use Rattle.refal_index.specs.View.{only_functions, IndexesIf, indexes_if_prop};
 
-use crate::index::Index;
+pub use crate::index::Index;
 use refal_ast::kinds::NodeKind;
 use refal_ast::names::identifiers_equal;
 use refal_files::{Files, Row};

@@ -9,6 +9,7 @@ use Rattle.refal_tree.specs.Lawful.{lawful}
 use Rattle.refal_spelling.specs.Spellings.{all_spelled}
 use Rattle.refal_files.specs.Files.{node_text}
 use Rattle.refal_files.specs.FileLaws.{row_count}
+use Rattle.refal_bound.specs.Force.{Passes}
 use Rattle.refal_link.specs.Link.{link_answer}
 
 -- row i of file one, and of file two
@@ -32,7 +33,7 @@ module _ (w₁ s₁ w₂ s₂ : List ℕ) where
     by_function : (p : Place) → Stands node_function p → names_equal (name_at c) (name_at p) ≡ true → Met c
     by_declared : (p : Place) → Stands node_name p → names_equal (name_at c) (name_at p) ≡ true → Met c
 
-  -- both files pass 40 and 41; functions of equal names are one and the same; every call's name is met
+  -- both files pass 40 and 41; functions of equal names are one and the same; every call's name is met; every variable that is used is bound
   pub record Links : Type 0 where
     pub lawful_one : lawful w₁ ≡ true
     pub spelled_one : all_spelled s₁ w₁ ≡ true
@@ -40,6 +41,8 @@ module _ (w₁ s₁ w₂ s₂ : List ℕ) where
     pub spelled_two : all_spelled s₂ w₂ ≡ true
     pub apart : (p q : Place) → Stands node_function p → Stands node_function q → names_equal (name_at p) (name_at q) ≡ true → p ≡ q
     pub met : (c : Place) → Stands node_call c → Met c
+    pub bound_one : Passes w₁ s₁
+    pub bound_two : Passes w₂ s₂
 
 -- how many calls a tree has
 abbrev pub calls_among : List Node → ℕ

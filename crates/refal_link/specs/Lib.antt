@@ -1,4 +1,5 @@
--- Definitions: Link (what is answered). Statements: Accepts (when linking accepts, without the definition); their proofs: Theorems. Laws: LinkLaws.
+-- Definitions: Link (what is answered), Unbound (its part about variables). Statements: Accepts (when linking accepts, without the definition); their proofs: Theorems. Laws: LinkLaws.
+pub mod Unbound
 pub mod Link
 pub mod Accepts
 pub mod LinkLaws

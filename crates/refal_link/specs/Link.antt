@@ -1,4 +1,4 @@
--- What `link` answers for the node words and the source of file one and of file two, and what it leaves in the words lent (02, card 3). The rows of
+-- What `link` answers for the node words and the source of file one and of file two, and what it leaves in the words lent (02, cards 3 and 5). The rows of
 -- both files stand in one list, file one's before file two's; names are equal when their canonical forms are (refal_ast specs/Names.antt).
 use Rattle.std.specs.Prelude.{ℕ, Bool, false, not, ◌||◌, List, [], ◌∷◌, ◌++◌, length, replicate}
 use Rattle.std.proofs.Math.Option.{Option, none, some}
@@ -9,6 +9,7 @@ use Rattle.refal_ast.specs.Answers.{refusal, Answer, Done, Refused}
 use Rattle.refal_tree.specs.Lawful.{lawful}
 use Rattle.refal_spelling.specs.Spellings.{all_spelled}
 use Rattle.refal_files.specs.Files.{Placed, text_of, both_rows, of_kind}
+use Rattle.refal_link.specs.Unbound.{both_bound}
 
 -- the functions, the declared names and the calls of both files, each in order
 abbrev pub functions : List Placed → List Placed
@@ -58,9 +59,9 @@ refuse number = Refused (refusal number 0 0 0 0 0)
 abbrev pub checked : List ℕ → List ℕ → Answer → Answer
 checked w src rest = pick (not (lawful w)) (refuse 40) (pick (not (all_spelled src w)) (refuse 41) rest)
 
--- of file one, then of file two
+-- of file one, then of file two; 62 comes last
 unfoldable pub link_answer : List ℕ → List ℕ → List ℕ → List ℕ → Answer
-link_answer w₁ s₁ w₂ s₂ = checked w₁ s₁ (checked w₂ s₂ (linked (both_rows w₁ s₁ w₂ s₂)))
+link_answer w₁ s₁ w₂ s₂ = checked w₁ s₁ (checked w₂ s₂ (both_bound w₁ s₁ w₂ s₂ (linked (both_rows w₁ s₁ w₂ s₂))))
 
 -- what is left in the work words: zeros, whatever the answer
 abbrev pub link_words : List ℕ → List ℕ

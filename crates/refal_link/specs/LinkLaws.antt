@@ -1,5 +1,5 @@
 -- Laws of linking's loops over the rows' numbers: what is left from g on decides.
-use Prim.Native.Nat.{ℕ, zero, suc, ◌+◌, ◌-◌, ◌*◌, ◌/◌, ◌≤◌, ◌<◌, min}
+use Prim.Native.Nat.{ℕ, zero, suc, ◌+◌, ◌-◌, ◌/◌, ◌≤◌, ◌<◌, min}
 use Rattle.std.proofs.Math.Bool.{Bool, true, false, not}
 use Rattle.std.specs.Prelude.{◌&&◌, ◌||◌, ◌≡◌, leb, drop}
 use Rattle.std.proofs.Common.{◌∙◌, le_refl, add-one}
@@ -9,28 +9,19 @@ use Rattle.std.proofs.Math.Path.{refl, ap, sym}
 use native.Mathlib.Omega.{arith}
 use Rattle.std.proofs.Math.Dec.{eqb}
 use Rattle.std.proofs.Math.ListN.{length}
-use borrow.Author.Tests.{leb-true, le-leb, lt-leb, eqb-true, eqb-false, eq-eqb, ne_eqb, not-true, not-false}
+use borrow.Author.Tests.{le-leb, lt-leb, eqb-true, eqb-false, eq-eqb, ne_eqb, not-true, not-false}
 use Rattle.refal_text.specs.Pick.{pick}
 use Rattle.refal_rows.specs.Tests.{and_left, and_right}
 use Rattle.refal_ast.specs.Kinds.{node_name, node_function, node_call}
-use Rattle.refal_ast.specs.Limits.{most_rows}
 use Rattle.refal_ast.specs.Names.{names_equal}
-use Rattle.refal_ast.specs.Nodes.{node_width, whole_rows}
 use Rattle.refal_ast.specs.Answers.{Answer, Done}
-use Rattle.refal_tree.specs.Lawful.{lawful, tree_of, found}
-use Rattle.refal_ast.specs.Limits.{most_levels}
+use Rattle.refal_tree.specs.Lawful.{lawful, found}
 use Rattle.refal_spelling.specs.Spellings.{all_spelled}
 use Rattle.refal_files.specs.Files.{Placed, text_of, both_rows, of_kind}
 use Rattle.refal_files.specs.FileLaws.{both_count, row_at, rows_from, rows_end, kind_in, kind_out, kind_end}
 use Rattle.refal_index.specs.Named.{answers_to, seen}
+use Rattle.refal_link.specs.Unbound.{both_bound}
 use Rattle.refal_link.specs.Link.{functions, declared, calls, among, repeated, missing, shown, shown_at, resolved, linked, checked, link_answer}
-
--- ---- lawful words are not too many
-pub lawful_length : (w : List ℕ) → lawful w ≡ true → length w ≤ node_width * most_rows
-unfolding lawful
-lawful_length w h =
-    leb-true (length w) (node_width * most_rows)
-    (and_right (whole_rows w) (leb (length w) (node_width * most_rows)) (and_left (whole_rows w && leb (length w) (node_width * most_rows)) (found (tree_of most_levels w)) h))
 
 -- ---- the functions before g, newest first
 unfoldable pub earlier : (ℕ → Placed) → ℕ → List Placed
@@ -248,6 +239,6 @@ pub passed : (w s : List ℕ) (rest : Answer) → lawful w ≡ true → all_spel
 passed w s rest a b = rw (a, b) refl
 
 module _ (w₁ s₁ w₂ s₂ : List ℕ) (a : lawful w₁ ≡ true) (b : all_spelled s₁ w₁ ≡ true) where
-  pub both_checked : lawful w₂ ≡ true → all_spelled s₂ w₂ ≡ true → linked (both_rows w₁ s₁ w₂ s₂) ≡ link_answer w₁ s₁ w₂ s₂
+  pub both_checked : lawful w₂ ≡ true → all_spelled s₂ w₂ ≡ true → both_bound w₁ s₁ w₂ s₂ (linked (both_rows w₁ s₁ w₂ s₂)) ≡ link_answer w₁ s₁ w₂ s₂
   unfolding link_answer
   both_checked c d = sym (passed w₁ s₁ _ a b ∙ passed w₂ s₂ _ c d)

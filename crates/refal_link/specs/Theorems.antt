@@ -9,12 +9,17 @@ use Rattle.refal_rows.specs.Tests.{and_left, and_right}
 use Rattle.refal_ast.specs.Kinds.{node_name, node_function, node_call}
 use Rattle.refal_ast.specs.Names.{names_equal, same_sym, canonical_name}
 use Rattle.refal_ast.specs.Nodes.{Node, node_at, nodes_of}
-use Rattle.refal_ast.specs.Answers.{Answer, Done}
+use Rattle.refal_ast.specs.Answers.{Answer, Done, Refused}
 use Rattle.refal_tree.specs.Lawful.{lawful}
 use Rattle.refal_spelling.specs.Spellings.{all_spelled}
 use Rattle.refal_files.specs.Files.{Placed, placed, text_of, file_rows, both_rows, of_kind}
 use Rattle.refal_files.specs.FileLaws.{row_count, both_count, row_at, row_one, row_two, kind_end, of_append}
 use Rattle.refal_index.specs.Named.{bears, answers_to, seen, seen_hit, seen_some, answers_is, answers_both}
+use Rattle.refal_bound.specs.Bound.{first_unbound}
+use Rattle.refal_bound.specs.Force.{Passes}
+use Rattle.refal_bound.specs.ForceTheorems.{passes_exactly}
+use Rattle.refal_link.specs.Unbound.{Found, shown_unbound, both_bound}
+use Rattle.std.specs.Prelude.{None, Some}
 use Rattle.refal_link.specs.Link.{functions, calls, repeated, shown, shown_at, resolved, linked, refuse, checked, link_answer}
 use Rattle.refal_link.specs.LinkLaws.{repeats, repeats_is, at_row, OpenAt, open_start, open_hit, open_next, open_end, Counting, calls_start, lost, lost_is, lost_not, calls_hit, calls_next, calls_end, linked_none, both_checked}
 use Rattle.refal_link.specs.Accepts.{Place, one, two, Stands, name_at, Met, by_function, by_declared, Links, calls_among, calls_in, AcceptsExactly, EitherWay}
@@ -269,6 +274,24 @@ linked_done rows n e = go (repeated [] (functions rows)) refl e
     go none q h = (q, h)
     go (some p) q h = let z : ◌≡◌ {A = ℕ} 0 1 = cc in absurd (omega arith)
 
+record Bound (w₁ s₁ w₂ s₂ : List ℕ) (a : Answer) (n : ℕ) : Type 0 where
+  goes : a ≡ Done n
+  one_bound : Passes w₁ s₁
+  two_bound : Passes w₂ s₂
+
+bound_done : (w₁ s₁ w₂ s₂ : List ℕ) (a : Answer) (n : ℕ) → both_bound w₁ s₁ w₂ s₂ a ≡ Done n → Bound w₁ s₁ w₂ s₂ a n
+bound_done w₁ s₁ w₂ s₂ (Refused r) n e = let z : ◌≡◌ {A = ℕ} 0 1 = cc in absurd (omega arith)
+bound_done w₁ s₁ w₂ s₂ (Done m) n e = go (first_unbound w₁ s₁) refl (first_unbound w₂ s₂) refl e
+  where
+    go : (o : Found) → first_unbound w₁ s₁ ≡ o → (p : Found) → first_unbound w₂ s₂ ≡ p → shown_unbound 1 w₁ o (shown_unbound 2 w₂ p (Done m)) ≡ Done n → Bound w₁ s₁ w₂ s₂ (Done m) n
+    go None q None r h = record { goes = h; one_bound = (passes_exactly w₁ s₁).0 q; two_bound = (passes_exactly w₂ s₂).0 r }
+    go None q (Some u) r h = let z : ◌≡◌ {A = ℕ} 0 1 = cc in absurd (omega arith)
+    go (Some u) q p r h = let z : ◌≡◌ {A = ℕ} 0 1 = cc in absurd (omega arith)
+
+done_bound : (w₁ s₁ w₂ s₂ : List ℕ) (n : ℕ) → Passes w₁ s₁ → Passes w₂ s₂ → both_bound w₁ s₁ w₂ s₂ (Done n) ≡ Done n
+done_bound w₁ s₁ w₂ s₂ n p q =
+    ap₂ (λ (a b : Found). shown_unbound 1 w₁ a (shown_unbound 2 w₂ b (Done n))) ((passes_exactly w₁ s₁).1 p) ((passes_exactly w₂ s₂).1 q)
+
 -- ---- the theorems
 pub accepts_exactly : AcceptsExactly
 unfolding link_answer
@@ -276,9 +299,10 @@ accepts_exactly w₁ s₁ w₂ s₂ n = (to, from)
   where
     to : link_answer w₁ s₁ w₂ s₂ ≡ Done n → Links w₁ s₁ w₂ s₂ × (n ≡ calls_in w₁ + calls_in w₂)
     to e =
-        let p = checked_done w₁ s₁ (checked w₂ s₂ (linked (both_rows w₁ s₁ w₂ s₂))) n e in
-        let q = checked_done w₂ s₂ (linked (both_rows w₁ s₁ w₂ s₂)) n p.goes in
-        let r = linked_done (both_rows w₁ s₁ w₂ s₂) n q.goes in (
+        let p = checked_done w₁ s₁ (checked w₂ s₂ (both_bound w₁ s₁ w₂ s₂ (linked (both_rows w₁ s₁ w₂ s₂)))) n e in
+        let q = checked_done w₂ s₂ (both_bound w₁ s₁ w₂ s₂ (linked (both_rows w₁ s₁ w₂ s₂))) n p.goes in
+        let b = bound_done w₁ s₁ w₂ s₂ (linked (both_rows w₁ s₁ w₂ s₂)) n q.goes in
+        let r = linked_done (both_rows w₁ s₁ w₂ s₂) n b.goes in (
           record {
             lawful_one = p.keeps;
             spelled_one = p.spells;
@@ -286,6 +310,8 @@ accepts_exactly w₁ s₁ w₂ s₂ n = (to, from)
             spelled_two = q.spells;
             apart = fresh_apart w₁ s₁ w₂ s₂ (all_fresh w₁ s₁ w₂ s₂ r.0);
             met = kept_met w₁ s₁ w₂ s₂ (all_kept w₁ s₁ w₂ s₂ n r.1);
+            bound_one = b.one_bound;
+            bound_two = b.two_bound;
           },
           all_counted w₁ s₁ w₂ s₂ n r.1 ∙ calls_both w₁ s₁ w₂ s₂,
         )
@@ -295,9 +321,11 @@ accepts_exactly w₁ s₁ w₂ s₂ n = (to, from)
         let L = h.0 in
         let f = fresh_all w₁ s₁ w₂ s₂ (apart_fresh w₁ s₁ w₂ s₂ L.apart) in
         sym (both_checked w₁ s₁ w₂ s₂ L.lawful_one L.spelled_one L.lawful_two L.spelled_two)
-        ∙ sym (linked_none w₁ s₁ w₂ s₂ (both_count w₁ w₂) (both_count w₁ w₂) f (le_refl _))
+        ∙ ap (both_bound w₁ s₁ w₂ s₂)
+        (sym (linked_none w₁ s₁ w₂ s₂ (both_count w₁ w₂) (both_count w₁ w₂) f (le_refl _))
         ∙ kept_all w₁ s₁ w₂ s₂ (met_kept w₁ s₁ w₂ s₂ L.met)
-        ∙ ap Done (calls_both w₁ s₁ w₂ s₂ ∙ sym h.1)
+        ∙ ap Done (calls_both w₁ s₁ w₂ s₂ ∙ sym h.1))
+        ∙ done_bound w₁ s₁ w₂ s₂ n L.bound_one L.bound_two
 
 -- the places of the files in the other order
 abbrev swap : Place → Place
@@ -329,6 +357,8 @@ links_swap w₁ s₁ w₂ s₂ L = record {
   apart = λ p q a b e. sym (swap_swap p)
       ∙ ap swap (L.apart (swap p) (swap q) (stands_swap w₁ s₁ w₂ s₂ node_function p a) (stands_swap w₁ s₁ w₂ s₂ node_function q b) (same_names _ _ _ _ (sym (name_swap w₁ s₁ w₂ s₂ p)) (sym (name_swap w₁ s₁ w₂ s₂ q)) e))
       ∙ swap_swap q;
+  bound_one = L.bound_two;
+  bound_two = L.bound_one;
   met = λ c a. met c (L.met (swap c) (stands_swap w₁ s₁ w₂ s₂ node_call c a));
 }
   where

@@ -1,5 +1,6 @@
 -- The code's files and answers as Link.antt has them.
 use Rattle.std.specs.Prelude.{ℕ, Bool, true, false, List, [], ◌≡◌, refl, Result, Ok, Err}
+use Rattle.std.proofs.Common.{◌∙◌}
 use Rattle.refal_ast.specs.Told.{reason_code, refusal_told}
 use Rattle.refal_ast.specs.Answers.{Answer, Refused}
 use Rattle.refal_ast.specs.declared.answers.Reason.{Reason}
@@ -9,6 +10,7 @@ use Rattle.refal_files.specs.declared.File.{File}
 use Rattle.refal_files.specs.declared.Files.{Files}
 use Rattle.refal_link.specs.Link.{functions, repeated, shown, resolved, linked, refuse, checked, link_answer}
 use Rattle.refal_link.specs.LinkLaws.{lost}
+use Rattle.refal_link.specs.Unbound.{bound, both_bound}
 
 -- the rows of both
 abbrev pub rows : Files → List Placed
@@ -44,7 +46,21 @@ pub linked_is : (f : Files) → shown 60 (repeated [] (functions (rows f))) (res
 unfolding linked
 linked_is f = refl
 
--- file one's 40 and 41 come first, then file two's
-pub answer_is : (f : Files) → checked_file f.one (checked_file f.two (linked (rows f))) ≡ answer_for f
+-- what 62 makes of an answer
+abbrev pub after_bound : Files → Answer → Answer
+after_bound f = both_bound f.one.tree.now f.one.source.now f.two.tree.now f.two.source.now
+
+-- 62 of a file, before the rest
+abbrev pub bound_file : ℕ → File → Answer → Answer
+bound_file which f = bound which f.tree.now f.source.now
+
+-- file one's 40 and 41 come first, then file two's, then all of 60 and 61, then 62
+pub answer_is : (f : Files) → checked_file f.one (checked_file f.two (after_bound f (linked (rows f)))) ≡ answer_for f
 unfolding link_answer
 answer_is f = refl
+
+-- where both files pass 40 and 41
+pub checked_both : (f : Files) → ((rest : Answer) → rest ≡ checked_file f.one rest) → ((rest : Answer) → rest ≡ checked_file f.two rest) → after_bound f (linked (rows f)) ≡ answer_for f
+checked_both f one two =
+    let a = after_bound f (linked (rows f)) in
+    two a ∙ one (checked_file f.two a) ∙ answer_is f

@@ -1,5 +1,5 @@
-// Linking: two files, each a tree with its source. No two functions of both may have equal names, and every call must name a
-// function or a declared name of either.
+// Linking: two files, each a tree with its source. No two functions of both may have equal names, every call must name a
+// function or a declared name of either, and every variable that is used must be bound.
 #![tactic(auto)]
 
 ghost use Rattle.std.specs.Prelude.{◌≡◌, true, false, ℕ, ◌≤◌, ◌<◌, [], eqb, IfOk};
@@ -11,7 +11,7 @@ ghost use Rattle.refal_tree.specs.Lawful.{lawful};
 ghost use Rattle.refal_files.specs.View.{rows_of, row_of};
 ghost use Rattle.refal_link.specs.Link.{functions, repeated as first_repeated, shown, shown_at, resolved, linked, link_words};
 ghost use Rattle.refal_link.specs.LinkLaws.{repeats as is_repeated, bucket_count};
-ghost use Rattle.refal_link.specs.View.{rows, is_lost, answer_for, checked_file, reason_or, refused_or, Tells};
+ghost use Rattle.refal_link.specs.View.{rows, is_lost, answer_for, checked_file, bound_file, reason_or, refused_or, Tells};
 
 use refal_ast::answers::{self, Found, Reason, Refusal, Span};
 use refal_ast::kinds::NodeKind;
@@ -128,13 +128,27 @@ fn check(file: &File) -> Result<(), Reason>
     Ok(())
 }
 
+// The first variable of a file that is used unbound is refused.
+fn bound(file: &File, which: answers::File, work: &mut [u32]) -> Result<(), Refusal>
+    requires { lawful file.now.tree.now ≡ true }
+    ensures { (rest : Answer) → refused_or result rest ≡ bound_file (file_code which) file.now rest }
+{
+    match refal_bound::unbound(file, work) {
+        Some(variable) => Err(refusal_at(Reason::VariableUnbound, which, &variable)),
+        None => Ok(()),
+    }
+}
+
 // The answer, whatever the words hold.
 fn answer(files: &Files, work: &mut [u32]) -> Result<usize, Refusal>
     ensures { told result ≡ answer_for files.now }
 {
     check(&files.one)?;
     check(&files.two)?;
-    link_rows(files, work)
+    let calls = link_rows(files, work)?;
+    bound(&files.one, answers::File::One, work)?;
+    bound(&files.two, answers::File::Two, work)?;
+    Ok(calls)
 }
 
 // The number of calls of both files, all of which are resolved, or the first refusal. The answer does not depend on `work`, every

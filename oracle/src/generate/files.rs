@@ -10,6 +10,9 @@ const NAMES: [&[&str]; 4] = [
     &["Prout", "PROUT", "ProuT"],
 ];
 
+/// Variables, of which some are equal.
+const VARIABLES: [&str; 8] = ["s.1", "s1", "t.1", "e.a", "e.A", "e.a-b", "e.a_b", "e.A_B"];
+
 /// A source of that many items at most.
 pub fn source(rng: &mut Rng, items: usize) -> String {
     let mut text = String::new();
@@ -41,6 +44,9 @@ fn name(rng: &mut Rng) -> &'static str {
 }
 
 fn sentence(rng: &mut Rng, deep: usize, text: &mut String) {
+    for _ in 0..rng.within(0, 6) {
+        variable(rng, text);
+    }
     terms(rng, deep, text);
     if rng.once_in(3) {
         text.push(',');
@@ -58,6 +64,11 @@ fn sentence(rng: &mut Rng, deep: usize, text: &mut String) {
         terms(rng, deep, text);
     }
     text.push(';');
+}
+
+fn variable(rng: &mut Rng, text: &mut String) {
+    text.push_str(VARIABLES[rng.below(VARIABLES.len())]);
+    text.push(' ');
 }
 
 fn block_or_terms(rng: &mut Rng, deep: usize, text: &mut String) {
@@ -91,7 +102,7 @@ fn terms(rng: &mut Rng, deep: usize, text: &mut String) {
                 terms(rng, deep - 1, text);
                 text.push('>');
             }
-            3 => text.push_str("s.1 "),
+            3 => variable(rng, text),
             _ => text.push_str("Lost "),
         }
     }

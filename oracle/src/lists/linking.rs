@@ -1,6 +1,8 @@
 //! Linking: names equal by case, hyphen and underscore; the same name declared and defined; duplicates
 //! within file one, within two and across; calls missing in one and in both, at every level; empty
-//! files; 40 and 41 in each file; work words of every number that matters.
+//! files; 40 and 41 in each file; work words of every number that matters. Variables bound in a
+//! pattern, in a call there, by a condition, in a block and used after it, equal by case, by letter and
+//! index; blocks in conditions and endings, 64 levels deep; unbound in one file, in the other, in both.
 
 use super::SEED;
 use crate::cases::Case;
@@ -10,10 +12,19 @@ use crate::terms::NODE_WIDTH;
 pub fn cases() -> Vec<Case> {
     let mut rng = Rng::new(SEED + 3);
     let mut cases = Vec::new();
-    for (one, two) in PAIRS {
+    for (one, two) in PAIRS.into_iter().chain(VARIABLES) {
         let (one, two) = (tree(one), tree(two));
         put_around(&mut cases, &one, &two);
         put_around(&mut cases, &two, &one);
+    }
+    for deep in 1..=64 {
+        for last in ["e.1", "e.2"] {
+            for (from, to) in [("e.1,A:{", "=e.1;}"), ("e.1=,A:{", ";}")] {
+                let nested = nested(deep, from, last, to);
+                put(&mut cases, &tree(&nested), &tree(""), 0);
+                put(&mut cases, &tree(""), &tree(&nested), 4 * nested.len());
+            }
+        }
     }
     for file in [tree("F{=<G>;}"), tree("$EXTRN F;G{}")] {
         for damaged in spoiled(&file) {
@@ -41,13 +52,63 @@ pub fn cases() -> Vec<Case> {
 
 type File = (Vec<u32>, Vec<u8>);
 
+/// Variables: what binds, what is in force where, and what is equal.
+const VARIABLES: [(&str, &str); 46] = [
+    ("F{=e.1;}", ""),
+    ("F{}", "G{=e.1;}"),
+    ("F{=e.1;}", "G{=s.1;}"),
+    ("F{=<L e.1>;}", ""),
+    ("F{=e.1;}", "G{=<L>;}"),
+    ("F{e.1=e.1;}", "G{s.1=s.1;}"),
+    ("F{e.1 e.1=e.1 e.1;}", ""),
+    ("F{(<F (e.1)>)=(<F e.1>);}", ""),
+    ("F{e.a=e.A;}", ""),
+    ("F{e.A-b=e.a-B;}", ""),
+    ("F{e.a-b=e.a_b;}", ""),
+    ("F{e.a_b=e.a-b;}", ""),
+    ("F{e.a=s.a;}", ""),
+    ("F{s.1=t.1;}", ""),
+    ("F{t.1=s.1;}", ""),
+    ("F{e.1=e.11;}", ""),
+    ("F{e.11=e.1;}", ""),
+    ("F{s1=s.1;}", ""),
+    ("F{s1=s.1x;}", ""),
+    ("F{e.1=;=e.1;}", ""),
+    ("F{e.1=;}G{=e.1;}", ""),
+    ("G{=e.1;}F{e.1=;}", ""),
+    ("F{,e.1:e.1=;}", ""),
+    ("F{,A:e.1=e.1;}", ""),
+    ("F{,A:e.1,e.1:e.2=e.1 e.2;}", ""),
+    ("F{,e.2:e.1,A:e.2=;}", ""),
+    ("F{e.1,e.1:{e.2=e.1 e.2;}=e.2;}", ""),
+    ("F{e.1,e.1:{e.2=e.2;}=e.1;}", ""),
+    ("F{e.1,e.1:{e.2=e.2;},e.2:e.3=;}", ""),
+    ("F{e.1,e.1:{e.2=e.2;},A:e.2=e.2;}", ""),
+    ("F{e.1,A:{=e.2;},A:e.2=;}", ""),
+    ("F{e.1,e.2:{e.2=;}=;}", ""),
+    ("F{e.1,A:{e.2,A:{e.3=e.1 e.2 e.3;}=e.3;}=;}", ""),
+    ("F{e.1=,e.1:{e.2=e.1 e.2;};}", ""),
+    ("F{e.1=,e.2:{e.2=;};}", ""),
+    ("F{e.1=,e.1:{e.2=;=e.2;};}", ""),
+    ("F{e.1=,e.1:{e.2=,e.2:{e.3=e.1 e.2 e.3;};};}", ""),
+    ("F{e.1=,e.1:{e.2=,e.2:{e.3=;=e.3;};};}", ""),
+    ("F{e.1=,e.1:{e.1=e.1;=e.1;};=e.1;}", ""),
+    ("F{e.1=,e.1:{,A:e.2=e.2;=e.2;};}", ""),
+    ("F{e.1=,e.1:{e.1=}}", ""),
+    ("F{e.1,<F e.1>:<F e.2>=<F e.2>;}", ""),
+    ("F{'e.1' e1=e1 'e.2';}", ""),
+    ("F{e.1=<F <F s.1>>;}", "G{=e.1;}"),
+    ("F{=s.1 s.2;}", ""),
+    ("F{,s.2:{=s.1;}=s.3;}", ""),
+];
+
 const PAIRS: [(&str, &str); 30] = [
     ("", ""),
     ("$ENTRY Go{=;}", ""),
     ("$ENTRY Go{=<Go>;}", ""),
     ("$ENTRY Go{=<GO>;}", "$EXTRN Go;"),
-    ("F{=<Sort-It e.1>;}", "SORT_IT{e.1=e.1;}"),
-    ("F{=<Sort_it e.1>;}", "$EXTRN A,SORT-IT,B;"),
+    ("F{e.1=<Sort-It e.1>;}", "SORT_IT{e.1=e.1;}"),
+    ("F{e.1=<Sort_it e.1>;}", "$EXTRN A,SORT-IT,B;"),
     ("F{=<Sort--it>;}", "Sort_-it{}"),
     ("F{=<Sort->;}", "Sort_{}"),
     ("F{=<Sort>;}", "Sort-{}"),
@@ -73,6 +134,11 @@ const PAIRS: [(&str, &str); 30] = [
     ("F{=,<G>:{A=<H>;=,B:{=<F>;};};}", "$EXTRN G,H;"),
     ("F{=,<G>:{A=<H>;=,B:{=<L>;};};}", "$EXTRN G,H;"),
 ];
+
+/// A function with so many blocks in one another, and a sentence in the innermost.
+fn nested(deep: usize, from: &str, last: &str, to: &str) -> String {
+    format!("F{{{}={last};{}}}", from.repeat(deep), to.repeat(deep))
+}
 
 fn tree(src: &str) -> File {
     let (rows, src) = trees::of_source(src.as_bytes().to_vec());
@@ -126,7 +192,11 @@ mod tests {
 
     #[test]
     fn pairs_have_trees() {
-        for src in PAIRS.iter().flat_map(|&(one, two)| [one, two]) {
+        for src in PAIRS
+            .iter()
+            .chain(&VARIABLES)
+            .flat_map(|&(one, two)| [one, two])
+        {
             assert_eq!(tree(src).0.is_empty(), src.is_empty(), "{src}");
         }
     }

@@ -1,6 +1,7 @@
-//! 02, card 3: linking a delivery. Every name is compared with every other.
+//! 02, cards 3 and 5: linking a delivery. Every name is compared with every other.
 
 use super::names::names_equal;
+use super::unbound::first_unbound;
 use super::write::checked;
 use crate::terms::{Answer, NodeRow, Refusal, done, node};
 
@@ -70,6 +71,11 @@ fn calls(one: File<'_>, two: File<'_>) -> Result<usize, Refusal> {
             .any(|row| names_equal(row.name, call.name))
         {
             return Err(call.shown(61));
+        }
+    }
+    for (number, file, rows) in [(1, one, &first), (2, two, &second)] {
+        if let Some(at) = first_unbound(rows, file.src) {
+            return Err(self::rows(number, file, rows)[at].shown(62));
         }
     }
     Ok(of(node::CALL).count())

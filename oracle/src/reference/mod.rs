@@ -11,6 +11,7 @@ pub mod parse;
 pub mod read;
 pub mod real;
 pub mod spelling;
+pub mod unbound;
 pub mod utf8;
 pub mod write;
 

@@ -38,3 +38,9 @@ pub fn names_equal(a: &[u8], b: &[u8]) -> bool {
     let form = |name: &[u8]| name.iter().map(|&byte| name_byte(byte)).collect::<Vec<_>>();
     form(a) == form(b)
 }
+
+/// Whether the canonical indices are equal.
+pub fn indices_equal(a: &[u8], b: &[u8]) -> bool {
+    let form = |index: &[u8]| index.iter().map(|&byte| upper(byte)).collect::<Vec<_>>();
+    form(a) == form(b)
+}

@@ -333,6 +333,15 @@ pub const REFUSALS: &[Meaning] = &[
         right: Example::Source(b"$EXTRN Stamp;\nF { e1 = <Stamp e1>; }"),
     },
     Meaning {
+        number: 62,
+        name: "VARIABLE_UNBOUND",
+        call: Call::Linking,
+        title: "a variable that was never matched",
+        meaning: "In a sentence the pattern binds its variables, at every level and inside calls too, and so does a pattern behind the `:` of a condition. A condition's first terms, the argument of an ending block and the result may hold only variables that are bound before them. The sentences of a block begin with all that is bound at it, and what each binds ends with it. Variables are the same when their letters are and their indices are, small and capital letters being one; `-` and `_` are two.",
+        wrong: Example::Source(b"F { e.1, e.1 : { s.2 e.3 = s.2; } = s.2; }"),
+        right: Example::Source(b"F { e.1, e.1 : s.2 e.3 = s.2; }"),
+    },
+    Meaning {
         number: 64,
         name: "NO_REAL",
         call: Call::Reals,

@@ -11,7 +11,7 @@ pub returns-then-contain-clause-entered : goal.returns-then-contain-clause-enter
 returns-then-contain-clause-entered c =
     let i = c.args.self.now in
     c.push.ensures.put
-    ∙ ap (λ (s : List ℕ). pushed i.words.now i.rows (bucket_of i.buckets s) c.args.g) c.text.ensures
+    ∙ ap (λ (h : ℕ). pushed i.words.now i.rows h c.args.g) (c.bucket-h.ensures.0 ∙ ap (λ (s : List ℕ). bucket_of i.buckets s) c.text.ensures)
     ∙ named i.words.now i.rows i.buckets (row_of c.args.files.now) c.args.g (λ e. omega arith) (ap (λ (p : Placed). bears false p.node.kind) (sym c.row.ensures) ∙ sym c.contain.ensures ∙ c.if-contain.true)
 
 pub returns-else-contain-clause-entered : goal.returns-else-contain-clause-entered
