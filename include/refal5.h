@@ -116,9 +116,9 @@ void refal5_parse(const uint32_t *tokens, size_t n, uint32_t *rows, size_t m, ui
 void refal5_write(const uint32_t *tree, size_t n, const uint8_t *src, size_t k, uint8_t *out, size_t m, uint64_t answer[7]);
 
 /* Linking: two files, each a tree's rows and its source; n1 and n2 count words, m1 and m2 bytes. No two functions of both may have equal names, and
- * every call must name a function or a declared name of either. The count is that of all calls of both. Refusals in this order: 40 and 41 of
- * file one, of file two (answer[3] is 0), 60 at the first function that has an earlier equal one, 61 at the first call whose name is missing; file
- * one's rows before file two's.
+ * every call must name a function or a declared name of either, and every variable must be bound where it is used. The count is that of all calls of both. Refusals in this order: 40 and 41 of
+ * file one, of file two (answer[3] is 0), 60 at the first function that has an earlier equal one, 61 at the first call whose name is missing, 62 at the
+ * first variable that is used where no equal one is bound; file one's rows before file two's.
  * work is any number of words, none allowed: the answer does not depend on how many there are or what they hold, and afterwards each is 0. With at least
  * 2 words for each row of both trees, 2 * (n1 + n2) / REFAL5_NODE_WORDS, the time is linear on average; with fewer each name may cost a look at every row. */
 void refal5_link(const uint32_t *tree1, size_t n1, const uint8_t *src1, size_t m1, const uint32_t *tree2, size_t n2, const uint8_t *src2, size_t m2,

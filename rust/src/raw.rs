@@ -199,7 +199,7 @@ pub fn write(tree: &[u32], source: &[u8], out: &mut [u8]) -> Result<usize, Refus
 }
 
 /// Links two trees whose texts stand in their sources: the number of calls. `work` is any number of words, of which each is 0
-/// afterwards; the answer does not depend on them. Refusals 40 and 41 of the first, of the second, then 60 and 61, whose
+/// afterwards; the answer does not depend on them. Refusals 40 and 41 of the first, of the second, then 60, 61 and 62, whose
 /// `found` is the file, 1 or 2.
 pub fn link(
     tree1: &[u32],

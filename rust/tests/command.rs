@@ -292,6 +292,7 @@ fn two_files_loaded_together() {
         ("rules.link", 0, &["link", "rules.ref", "tool.ref"][..]),
         ("missing.link", 1, &["link", "missing.ref", "tool.ref"]),
         ("twice.link", 1, &["link", "twice.ref", "tool.ref"]),
+        ("unbound.link", 1, &["link", "unbound.ref", "tool.ref"]),
         // The tool's file first: the places are those of the other order.
         ("tool-first.link", 1, &["link", "tool.ref", "twice.ref"]),
         // A file that is refused is not linked.

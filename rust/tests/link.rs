@@ -3,7 +3,9 @@
 use oracle::generate::{Rng, sources};
 use refal5::raw;
 use refal5::rows::{Node, NodeKind, NodeRows, TokenRows, Tree};
-use refal5::{LinkError, MOST_LINK_PROBLEMS, identifiers_equal, link, link_problems};
+use refal5::{
+    LinkError, MOST_LINK_PROBLEMS, canonical_variable_index, identifiers_equal, link, link_problems,
+};
 
 /// Lends the trees of two sources.
 fn with<T>(one: &str, two: &str, work: impl FnOnce(Tree<'_>, Tree<'_>) -> T) -> T {
@@ -46,7 +48,66 @@ fn plainly(one: Tree<'_>, two: Tree<'_>) -> Vec<(u32, u32, usize)> {
             found.push((61, call.0, call.1.span().start));
         }
     }
+    for (file, tree) in [(1, one), (2, two)] {
+        let unbound = unbound(tree);
+        for (at, used) in unbound.iter().enumerate() {
+            // A variable is told of once in a sentence.
+            let told = |earlier: &Node<'_>| {
+                same(*earlier, *used) && sentence(*earlier).index() == sentence(*used).index()
+            };
+            if !unbound[..at].iter().any(told) {
+                found.push((62, file, used.span().start));
+            }
+        }
+    }
     found
+}
+
+/// The sentence that a node is in, the innermost.
+fn sentence(node: Node<'_>) -> Node<'_> {
+    node.ancestors()
+        .find(|node| node.kind() == NodeKind::Sentence)
+        .unwrap()
+}
+
+fn same(a: Node<'_>, b: Node<'_>) -> bool {
+    let index = |node: Node<'_>| canonical_variable_index(node.text());
+    a.letter() == b.letter() && index(a) == index(b)
+}
+
+/// The sentence whose pattern, or whose condition's pattern, a variable stands in.
+fn binds(variable: Node<'_>) -> Option<Node<'_>> {
+    let terms = variable
+        .ancestors()
+        .find(|node| node.kind() == NodeKind::Terms)?;
+    let around = terms.parent()?;
+    let first = around.children().next()?.index() == terms.index();
+    match (around.kind(), first) {
+        (NodeKind::Sentence, true) => Some(around),
+        (NodeKind::Condition, false) => around.parent(),
+        _ => None,
+    }
+}
+
+/// The uses at which no equal binding is in force, every use held against every binding.
+fn unbound(tree: Tree<'_>) -> Vec<Node<'_>> {
+    let variables: Vec<Node<'_>> = tree
+        .nodes()
+        .filter(|node| node.kind() == NodeKind::Variable)
+        .collect();
+    let in_force = |used: Node<'_>, binding: Node<'_>| {
+        let end = binds(binding).map(|sentence| sentence.next());
+        binding.index() < used.index()
+            && end.is_some_and(|end| used.index() < end)
+            && same(binding, used)
+    };
+    variables
+        .iter()
+        .copied()
+        .filter(|&used| {
+            binds(used).is_none() && !variables.iter().any(|&binding| in_force(used, binding))
+        })
+        .collect()
 }
 
 fn shape(error: &LinkError) -> (u32, u32, usize) {
@@ -60,8 +121,8 @@ fn shape(error: &LinkError) -> (u32, u32, usize) {
 #[test]
 fn every_answer_is_the_definitions() {
     let mut rng = Rng::new(11);
-    let mut seen = [0; 3];
-    for _ in 0..400 {
+    let mut seen = [0; 4];
+    for _ in 0..1500 {
         let mut source = || {
             let items = rng.below(5);
             sources::program(&mut rng, items)
@@ -94,6 +155,8 @@ fn the_answer_does_not_depend_on_the_work_words() {
         ("Go{=<A><B-c>;}", "$EXTRN A;B_C{}", Ok(2)),
         ("Go{=<A><B-C>;}", "$EXTRN A;", Err(61)),
         ("Go{}", "GO{=<A>;}", Err(60)),
+        ("Go{e.1=e.2;}", "F{s.A(e.a)=s.a e.A;}", Err(62)),
+        ("Go{e.1 s.2,s.2:{t.3=t.3 e.1;}=e.1;}", "F{}", Ok(0)),
         ("", "", Ok(0)),
     ] {
         with(one, two, |a, b| {
@@ -154,6 +217,44 @@ fn both_names_and_both_places() {
              the first, file 1, line 1, column 8"
         );
     });
+}
+
+#[test]
+fn what_explains_an_unbound_variable() {
+    for (source, message, other) in [
+        ("F { e1 = s1; }", "was never matched", Some(("e1", true))),
+        (
+            "F { s.Word e1 = s.Wort; }",
+            "was never matched",
+            Some(("s.Word", true)),
+        ),
+        ("F { e1 = t.Other; }", "was never matched", None),
+        (
+            "F { e1, s2 : s2 = ; }",
+            "is used before it is matched",
+            Some(("s2", false)),
+        ),
+        (
+            "F { e1, e1 : { s.2 e3 = ; } = s2; }",
+            "is matched only in a block that ends before this use",
+            Some(("s.2", false)),
+        ),
+        (
+            "F { e1 = ; s2 = e1; }",
+            "is matched only in another sentence",
+            Some(("e1", false)),
+        ),
+    ] {
+        with(source, "", |one, two| {
+            let error = link(one, two).unwrap_err();
+            assert_eq!(error.refusal.number, 62, "{source}");
+            let text = format!("the variable `{}` {message}", error.shown.name);
+            assert_eq!(error.message, text);
+            let found = error.other.as_ref();
+            let found = found.map(|other| (other.name.as_str(), error.is_nearest));
+            assert_eq!(found, other, "{source}");
+        });
+    }
 }
 
 #[test]

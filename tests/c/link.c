@@ -70,6 +70,16 @@ int main(void) {
     parse(&a, "Print{}SORT-IT{}");
     answers(&a, &b, 60, 0, 2, 13, 30);
     answers(&b, &a, 60, 0, 2, 7, 16);
+    /* a variable used where none is bound, after all calls; one bound in a block only; equal by case */
+    parse(&a, "F{e.A=e.a s.a;}");
+    parse(&b, "G{=s.1;}");
+    answers(&a, &b, 62, 0, 1, 10, 13);
+    answers(&b, &a, 62, 0, 1, 3, 6);
+    parse(&a, "F{e.1,e.1:{s.2=s.2;}=s.2;}");
+    parse(&b, "G{}");
+    answers(&b, &a, 62, 0, 2, 21, 24);
+    parse(&a, "F{e.1=<Lost>e.2;}");
+    answers(&a, &b, 61, 0, 1, 6, 12);
     /* empty files */
     parse(&a, "");
     answers(&a, &a, 0, 0, 0, 0, 0);

@@ -81,6 +81,7 @@ pub(crate) fn message(refusal: &Refusal, spelling: Option<&str>) -> String {
         50 => "the output is shorter than the name".into(),
         60 => "two functions have equal names".into(),
         61 => "a call names neither a function nor a declared name".into(),
+        62 => "a variable is used where it is not bound".into(),
         64 => "the text is not just one number with a point or an E".into(),
         65 => "the exponent has more than nine digits".into(),
         66 => format!("{need} bytes are needed for the digits, and fewer were lent"),

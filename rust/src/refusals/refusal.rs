@@ -26,7 +26,7 @@ pub struct Refusal {
     pub number: u32,
     /// The kind of token wanted, as a number.
     pub expected: u32,
-    /// The kind of token found, as a number; in 60 and 61 the file, 1 or 2.
+    /// The kind of token found, as a number; in 60, 61 and 62 the file, 1 or 2.
     pub found: u32,
     /// The place shown, in bytes.
     pub span: Span,

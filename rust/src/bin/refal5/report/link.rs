@@ -76,8 +76,11 @@ fn one(files: [&Checked; 2], problem: &LinkError, style: Style) -> String {
 
 /// What is said of the place shown and of the other.
 fn labels(problem: &LinkError) -> (String, String) {
-    if problem.refusal.number == 60 {
-        return ("again here".into(), "first here".into());
+    match problem.refusal.number {
+        60 => return ("again here".into(), "first here".into()),
+        62 if problem.is_nearest => return ("used here".into(), "the nearest variable".into()),
+        62 => return ("used here".into(), "matched here".into()),
+        _ => (),
     }
     let here = match problem.calls {
         1 => "called here".into(),
@@ -121,10 +124,10 @@ fn fields(object: Object, files: [&Checked; 2], problem: &LinkError) -> Object {
         .plain("end", refusal.span.end)
         .plain("need", refusal.need)
         .plain("shown", named(files, &problem.shown));
-    let key = if refusal.number == 60 {
-        "first"
-    } else {
-        "nearest"
+    let key = match refusal.number {
+        60 => "first",
+        _ if problem.is_nearest => "nearest",
+        _ => "matched",
     };
     let object = match &problem.other {
         Some(other) => object.plain(key, named(files, other)),
