@@ -150,7 +150,7 @@ fn spoiled((words, src): &File) -> Vec<File> {
     let mut all = Vec::new();
     for at in 0..words.len() {
         let mut words = words.clone();
-        words[at] += 1;
+        words[at] = words[at].wrapping_add(1);
         all.push((words, src.clone()));
     }
     all.push((words[1..].to_vec(), src.clone()));

@@ -221,7 +221,7 @@ mod tests {
     fn a_source_that_is_refused() {
         let data = of("F{'😀'=A B=;} $ENTRY G{}".as_bytes());
         assert!(data.contains(
-            "\"nodes\":[15,9,4,1],\"problems\":[{\"number\":34,\"possibly\":false,\"place\":\"1:10\","
+            "\"nodes\":[15,9,4,1,0],\"problems\":[{\"number\":34,\"possibly\":false,\"place\":\"1:10\","
         ));
         assert!(data.contains("\"meant\":[10,11],\"shown\":[11,12]}]"));
     }
