@@ -9,6 +9,7 @@ ghost use Rattle.std.specs.Prelude.{◌≡◌, true, not};
 ghost use Rattle.refal_tree.specs.Lawful.{lawful};
 ghost use Rattle.refal_bound.specs.View.{IsFirst};
 
+use crate::patterns::Tree;
 use refal_ast::nodes::Node;
 pub use refal_files::File;
 
@@ -18,8 +19,12 @@ pub fn unbound(file: &File, words: &mut [u32]) -> Option<Node>
     requires { lawful file.now.tree.now ≡ true }
     ensures { IsFirst file.now.tree.now file.now.source.now result }
 {
-    match scan::first_row(file, words) {
-        Some(u) => patterns::row(file.tree, u),
+    let tree = Tree {
+        tree: file.tree,
+        source: file.source,
+    };
+    match tree.first_row(words) {
+        Some(u) => tree.row(u),
         None => None,
     }
 }

@@ -14,8 +14,8 @@ first_row w s u None e h =
     absurd (omega arith)
 first_row w s u (Some x) e h = (u, e, h)
 
-pub row-requires : goal.row-requires
-row-requires c = lawful_whole c.args.file.now.tree.now c.requires
-
 pub returns-in-Some : goal.returns-in-Some
 returns-in-Some c = first_row c.args.file.now.tree.now c.args.file.now.source.now c.in-Some.u c.row.result (sym c.in-Some.ensures) c.row.ensures
+
+pub invariant_of-tree : goal.invariant_of-tree
+invariant_of-tree c = record { is_lawful = c.requires; whole = lawful_whole c.args.file.now.tree.now c.requires }

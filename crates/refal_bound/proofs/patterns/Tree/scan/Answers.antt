@@ -1,9 +1,9 @@
--- `refal_bound::scan::scan` meets its contract.
+-- `refal_bound::patterns::Tree::scan` meets its contract.
 use Rattle.std.proofs.Common.{◌≡◌, ◌<◌, ◌≤◌, ◌+◌, true, false, not, max, arith, ap, ap₂, sym, ◌∙◌, refl, ℕ, Bool, List}
 use Rattle.std.proofs.Math.Decide.{dec_le}
 use Rattle.refal_bound.specs.Bound.{is_unbound}
-use Rattle.refal_bound.specs.Scan.{reach_start, reach_next, scan_found, scan_none, lawful_whole}
-use Rattle.refal_bound.proofs.scan.scan.Goals as goal
+use Rattle.refal_bound.specs.Scan.{reach_start, reach_next, scan_found, scan_none}
+use Rattle.refal_bound.proofs.patterns.Tree.scan.Goals as goal
 
 not_false_lem : (b : Bool) → false ≡ not b → b ≡ true
 not_false_lem true e = refl
@@ -21,21 +21,18 @@ before w s u h e v l = go (dec_le (v + 1) u)
     go (no m) = ap (is_unbound w s) (let z : v ≡ u = omega arith in z) ∙ e
 
 pub loop-u-init : goal.loop-u-init
-loop-u-init c = (c.requires.rows.1, sym (reach_start c.args.file.now.tree.now), c.requires.keeps, λ v l. absurd (omega arith))
+loop-u-init c = (c.requires.rows, sym (reach_start c.args.self.tree.now), c.requires.keeps, λ v l. absurd (omega arith))
 
 pub returns-then-not-scan_row : goal.returns-then-not-scan_row
 returns-then-not-scan_row c =
-    let w = c.args.file.now.tree.now in
-    let s = c.args.file.now.source.now in
+    let w = c.args.self.tree.now in
+    let s = c.args.self.source.now in
     scan_found w s c.loop-u.u (omega arith) (not_false_lem (is_unbound w s c.loop-u.u) (let e : false ≡ not (is_unbound w s c.loop-u.u) = cc in e)) c.loop-u.invariant.3
-
-pub pattern_end-requires : goal.pattern_end-requires
-pattern_end-requires c = lawful_whole c.args.file.now.tree.now c.requires.rows.0
 
 pub loop-u-preserved : goal.loop-u-preserved
 loop-u-preserved c =
-    let w = c.args.file.now.tree.now in
-    let s = c.args.file.now.source.now in
+    let w = c.args.self.tree.now in
+    let s = c.args.self.source.now in
     let u = c.loop-u.u in
     let I = c.loop-u.invariant in (
       c.scan_row.ensures.shape.0 ∙ I.0,
@@ -45,4 +42,4 @@ loop-u-preserved c =
     )
 
 pub returns : goal.returns
-returns c = scan_none c.args.file.now.tree.now c.args.file.now.source.now (λ v l. c.loop-u.invariant.3 v (omega arith))
+returns c = scan_none c.args.self.tree.now c.args.self.source.now (λ v l. c.loop-u.invariant.3 v (omega arith))

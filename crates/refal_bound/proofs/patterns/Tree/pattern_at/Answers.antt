@@ -1,9 +1,9 @@
--- `refal_bound::patterns::pattern_at` meets its contract: each return by the law of what it has found.
+-- `refal_bound::patterns::Tree::pattern_at` meets its contract: each return by the law of what it has found.
 use Rattle.std.proofs.Common.{◌≡◌, true, false, eqb}
 use Rattle.refal_ast.specs.Kinds.{node_sentence, node_condition, node_terms}
 use Rattle.refal_ast.specs.KindCodes.{node_code}
 use Rattle.refal_bound.specs.BoundLaws.{scope_unknown, not_terms, parent_unknown, at_first, first_other, parent_other, outer_unknown, outer_other, at_second}
-use Rattle.refal_bound.proofs.patterns.pattern_at.Goals as goal
+use Rattle.refal_bound.proofs.patterns.Tree.pattern_at.Goals as goal
 
 pub returns-in_default : goal.returns-in_default
 returns-in_default c = scope_unknown _ _ c.in_default.ensures
