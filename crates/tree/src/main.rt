@@ -18,6 +18,20 @@ const TOKEN_WORDS: usize = (MOST_BYTES + 1) * TOKEN_WIDTH;
 
 const NODE_WORDS: usize = MOST_BYTES * NODE_WIDTH;
 
+// The bytes that there are, as many as fit, and how many they are. Nothing is allocated, so that the program can't run out of memory.
+fn fill(reader: &mut impl Read, bytes: &mut [u8]) -> io::Result<usize>
+    ensures { IfOk result (λ n. n ≤ length bytes.old) }
+{
+    let mut n = 0;
+    while n < bytes.len() {
+        match reader.read(&mut bytes[n..])? {
+            0 => break,
+            more => n += more,
+        }
+    }
+    Ok(n)
+}
+
 // Puts the rows of the source's tree into `rows`, and answers how many they are.
 fn tree(source: &[u8], rows: &mut [u32]) -> Result<usize, Refusal>
     ensures { IfOk result (λ n. node_width * n ≤ length rows.old) }
@@ -40,12 +54,10 @@ fn put_rows(rt: &impl Print, rows: &[u32]) -> io::Result<()> {
 }
 
 fn main(rt: HostRuntime) -> io::Result<()> {
-    let mut source = Vec::new(rt.alloc());
-    rt.reader()
-        .take(MOST_BYTES as u64 + 1)
-        .read_to_end(&mut source)?;
+    let mut bytes = [0u8; MOST_BYTES + 1];
+    let n = fill(&mut rt.reader(), &mut bytes)?;
     let mut rows = [0u32; NODE_WORDS];
-    match tree(&source, &mut rows) {
+    match tree(&bytes[..n], &mut rows) {
         Ok(n) => put_rows(&rt, &rows[..NODE_WIDTH * n]),
         Err(refusal) => println!(&rt; "{refusal}"),
     }

@@ -5,7 +5,7 @@
 // written, then all that was lent for output, which held a5 in each byte before the call.
 #![tactic(auto)]
 
-ghost use Rattle.std.specs.Prelude.{◌≤◌, length, IfOk};
+ghost use Rattle.std.specs.Prelude.{◌≤◌};
 
 use refal_ast::nodes::WIDTH as NODE_WIDTH;
 use refal_ast::tokens::WIDTH as TOKEN_WIDTH;
@@ -114,35 +114,45 @@ fn put_tree(block: &[u8; TREE], tree: &mut [u32]) {
     }
 }
 
-// Writes the tree that stands behind a record, and answers what stands behind it: nothing where it is cut off.
-fn replay_tree<'a>(
+// The next block of the input; nothing where it is cut off.
+fn next<const N: usize>(reader: &mut impl Read) -> io::Result<Option<[u8; N]>> {
+    let mut block = [0u8; N];
+    match reader.read_exact(&mut block) {
+        Ok(()) => Ok(Some(block)),
+        Err(error) if error.kind() == io::ErrorKind::UnexpectedEof => Ok(None),
+        Err(error) => Err(error),
+    }
+}
+
+// Writes the tree that stands behind a record; whether it was not cut off.
+fn replay_tree(
     rt: &impl Print,
+    reader: &mut impl Read,
     source: &[u8],
     out: &mut [u8],
-    after: &'a [u8],
-) -> io::Result<&'a [u8]>
-    ensures { IfOk result (λ rest. length rest.now ≤ length after.now) }
-{
-    let Some((block, behind)) = after.split_first_chunk::<TREE>() else {
-        return Ok(&after[..0]);
+) -> io::Result<bool> {
+    let Some(block) = next::<TREE>(reader)? else {
+        return Ok(false);
     };
     let mut tree = [0u32; TREE_WORDS];
-    put_tree(block, &mut tree);
+    put_tree(&block, &mut tree);
     if let Some(tree) = tree.get(..two([block[0], block[1]])) {
         put_bytes(rt, out, |out, answer| {
             refal5::refal5_write(tree, source, out, answer)
         })?;
     }
-    Ok(behind)
+    Ok(true)
 }
 
-// Replays a record, and answers what stands behind it and its tree: nothing where either is cut off.
-fn replay<'a>(rt: &impl Print, record: &[u8; RECORD], after: &'a [u8]) -> io::Result<&'a [u8]>
-    ensures { IfOk result (λ rest. length rest.now ≤ length after.now) }
-{
+// Replays a record; whether neither it nor a tree behind it was cut off. Each is answered before the next one is read, and no more is
+// kept of the input than that, so that a caller may wait for each answer and the input may have any length.
+fn replay(rt: &impl Print, reader: &mut impl Read) -> io::Result<bool> {
+    let Some(record) = next::<RECORD>(reader)? else {
+        return Ok(false);
+    };
     let lent = two([record[3], record[4]]);
     let Some(input) = record[5..63].get(..two([record[1], record[2]])) else {
-        return Ok(&after[..0]);
+        return Ok(false);
     };
     let mut bytes = [0xa5u8; MOST_LENT];
     let out = &mut bytes[..lent];
@@ -181,18 +191,18 @@ fn replay<'a>(rt: &impl Print, record: &[u8; RECORD], after: &'a [u8]) -> io::Re
                 }
             }
         }
-        b't' => return replay_tree(rt, input, out, after),
+        b't' => return replay_tree(rt, reader, input, out),
         _ => {}
     }
-    Ok(after)
+    Ok(true)
 }
 
 fn main(rt: HostRuntime) -> io::Result<()> {
-    let mut input = Vec::new(rt.alloc());
-    rt.reader().read_to_end(&mut input)?;
-    let mut rest = input.as_slice();
-    while let Some((record, after)) = rest.split_first_chunk::<RECORD>() {
-        rest = replay(&rt, record, after)?;
+    let mut reader = rt.reader();
+    for _ in 0..u64::MAX {
+        if !replay(&rt, &mut reader)? {
+            break;
+        }
     }
     Ok(())
 }

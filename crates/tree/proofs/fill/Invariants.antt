@@ -1,0 +1,9 @@
+-- `tree::fill` ends: each turn adds bytes, and there is room for so many.
+use Rattle.std.proofs.Common.{◌-◌, ◌≤◌, length}
+use Rattle.tree.proofs.fill.Given as goal
+
+abbrev pub invariant-loop-n : goal.invariant-loop-n
+invariant-loop-n g l = l.n ≤ length l.initial.bytes
+
+abbrev pub decreases-loop-n : goal.decreases-loop-n
+decreases-loop-n g l = length l.initial.bytes - l.n
