@@ -36,17 +36,15 @@ fn uses_detail(kind: u32) -> bool
     matches!(kind, VARIABLE | CHAR)
 }
 
-// Whether the unused fields of a row are 0, and a Variable's or Char's detail is a scalar value. By `&` and `|`, so that nothing
-// branches.
+// Whether the unused fields of a row are 0, and a Variable's or Char's detail is a scalar value. Both tests of the detail are made before one is
+// taken, and the rest goes by `&` and `|`, so that nothing branches: kinds come in no order that a processor could predict.
 fn good_fields(row: &[u32]) -> bool
     requires { 6 ≤ length row.now }
     ensures { result ≡ good_fields (get_or row.now 0 0) (get_or row.now 1 0) (get_or row.now 2 0) (get_or row.now 3 0) }
 {
-    let detail = if uses_detail(row[0]) {
-        char::from_u32(row[1]).is_some()
-    } else {
-        row[1] == 0
-    };
+    let scalar = char::from_u32(row[1]).is_some();
+    let zero = row[1] == 0;
+    let detail = if uses_detail(row[0]) { scalar } else { zero };
     detail & (uses_text(row[0]) | ((row[2] == 0) & (row[3] == 0)))
 }
 
