@@ -38,8 +38,7 @@ fn uses_detail(kind: u32) -> bool
 
 // Whether the unused fields of a row are 0, and a Variable's or Char's detail is a scalar value. Both tests of the detail are made before one is
 // taken, and the rest goes by `&` and `|`, so that nothing branches: kinds come in no order that a processor could predict.
-fn good_fields(row: &[u32]) -> bool
-    requires { 6 ≤ length row.now }
+fn good_fields(row: &[u32; WIDTH]) -> bool
     ensures { result ≡ good_fields (get_or row.now 0 0) (get_or row.now 1 0) (get_or row.now 2 0) (get_or row.now 3 0) }
 {
     let scalar = char::from_u32(row[1]).is_some();
@@ -48,18 +47,21 @@ fn good_fields(row: &[u32]) -> bool
     detail & (uses_text(row[0]) | ((row[2] == 0) & (row[3] == 0)))
 }
 
-// Whole rows, at most 16,777,217 of them; kinds 1 to 17, Eof exactly once and last; fields as their kinds use them. The loop
-// has no way out in its middle, so that the compiler tests several rows at once.
+// Whole rows, at most 16,777,217 of them; kinds 1 to 17, Eof exactly once and last; fields as their kinds use them. The loop has no
+// way out in its middle and goes over rows of a known width, so that the compiler tests several at once.
 pub fn check(tokens: &[u32]) -> bool
     ensures { result ≡ well_formed tokens.now }
 {
     let n = tokens.len();
-    if n % WIDTH != 0 || n > MOST_WORDS || n == 0 {
+    if n % WIDTH != 0 || n > MOST_WORDS {
         return false;
     }
-    let (before, last) = tokens.split_at(n - WIDTH);
+    let (rows, _) = tokens.as_chunks::<WIDTH>();
+    let Some((last, before)) = rows.split_last() else {
+        return false;
+    };
     let mut good = true;
-    for row in before.chunks_exact(WIDTH) {
+    for row in before {
         good &= (ENTRY <= row[0]) & (row[0] <= SEMICOLON) & good_fields(row);
     }
     good & (last[0] == EOF) & good_fields(last)
