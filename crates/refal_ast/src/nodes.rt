@@ -3,7 +3,7 @@ ghost use Rattle.std.specs.Prelude.{◌≡◌, ◌≤◌, ◌<◌};
 ghost use Rattle.refal_rows.specs.Rows.{put_row};
 ghost use Rattle.refal_ast.specs.KindCodes.{node_code};
 ghost use Rattle.refal_ast.specs.Rows.{node_told, ReadsNode};
-ghost use Rattle.refal_ast.specs.Nodes.{has_text, node_words, node_width, HasRow, word_at, col_start, col_len};
+ghost use Rattle.refal_ast.specs.Nodes.{has_text, node_words, node_width, HasRow, word_at, col_kind, col_start, col_len};
 
 use crate::kinds::{NodeKind, UnknownKind};
 
@@ -108,6 +108,14 @@ pub fn word(tree: &[u32], i: usize, column: usize) -> u32
     ensures { result ≡ word_at tree.now i column }
 {
     tree[WIDTH * i + column]
+}
+
+// The number of row i's kind, known or not.
+pub fn kind(tree: &[u32], i: usize) -> u32
+    requires { HasRow tree.now i }
+    ensures { result ≡ word_at tree.now i col_kind }
+{
+    word(tree, i, KIND)
 }
 
 // Where the text of row i starts, and its length.

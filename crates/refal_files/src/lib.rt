@@ -64,6 +64,14 @@ impl<'a> Files<'a> {
         }
     }
 
+    // The number of row g's kind, for rows of unknown kinds too.
+    pub fn kind(&self, g: usize) -> u32
+        requires { g < rows_of self.now }
+        ensures { result ≡ (row_of self.now g).node.kind }
+    {
+        self.row(g).kind()
+    }
+
     // The text of row g, as a part of whichever source holds it. It is that of a row of an unknown kind too, which is no Node.
     pub fn text(&self, g: usize) -> &'a [u8]
         requires { g < rows_of self.now }

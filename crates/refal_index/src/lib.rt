@@ -5,7 +5,6 @@
 mod index;
 
 ghost use Rattle.std.specs.Prelude.{◌≡◌, ℕ, ◌+◌, ◌≤◌, ◌<◌, length};
-ghost use Rattle.refal_ast.specs.KindCodes.{node_code};
 ghost use Rattle.refal_files.specs.View.{rows_of, row_of, placed_of};
 ghost use Rattle.refal_index.specs.Named.{bears, answers_to};
 ghost use Rattle.refal_index.specs.View.{only_functions, IndexesIf, indexes_if_prop};
@@ -22,13 +21,18 @@ pub enum Bearers {
     All,
 }
 
+const FUNCTION: u32 = NodeKind::Function as u32;
+
+const NAME: u32 = NodeKind::Name as u32;
+
 impl Bearers {
-    fn include(self, kind: NodeKind) -> bool
-        ensures { result ≡ bears (only_functions self) (node_code kind) }
+    // Of a kind's number: a search asks it of every row, so no row is read whole for it.
+    fn include(self, kind: u32) -> bool
+        ensures { result ≡ bears (only_functions self) kind }
     {
         match self {
-            Bearers::Functions => kind == NodeKind::Function,
-            Bearers::All => matches!(kind, NodeKind::Function | NodeKind::Name),
+            Bearers::Functions => kind == FUNCTION,
+            Bearers::All => matches!(kind, FUNCTION | NAME),
         }
     }
 
@@ -36,7 +40,7 @@ impl Bearers {
     fn contain(self, row: &Row) -> bool
         ensures { result ≡ bears (only_functions self) (placed_of row.now).node.kind }
     {
-        row.node().is_ok_and(|node| self.include(node.kind))
+        self.include(row.kind())
     }
 
     // Whether row g bears the name.
