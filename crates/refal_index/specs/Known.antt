@@ -1,6 +1,6 @@
 -- What the code's names know: Names in the terms of Named.antt.
-use Rattle.std.specs.Prelude.{ℕ, ◌+◌, ◌≡◌, Bool, List, Option, Some, None}
-use Rattle.refal_files.specs.View.{row_of}
+use Rattle.std.specs.Prelude.{ℕ, ◌+◌, ◌<◌, ◌≡◌, Bool, List, Option, Some, None}
+use Rattle.refal_files.specs.View.{rows_of, row_of}
 use Rattle.refal_files.specs.declared.Files.{Files}
 use Rattle.refal_index.specs.Named.{with_row}
 use Rattle.refal_index.specs.View.{known_before}
@@ -10,6 +10,11 @@ use Rattle.refal_index.specs.declared.Names.{Names}
 -- a row that is entered bears the name
 abbrev pub knows : Names → Bool → List ℕ → Bool
 knows names functions name = known_before names.files functions name names.entered
+
+-- an index of the files' rows over so many buckets; none where there is no bucket
+abbrev pub Over : Option Index → Files → ℕ → Type 0
+Over None f b = b ≡ 0
+Over (Some i) f b = (0 < b) × (i.rows ≡ rows_of f) × (i.buckets ≡ b)
 
 -- the words with row g entered, where there are any
 abbrev pub Gains : Option Index → Option Index → Files → ℕ → Type 0

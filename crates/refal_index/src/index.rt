@@ -1,5 +1,6 @@
 // An index of rows by a hash of their canonical names.
 ghost use Rattle.std.specs.Prelude.{◌≡◌, ◌+◌, ◌≤◌, ◌<◌, length};
+ghost use Rattle.refal_index.specs.Chain.{pushed};
 ghost use Rattle.refal_index.specs.Hash.{hash_of, bucket_of};
 
 use crate::Bearers;
@@ -20,7 +21,6 @@ impl<'w> Index<'w> {
     ghost use Rattle.std.specs.Prelude.{ℕ, ◌%◌, get_or, set};
     ghost use Rattle.refal_files.specs.Files.{Placed};
     ghost use Rattle.refal_files.specs.View.{rows_of, row_of};
-    ghost use Rattle.refal_index.specs.Chain.{pushed};
     ghost use Rattle.refal_index.specs.Named.{Holds, with_row};
     ghost use Rattle.refal_index.specs.View.{only_functions, known_before, Indexes};
 
@@ -44,18 +44,14 @@ impl<'w> Index<'w> {
         ensures entered { self.new.words.now ≡ with_row self.old.words.now self.old.rows self.old.buckets (row_of files.now) g }
         ensures shape { (self.new.rows ≡ self.old.rows) × (self.new.buckets ≡ self.old.buckets) }
     {
-        if Bearers::All.contain(&files.row(g)) {
-            let h = self.bucket(files.text(g));
-            self.push(h, g);
-        }
+        crate::enter(self.words, self.buckets, files, g);
     }
 
     // The bucket of a name.
     pub fn bucket(&self, name: &[u8]) -> usize
         ensures { (result ≡ bucket_of self.now.buckets name.now) × (result < self.now.buckets) }
     {
-        let spread = hash(name).wrapping_mul(2654435769);
-        spread as usize * self.buckets / 4294967296
+        bucket(name, self.buckets)
     }
 
     // The same, moved on by so many buckets, past the last one to the first.
@@ -71,9 +67,7 @@ impl<'w> Index<'w> {
         ensures put { self.new.words.now ≡ pushed self.old.words.now self.old.rows h g }
         ensures shape { (self.new.rows ≡ self.old.rows) × (self.new.buckets ≡ self.old.buckets) }
     {
-        let at = self.rows + h;
-        self.words[g] = self.words[at];
-        self.words[at] = g as u32 + 1;
+        push(self.words, self.rows, h, g);
     }
 
     // Row g, the newest of bucket h, is taken out.
@@ -106,16 +100,27 @@ impl<'w> Index<'w> {
         requires { (g : ℕ) × Indexes self.now files.now g }
         ensures { (g : ℕ) → Indexes self.now files.now g → result ≡ known_before files.now (only_functions bearers) name.now g }
     {
-        let at = self.rows + self.bucket(name);
-        let mut next = self.words[at] as usize;
-        while let Some(g) = next.checked_sub(1) {
-            if bearers.bear(files, g, name) {
-                return true;
-            }
-            next = self.words[g] as usize;
-        }
-        false
+        crate::find(self.words, self.rows, self.buckets, files, bearers, name)
     }
+}
+
+// Row g is put into bucket h, above all rows that are in.
+pub fn push(words: &mut [u32], rows: usize, h: usize, g: usize)
+    requires { (rows < 4294967296) × (g < rows) × (rows + h < length words.old) }
+    ensures { words.new ≡ pushed words.old rows h g }
+{
+    let at = rows + h;
+    words[g] = words[at];
+    words[at] = g as u32 + 1;
+}
+
+// The bucket of a name, of so many.
+pub fn bucket(name: &[u8], buckets: usize) -> usize
+    requires { (0 < buckets) × (buckets < 4294967296) }
+    ensures { (result ≡ bucket_of buckets name.now) × (result < buckets) }
+{
+    let spread = hash(name).wrapping_mul(2654435769);
+    spread as usize * buckets / 4294967296
 }
 
 // The hash of a name's canonical form.

@@ -6,8 +6,8 @@ mod index;
 
 ghost use Rattle.std.specs.Prelude.{◌≡◌, ℕ, ◌+◌, ◌≤◌, ◌<◌, length};
 ghost use Rattle.refal_files.specs.View.{rows_of, row_of, placed_of};
-ghost use Rattle.refal_index.specs.Named.{bears, answers_to};
-ghost use Rattle.refal_index.specs.View.{only_functions, IndexesIf, indexes_if_prop};
+ghost use Rattle.refal_index.specs.Named.{bears, answers_to, Sized, Holds, with_row};
+ghost use Rattle.refal_index.specs.View.{only_functions, known_before, IndexesIf, indexes_if_prop};
 
 pub use crate::index::Index;
 use refal_ast::kinds::NodeKind;
@@ -53,6 +53,69 @@ impl Bearers {
     }
 }
 
+// Whether a row before g bears the name: a search over all rows.
+fn search(files: &Files, g: usize, bearers: Bearers, name: &[u8]) -> bool
+    requires { g ≤ rows_of files.now }
+    ensures { result ≡ known_before files.now (only_functions bearers) name.now g }
+{
+    (0..g).any(|i| bearers.bear(files, i, name))
+}
+
+// Whether a row that is in bears the name, over words that are lent for reading alone.
+fn find(
+    words: &[u32],
+    rows: usize,
+    buckets: usize,
+    files: &Files,
+    bearers: Bearers,
+    name: &[u8],
+) -> bool
+    requires some { 0 < buckets }
+    requires sized { Sized rows buckets files.now.one.tree.now files.now.two.tree.now }
+    requires holds { (g : ℕ) × Holds words.now rows buckets (row_of files.now) g }
+    ensures { (g : ℕ) → Holds words.now rows buckets (row_of files.now) g → result ≡ known_before files.now (only_functions bearers) name.now g }
+{
+    let at = rows + index::bucket(name, buckets);
+    let mut next = words[at] as usize;
+    while let Some(g) = next.checked_sub(1) {
+        if bearers.bear(files, g, name) {
+            return true;
+        }
+        next = words[g] as usize;
+    }
+    false
+}
+
+// Whether a row before g bears the name: by the index that the words hold where there are buckets, else by a search.
+pub fn known(
+    words: &[u32],
+    buckets: usize,
+    files: &Files,
+    g: usize,
+    bearers: Bearers,
+    name: &[u8],
+) -> bool
+    requires { Sized (rows_of files.now) buckets files.now.one.tree.now files.now.two.tree.now × (g ≤ rows_of files.now) × Holds words.now (rows_of files.now) buckets (row_of files.now) g }
+    ensures { result ≡ known_before files.now (only_functions bearers) name.now g }
+{
+    match buckets {
+        0 => search(files, g, bearers, name),
+        _ => find(words, files.count(), buckets, files, bearers, name),
+    }
+}
+
+// Row g is entered into the index that the words hold, if there are buckets and the row bears a name.
+pub fn enter(words: &mut [u32], buckets: usize, files: &Files, g: usize)
+    requires sized { Sized (rows_of files.now) buckets files.now.one.tree.now files.now.two.tree.now × (g < rows_of files.now) }
+    requires room { 0 < buckets → rows_of files.now + buckets ≤ length words.old }
+    ensures { words.new ≡ with_row words.old (rows_of files.now) buckets (row_of files.now) g }
+{
+    if buckets > 0 && Bearers::All.contain(&files.row(g)) {
+        let h = index::bucket(files.text(g), buckets);
+        index::push(words, files.count(), h, g);
+    }
+}
+
 // The names of the rows before `entered`.
 #[derive(Drop)]
 pub struct Names<'w, 'a> {
@@ -64,13 +127,14 @@ pub struct Names<'w, 'a> {
 }
 
 impl<'w, 'a> Names<'w, 'a> {
-    ghost use Rattle.refal_index.specs.Known.{knows, EntersNext};
+    ghost use Rattle.refal_index.specs.Known.{knows, EntersNext, Over};
 
     // Those of no row, over so many buckets. Where there is none, names are searched for.
     pub fn new(files: Files<'a>, words: &'w mut [u32], buckets: usize) -> Names<'w, 'a>
         requires words { (rows_of files < 4294967296) × (buckets < 4294967296) }
         requires room { 0 < buckets → rows_of files + buckets ≤ length words.old }
-        ensures { (result.files ≡ files.entry) × (result.entered ≡ 0) }
+        ensures none { (result.files ≡ files.entry) × (result.entered ≡ 0) }
+        ensures index { Over result.index files.entry buckets }
     {
         let index = match buckets {
             0 => None,
@@ -89,7 +153,7 @@ impl<'w, 'a> Names<'w, 'a> {
     {
         match &self.index {
             Some(index) => index.find(&self.files, bearers, name),
-            None => (0..self.entered).any(|g| bearers.bear(&self.files, g, name)),
+            None => search(&self.files, self.entered, bearers, name),
         }
     }
 

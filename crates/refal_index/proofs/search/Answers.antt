@@ -1,4 +1,4 @@
--- `refal_index::Names::known` meets its contract.
+-- `refal_index::search` meets its contract.
 use Rattle.std.proofs.Common.{rules, tests, ◌≡◌, ℕ, zero, suc, ◌+◌, Bool, true, false, ◌||◌, arith, refl, ap, ap₂, ◌∙◌}
 use Rattle.std.specs.List.{list_any, range_with_len}
 use Rattle.std.proofs.lemmas.Iterator.{YieldsList-from_range}
@@ -6,7 +6,7 @@ use Rattle.std.proofs.lemmas.Iterator.Search.{any_from_yields_List}
 use Rattle.refal_files.specs.View.{row_of}
 use Rattle.refal_index.specs.Named.{seen, answers_to}
 use Rattle.refal_index.specs.View.{only_functions}
-use Rattle.refal_index.proofs.Names.known.Goals as goal
+use Rattle.refal_index.proofs.search.Goals as goal
 
 or_turn : (x y z : Bool) → (x || (y || z)) ≡ (y || (x || z))
 or_turn true true z = refl
@@ -27,10 +27,9 @@ unfolding seen
 any_seen t zero = refl
 any_seen t (suc n) = any_more t 0 n ∙ ap₂ (λ (k : ℕ) (x : Bool). t k || x) (let e : 0 + n ≡ n = omega arith in e) (any_seen t n)
 
-pub returns-in-None : goal.returns-in-None
-returns-in-None c =
+pub returns : goal.returns
+returns c =
     let a = c.args in
-    let e : c.any.result ≡ list_any (λ i. answers_to (only_functions a.bearers) a.name.now (row_of a.self.now.files i)) (range_with_len 0 a.self.now.entered) =
-    any_from_yields_List (λ i. answers_to (only_functions a.bearers) a.name.now (row_of a.self.now.files i)) _ _ c.any.result c.any.ensures.ran (YieldsList-from_range 0 a.self.now.entered a.self.now.entered refl (omega arith)) (λ x b q k. search (rules, tests))
-    in
-    e ∙ any_seen (λ i. answers_to (only_functions a.bearers) a.name.now (row_of a.self.now.files i)) a.self.now.entered
+    let t = λ (i : ℕ). answers_to (only_functions a.bearers) a.name.now (row_of a.files.now i) in
+    any_from_yields_List t _ _ c.any.result c.any.ensures.ran (YieldsList-from_range 0 a.g a.g refl (omega arith)) (λ x b q k. search (rules, tests))
+    ∙ any_seen t a.g

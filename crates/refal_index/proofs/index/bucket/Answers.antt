@@ -1,7 +1,7 @@
--- `refal_index::index::Index::bucket` meets its contract.
+-- `refal_index::index::bucket` meets its contract.
 use Rattle.std.proofs.Common.{arith, refl, ◌*◌, ◌%◌}
 use Rattle.refal_index.specs.Hash.{cut_below, bucket_is}
-use Rattle.refal_index.proofs.index.Index.bucket.Goals as goal
+use Rattle.refal_index.proofs.index.bucket.Goals as goal
 
 pub returns : goal.returns
 returns c = (bucket_is _ _ _ c.args.name.now c.hash-spread.ensures refl, cut_below (c.hash-spread.result * 2654435769 % 4294967296) _ (omega arith) (omega arith))
