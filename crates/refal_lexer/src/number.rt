@@ -10,7 +10,7 @@ ghost use Rattle.refal_lexer.specs.Numbers.{macrodigit, part, sign_bytes, point_
 use crate::Fault;
 use crate::class::is_sign;
 use crate::runs::run_end;
-use crate::start::Start;
+use crate::start::{Start, whole};
 use refal_ast::answers::Reason;
 use refal_ast::kinds::TokenKind;
 use refal_ast::tokens::Token;
@@ -121,33 +121,39 @@ pub fn power(src: &[u8], at: usize) -> Result<usize, Bare>
     marked(src, at, b'E', true)
 }
 
+// The number at the front of src, whose offset is `at`; its digits start at `from`: 1 behind a sign, else 0.
+// Inlined: its answer would go through memory.
+#[inline(always)]
+pub fn number(src: &[u8], at: usize, from: usize) -> Result<Token, Fault>
+    requires { (from ≤ length src.now) × (at + length src.now ≤ 16777216) }
+    ensures { scan_told result ≡ number_scan at from src.now }
+{
+    let digits = digits(src, from);
+    let to = fraction(src, digits.end).map_err(|bare| Fault::over(
+        Reason::FractionMissing,
+        at,
+        bare.end,
+    ))?;
+    let len = power(src, to).map_err(|bare| Fault::over(Reason::ExponentMissing, at, bare.end))?;
+    // With neither point nor E it has no sign, and is a macrodigit.
+    if len == digits.end {
+        if from > 0 {
+            return Err(Fault::over(Reason::SignedWhole, at, len));
+        }
+        if digits.macrodigit().is_none() {
+            return Err(Fault::over(Reason::MacrodigitTooLarge, at, len));
+        }
+    }
+    Ok(whole(TokenKind::Number, at, len))
+}
+
 impl Start<'_> {
-    // The number whose digits start at `from`: 1 behind a sign, else 0.
-    // Inlined: its answer would go through memory.
+    // The number whose digits start at `from`.
     #[inline(always)]
     pub fn number(self, from: usize) -> Result<Token, Fault>
         requires { from ≤ length self.src.now }
         ensures { scan_told result ≡ number_scan self.entry.at from self.entry.src.now }
     {
-        let digits = digits(self.src, from);
-        // By `match`: with `map_err` over a closure that holds the start the proof did not close.
-        let to = match fraction(self.src, digits.end) {
-            Ok(to) => to,
-            Err(bare) => return Err(self.over(Reason::FractionMissing, bare.end)),
-        };
-        let len = match power(self.src, to) {
-            Ok(len) => len,
-            Err(bare) => return Err(self.over(Reason::ExponentMissing, bare.end)),
-        };
-        // With neither point nor E it has no sign, and is a macrodigit.
-        if len == digits.end {
-            if from > 0 {
-                return Err(self.over(Reason::SignedWhole, len));
-            }
-            if digits.macrodigit().is_none() {
-                return Err(self.over(Reason::MacrodigitTooLarge, len));
-            }
-        }
-        Ok(self.whole(TokenKind::Number, len))
+        number(self.src, self.at, from)
     }
 }
