@@ -1,5 +1,5 @@
 -- Laws of numbers.
-use Rattle.std.specs.Prelude.{ℕ, suc, ◌+◌, ◌-◌, ◌<◌, ◌≤◌, ◌*◌, List, [], ◌∷◌, Bool, true, false, ◌&&◌, ◌≡◌, refl, leb, ltb, length, drop, get_or, Option, Some, None, option_and_then}
+use Rattle.std.specs.Prelude.{ℕ, suc, ◌+◌, ◌-◌, ◌<◌, ◌≤◌, ◌*◌, List, [], ◌∷◌, Bool, true, false, ◌&&◌, ◌≡◌, refl, leb, ltb, length, drop, get_or, Option, Some, None}
 use Rattle.std.proofs.Common.{le-leb, eq-eqb, ne_eqb, add-zero, le_refl, add-one, arith, true≢false, ap, ◌∙◌, sym, drop_of_length-le, drop-cons}
 use Rattle.std.proofs.lemmas.Bool.{lt-leb}
 use Rattle.std.proofs.Math.Decide.{dec_le}
@@ -53,44 +53,32 @@ worth_value v (b ∷ s) = go (digit b) (dec_le v 4294967295) (worth_value (v * 1
 abbrev pub fit : ℕ → Option ℕ
 fit v = pick (leb v 4294967295) (Some v) None
 
--- what the code counts: none from where it passes 4294967295 on
-abbrev pub digit_next : Option ℕ → ℕ → Option ℕ
-digit_next v b = option_and_then (λ (x : ℕ). fit (x * 10 + (b - 48))) v
-
-abbrev pub counted : Option ℕ → List ℕ → Option ℕ
-counted v [] = v
-counted v (b ∷ s) = pick (digit b) (counted (digit_next v b) s) v
-
-next_fit : (v b : ℕ) → digit_next (fit v) b ≡ fit (v * 10 + (b - 48))
-next_fit v b = go (dec_le v 4294967295)
+worth_fits : (v : ℕ) (s : List ℕ) → fit (worth v s) ≡ fit (value v s)
+worth_fits v [] = refl
+worth_fits v (b ∷ s) = go (digit b) (dec_le v 4294967295) (worth_fits (v * 10 + (b - 48)) s)
   where
-    go : Dec (v ≤ 4294967295) → digit_next (fit v) b ≡ fit (v * 10 + (b - 48))
-    go (yes l) = rw (le-leb _ _ l) refl
-    go (no l) =
+    go : (t : Bool) → Dec (v ≤ 4294967295) → fit (worth (v * 10 + (b - 48)) s) ≡ fit (value (v * 10 + (b - 48)) s)
+        → fit (pick t (worth (digit_step v b) s) v) ≡ fit (pick t (value (v * 10 + (b - 48)) s) v)
+    go false d ih = refl
+    go true (yes l) ih = rw (le-leb _ _ l) ih
+    go true (no l) ih =
         let h : 4294967295 < v = omega arith in
-        let k : 4294967295 < v * 10 + (b - 48) = omega arith in
-        rw (lt-leb _ _ h, lt-leb _ _ k) refl
+        let g = value_grows (v * 10 + (b - 48)) s in
+        let k : 4294967295 < value (v * 10 + (b - 48)) s = omega arith in
+        rw (lt-leb _ _ h, worth_stays v s h, lt-leb _ _ h, lt-leb _ _ k) refl
 
-counted_fit : (v : ℕ) (s : List ℕ) → counted (fit v) s ≡ fit (value v s)
-counted_fit v [] = refl
-counted_fit v (b ∷ s) = go (digit b) (ap (λ (x : Option ℕ). counted x s) (next_fit v b) ∙ counted_fit (v * 10 + (b - 48)) s)
-  where
-    go : (t : Bool) → counted (digit_next (fit v) b) s ≡ fit (value (v * 10 + (b - 48)) s) → pick t (counted (digit_next (fit v) b) s) (fit v) ≡ fit (pick t (value (v * 10 + (b - 48)) s) v)
-    go true h = h
-    go false h = refl
+-- the code's count tells the macrodigit
+pub worth_fit : (s : List ℕ) → fit (worth 0 s) ≡ macrodigit s
+worth_fit s = worth_fits 0 s
 
--- the code's count is what the digits are worth
-pub counted_is : (s : List ℕ) → counted (Some 0) s ≡ macrodigit s
-counted_is s = counted_fit 0 s
+pub worth_end : (v : ℕ) (s : List ℕ) (i : ℕ) → length s ≤ i → worth v (drop i s) ≡ v
+worth_end v s i h = rw (drop_of_length-le s h)
 
-pub counted_end : (v : Option ℕ) (s : List ℕ) (i : ℕ) → length s ≤ i → counted v (drop i s) ≡ v
-counted_end v s i h = rw (drop_of_length-le s h)
+pub worth_stop : (v : ℕ) (s : List ℕ) (i : ℕ) → i < length s → digit (get_or s i 0) ≡ false → worth v (drop i s) ≡ v
+worth_stop v s i h e = rw (drop-cons s i 0, e)
 
-pub counted_stop : (v : Option ℕ) (s : List ℕ) (i : ℕ) → i < length s → digit (get_or s i 0) ≡ false → counted v (drop i s) ≡ v
-counted_stop v s i h e = rw (drop-cons s i 0, e)
-
-pub counted_step : (v : Option ℕ) (s : List ℕ) (i : ℕ) → i < length s → digit (get_or s i 0) ≡ true → counted (digit_next v (get_or s i 0)) (drop (i + 1) s) ≡ counted v (drop i s)
-counted_step v s i h e = rw (drop-cons s i 0 h, e, add-one i)
+pub worth_step : (v : ℕ) (s : List ℕ) (i : ℕ) → i < length s → digit (get_or s i 0) ≡ true → worth (digit_step v (get_or s i 0)) (drop (i + 1) s) ≡ worth v (drop i s)
+worth_step v s i h e = rw (drop-cons s i 0 h, e, add-one i)
 
 -- ---- the part at i that a mark begins
 

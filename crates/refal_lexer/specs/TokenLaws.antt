@@ -32,5 +32,3 @@ lex_few zero at line (b ∷ s) =
         let a = length-append ts (Go (end - suc at)).tokens in
         omega arith
     on (refused number start end) p ih = omega arith
-
--- ---- the rows that reading leaves are well-formed words for parsing

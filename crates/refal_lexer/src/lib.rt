@@ -39,6 +39,26 @@ pub struct Fault {
     pub span: Span,
 }
 
+impl Fault {
+    ghost use Rattle.refal_lexer.specs.Scans.{Bad};
+    ghost use Rattle.refal_lexer.specs.Told.{fault_told};
+
+    // A fault whose span is the len bytes at `at`.
+    #[inline(always)]
+    fn over(reason: Reason, at: usize, len: usize) -> Fault
+        requires { at + len ≤ 16777216 }
+        ensures { fault_told result ≡ Bad (reason_code reason) at (at + len) }
+    {
+        Fault {
+            reason,
+            span: Span {
+                start: at,
+                end: at + len,
+            },
+        }
+    }
+}
+
 impl From<Fault> for Refusal {
     ghost from_gives = { λ fault r. refusal_told r ≡ refusal (reason_code fault.reason) 0 0 fault.span.start fault.span.end 0 };
 

@@ -3,23 +3,33 @@
 ghost use Rattle.std.specs.Prelude.{◌≡◌, true, ◌+◌, ◌-◌, ◌*◌, ◌≤◌, ◌<◌, length, drop, get_or};
 ghost use Rattle.refal_text.specs.Span.{span};
 ghost use Rattle.refal_lexer.specs.Classes.{digit};
-ghost use Rattle.refal_lexer.specs.NumberLaws.{fit};
+ghost use Rattle.refal_lexer.specs.NumberLaws.{worth, digit_step, fit};
 ghost use Rattle.refal_lexer.specs.Told.{part_told, scan_told};
 ghost use Rattle.refal_lexer.specs.Numbers.{macrodigit, part, sign_bytes, point_at, exponent_at, number_scan};
 
 use crate::Fault;
 use crate::class::is_sign;
 use crate::runs::run_end;
-use crate::start::Start;
+use crate::start::{Start, whole};
 use refal_ast::answers::Reason;
 use refal_ast::kinds::TokenKind;
 use refal_ast::tokens::Token;
 
-// Where a run of digits ends, and what it is worth: none where that is more than 4294967295.
+// Where a run of digits ends, and what it is worth, or some number above 4294967295 where it is worth more.
 #[derive(Clone, Copy, Debug, PartialEq, Eq)]
 pub struct Whole {
     pub end: usize,
-    pub worth: Option<u32>,
+    pub worth: u64,
+}
+
+impl Whole {
+    // What the digits are worth: none where that is more than 4294967295.
+    #[inline(always)]
+    pub fn macrodigit(self) -> Option<u32>
+        ensures { result ≡ fit self.worth }
+    {
+        u32::try_from(self.worth).ok()
+    }
 }
 
 // No digit stands in the part that ends here.
@@ -28,12 +38,16 @@ pub struct Bare {
     pub end: usize,
 }
 
-// What digits that are worth v are worth with the digit b behind.
-fn with_digit(v: u32, b: u8) -> Option<u32>
+// What digits that are worth v are worth with the digit b behind. Past 4294967295 the count stays where it is: that it is more is all that is asked then, and
+// a comparison costs less than a product and a sum that are tested.
+fn with_digit(v: u64, b: u8) -> u64
     requires { digit b ≡ true }
-    ensures { result ≡ fit (v * 10 + (b - 48)) }
+    ensures { result ≡ digit_step v b }
 {
-    v.checked_mul(10)?.checked_add(u32::from(b - b'0'))
+    if v > u64::from(u32::MAX) {
+        return v;
+    }
+    v * 10 + u64::from(b - b'0')
 }
 
 // The digits at `at`.
@@ -41,15 +55,15 @@ pub fn digits(src: &[u8], at: usize) -> Whole
     requires { at ≤ length src.now }
     ensures end { result.end ≡ at + span digit (drop at src.now) }
     ensures within { result.end ≤ length src.now }
-    ensures worth { result.worth ≡ macrodigit (drop at src.now) }
+    ensures worth { result.worth ≡ worth 0 (drop at src.now) }
+    ensures macrodigit { fit result.worth ≡ macrodigit (drop at src.now) }
 {
     // By index, in one pass, since the end and the worth come together: `run_end` and then a fold over the run proves too, goes over it twice, and reads
     // numbers at four fifths of the speed.
     let mut end = at;
-    let mut worth = Some(0u32);
+    let mut worth = 0u64;
     while end < src.len() && src[end].is_ascii_digit() {
-        let b = src[end];
-        worth = worth.and_then(|v| with_digit(v, b));
+        worth = with_digit(worth, src[end]);
         end += 1;
     }
     Whole { end, worth }
@@ -107,33 +121,39 @@ pub fn power(src: &[u8], at: usize) -> Result<usize, Bare>
     marked(src, at, b'E', true)
 }
 
+// The number at the front of src, whose offset is `at`; its digits start at `from`: 1 behind a sign, else 0.
+// Inlined: its answer would go through memory.
+#[inline(always)]
+pub fn number(src: &[u8], at: usize, from: usize) -> Result<Token, Fault>
+    requires { (from ≤ length src.now) × (at + length src.now ≤ 16777216) }
+    ensures { scan_told result ≡ number_scan at from src.now }
+{
+    let digits = digits(src, from);
+    let to = fraction(src, digits.end).map_err(|bare| Fault::over(
+        Reason::FractionMissing,
+        at,
+        bare.end,
+    ))?;
+    let len = power(src, to).map_err(|bare| Fault::over(Reason::ExponentMissing, at, bare.end))?;
+    // With neither point nor E it has no sign, and is a macrodigit.
+    if len == digits.end {
+        if from > 0 {
+            return Err(Fault::over(Reason::SignedWhole, at, len));
+        }
+        if digits.macrodigit().is_none() {
+            return Err(Fault::over(Reason::MacrodigitTooLarge, at, len));
+        }
+    }
+    Ok(whole(TokenKind::Number, at, len))
+}
+
 impl Start<'_> {
-    // The number whose digits start at `from`: 1 behind a sign, else 0.
-    // Inlined: its answer would go through memory.
+    // The number whose digits start at `from`.
     #[inline(always)]
     pub fn number(self, from: usize) -> Result<Token, Fault>
         requires { from ≤ length self.src.now }
         ensures { scan_told result ≡ number_scan self.entry.at from self.entry.src.now }
     {
-        let digits = digits(self.src, from);
-        // By `match`: with `map_err` over a closure that holds the start the proof did not close.
-        let to = match fraction(self.src, digits.end) {
-            Ok(to) => to,
-            Err(bare) => return Err(self.over(Reason::FractionMissing, bare.end)),
-        };
-        let len = match power(self.src, to) {
-            Ok(len) => len,
-            Err(bare) => return Err(self.over(Reason::ExponentMissing, bare.end)),
-        };
-        // With neither point nor E it has no sign, and is a macrodigit.
-        if len == digits.end {
-            if from > 0 {
-                return Err(self.over(Reason::SignedWhole, len));
-            }
-            if digits.worth.is_none() {
-                return Err(self.over(Reason::MacrodigitTooLarge, len));
-            }
-        }
-        Ok(self.whole(TokenKind::Number, len))
+        number(self.src, self.at, from)
     }
 }

@@ -1,5 +1,8 @@
 // The source from a place on, with that place's offset.
-ghost use Rattle.std.specs.Prelude.{◌+◌, ◌≤◌, ◌<◌, length};
+ghost use Rattle.std.specs.Prelude.{◌≡◌, ◌+◌, ◌≤◌, ◌<◌, length};
+ghost use Rattle.refal_ast.specs.KindCodes.{token_code};
+ghost use Rattle.refal_ast.specs.Rows.{token_told};
+ghost use Rattle.refal_ast.specs.Tokens.{token};
 
 use crate::Fault;
 use refal_ast::answers::{Reason, Span};
@@ -21,6 +24,22 @@ pub struct Start<'a> {
     pub at: usize,
     ghost some: { 0 < length src.now },
     ghost short: { at + length src.now ≤ 16777216 },
+}
+
+// A token of the len bytes at `at`, all of which are its text.
+#[inline(always)]
+pub fn whole(kind: TokenKind, at: usize, len: usize) -> Token
+    requires { at + len ≤ 16777216 }
+    ensures { token_told result ≡ token (token_code kind) 0 at len at (at + len) }
+{
+    Token {
+        kind,
+        detail: 0,
+        start: at as u32,
+        len: len as u32,
+        from: at as u32,
+        to: (at + len) as u32,
+    }
 }
 
 impl<'a> Rest<'a> {
@@ -106,10 +125,7 @@ impl Start<'_> {
         requires { len ≤ length self.src.now }
         ensures { fault_told result ≡ Bad (reason_code reason) self.entry.at (self.entry.at + len) }
     {
-        Fault {
-            reason,
-            span: self.span(len),
-        }
+        Fault::over(reason, self.at, len)
     }
 
     // A token of the first len bytes, all of which are its text.
@@ -118,11 +134,7 @@ impl Start<'_> {
         requires { len ≤ length self.src.now }
         ensures { token_told result ≡ token (token_code kind) 0 self.entry.at len self.entry.at (self.entry.at + len) }
     {
-        Token {
-            start: self.at as u32,
-            len: len as u32,
-            ..self.bare(kind, len)
-        }
+        whole(kind, self.at, len)
     }
 
     // A token of the first len bytes that has no text.

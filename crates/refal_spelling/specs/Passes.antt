@@ -1,7 +1,9 @@
 -- The rows that reading gives pass parsing's check 30.
-use Rattle.std.specs.Prelude.{ℕ, ◌+◌, ◌*◌, ◌%◌, ◌≤◌, true, ◌&&◌, ◌||◌, List, [], ◌∷◌, ◌++◌, ◌≡◌, refl, eqb, length}
+use Rattle.std.specs.Prelude.{ℕ, ◌+◌, ◌*◌, ◌%◌, ◌≤◌, Bool, true, ◌&&◌, ◌||◌, List, [], ◌∷◌, ◌++◌, ◌≡◌, refl, eqb, length, drop, replicate}
 use Rattle.std.proofs.Common.{arith, le-leb, eq-eqb, ap, sym, ◌∙◌}
 use Rattle.std.proofs.lemmas.Bool.{lt-leb}
+use Rattle.std.proofs.lemmas.List.{length-replicate}
+use Rattle.std.proofs.Math.Seq.{drop-append_seam}
 use Rattle.refal_ast.specs.Kinds.{tok_eof}
 use Rattle.refal_ast.specs.Check.{scalar, uses_text, good_token, ok_tokens, well_formed}
 use Rattle.refal_ast.specs.Tokens.{Token, token, flat, tokens_of, tokens_flat, length_flat}
@@ -12,7 +14,7 @@ use Rattle.refal_spelling.specs.Spell.{Spelled}
 use Rattle.refal_spelling.specs.Good.{Good, entry, extern, identifier, variable_of, number, character, mark}
 use Rattle.refal_spelling.specs.Sound.{AllSound, sound_more}
 use Rattle.refal_spelling.specs.ScanWords.{variable_low}
-use Rattle.refal_spelling.specs.ReadsGood.{reads_sound}
+use Rattle.refal_spelling.specs.ReadsGood.{reading, parted}
 use Rattle.refal_spelling.specs.TextReads.{mark_not}
 use Rattle.refal_spelling.specs.Few.{few_tokens}
 
@@ -41,12 +43,23 @@ all_pass src [] at a = refl
 all_pass src (t ∷ []) at (sound_more h a) = rw (passes _ h.good t.start t.len t.from t.to h.unused) refl
 all_pass src (t ∷ u ∷ ts) at (sound_more h a) = rw (passes _ h.good t.start t.len t.from t.to h.unused) (all_pass src (u ∷ ts) at a)
 
+-- check 30 passes the tokens of every source, from any place of it on: what stood before makes no difference
+pub lex_passes : (skip at : ℕ) (line : Bool) (s : List ℕ) → (lex_by skip at line s).stop ≡ fine → ok_tokens (lex_by skip at line s).tokens ≡ true
+lex_passes skip at line s h =
+    let before : List ℕ = replicate at 0 in
+    let e : drop at (before ++ s) ≡ s = ap (λ (k : ℕ). drop k (before ++ s)) (sym (length-replicate at 0)) ∙ drop-append_seam before s in
+    let r = parted (before ++ s) _ (reading (before ++ s) s skip at line e h) in
+    ap ok_tokens r.is ∙ all_pass (before ++ s) r.ts r.at r.sound
+
 pub reads_pass : (src : List ℕ) → (lex_by 0 0 true src).stop ≡ fine → length src ≤ 16777216 → well_formed (flat (lex_by 0 0 true src).tokens) ≡ true
 unfolding well_formed
 reads_pass src h l =
-    let r = reads_sound src h in
     let ts = (lex_by 0 0 true src).tokens in
     let n : length (flat ts) ≡ 6 * length ts = length_flat ts in
     let f : length ts ≤ length src + 1 = few_tokens src in
-    let o : ok_tokens (tokens_of (flat ts)) ≡ true = ap ok_tokens (tokens_flat ts ∙ r.is) ∙ all_pass src r.ts r.at r.sound in
+    let o : ok_tokens (tokens_of (flat ts)) ≡ true = ap ok_tokens (tokens_flat ts) ∙ lex_passes 0 0 true src h in
     rw (o, eq-eqb (length (flat ts) % 6) 0 (omega arith), le-leb (length (flat ts)) (6 * 16777217) (omega arith)) refl
+
+-- the same, the length first
+pub lex_well_formed : (s : List ℕ) → length s ≤ 16777216 → (lex_by 0 0 true s).stop ≡ fine → well_formed (flat (lex_by 0 0 true s).tokens) ≡ true
+lex_well_formed s l h = reads_pass s h l

@@ -165,7 +165,7 @@ pub record Read (src : List ℕ) (all : List Token) : Type 0 where
   pub is : all ≡ ts ++ (token tok_eof 0 0 0 at at ∷ [])
   pub sound : AllSound src (flats_of ts)
 
-parted : (src : List ℕ) (all : List Token) → Reading src all → Read src all
+pub parted : (src : List ℕ) (all : List Token) → Reading src all → Read src all
 parted src all (ends at) = record { ts = []; at = at; is = refl; sound = sound_none }
 parted src all (goes {t = t} {ts = us} h g) =
     let r = parted src us g in

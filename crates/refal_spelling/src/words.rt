@@ -44,7 +44,7 @@ fn is_number_from(word: &[u8], from: usize) -> bool
         return false;
     };
     let real = end != whole.end;
-    let macrodigit = from == 0 && whole.worth.is_some();
+    let macrodigit = from == 0 && whole.macrodigit().is_some();
     (real || macrodigit) && end == word.len()
 }
 

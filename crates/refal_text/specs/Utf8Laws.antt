@@ -1,4 +1,4 @@
--- Laws of UTF-8: the count of leading ones, the ways out of `char_at` and `first_ill`, and that a character lies within its bytes.
+-- Laws of UTF-8: the count of leading ones, the ways out of `decode` and `ill_formed`, and that a character lies within its bytes.
 use Rattle.std.specs.Prelude.{ℕ, zero, suc, ◌+◌, ◌-◌, ◌<◌, ◌≤◌, Bool, true, false, ◌&&◌, List, [], ◌∷◌, ◌≡◌, refl, leb, ltb, eqb, length, take, drop, get_or, Option, Some, None, IfSome}
 use Rattle.std.proofs.Common.{arith, zero-add, add-zero, suc-add, eqb-true, eq-eqb, ne_eqb, ltb-true, true≢false, ap, sym, ◌∙◌, eqb→eq, drop_of_length-le, length-drop, get_or-drop, drop-cons, drop-drop, take_all}
 use Rattle.std.proofs.Math.Decide.{dec_le}

@@ -2,7 +2,7 @@
 #![tactic(auto)]
 
 ghost use Rattle.std.specs.Prelude.{◌≡◌, ◌+◌, ◌≤◌, ◌<◌, IfSome, length, drop, get_or};
-ghost use Rattle.refal_text.specs.Utf8.{leads, second, cont, two, three, four, decode, well_to, ascii};
+ghost use Rattle.refal_text.specs.Utf8.{leads, second, cont, well2, well3, well4, two, three, four, decode, well_to, ascii};
 ghost use Rattle.refal_text.specs.Told.{char_told, place_told};
 ghost use Rattle.refal_text.specs.White.{white_space};
 ghost use Rattle.refal_text.specs.Span.{span};
@@ -52,6 +52,30 @@ fn is_second(a: u8, b: u8) -> bool
 // Two, three and four bytes stay apart, a function for each row of the table: one over any number of bytes would need a loop, with a bound
 // for its sum, where these need no proof.
 
+// Whether a and b are a sequence of two bytes.
+#[inline(always)]
+pub fn is_two(a: u8, b: u8) -> bool
+    ensures { result ≡ well2 a b }
+{
+    a >= 0xC2 && is_continuation(b)
+}
+
+// Whether a, b and c are a sequence of three bytes, where a leads three.
+#[inline(always)]
+pub fn is_three(a: u8, b: u8, c: u8) -> bool
+    ensures { result ≡ well3 a b c }
+{
+    is_second(a, b) && is_continuation(c)
+}
+
+// Whether a, b, c and d are a sequence of four bytes, where a leads four or none.
+#[inline(always)]
+pub fn is_four(a: u8, b: u8, c: u8, d: u8) -> bool
+    ensures { result ≡ well4 a b c d }
+{
+    a <= 0xF4 && is_second(a, b) && is_continuation(c) && is_continuation(d)
+}
+
 // The character of two bytes, a and b.
 #[inline(always)]
 pub fn two(a: u8, b: u8) -> Option<Char>
@@ -59,7 +83,7 @@ pub fn two(a: u8, b: u8) -> Option<Char>
     ensures told { char_told result ≡ two a b }
     ensures some { IfSome result (λ c. 1 ≤ c.len) }
 {
-    if a < 0xC2 || !is_continuation(b) {
+    if !is_two(a, b) {
         return None;
     }
     Some(Char {
@@ -75,7 +99,7 @@ fn three(a: u8, b: u8, c: u8) -> Option<Char>
     ensures told { char_told result ≡ three a b c }
     ensures some { IfSome result (λ c. 1 ≤ c.len) }
 {
-    if !is_second(a, b) || !is_continuation(c) {
+    if !is_three(a, b, c) {
         return None;
     }
     Some(Char {
@@ -91,7 +115,7 @@ fn four(a: u8, b: u8, c: u8, d: u8) -> Option<Char>
     ensures told { char_told result ≡ four a b c d }
     ensures some { IfSome result (λ c. 1 ≤ c.len) }
 {
-    if a > 0xF4 || !is_second(a, b) || !is_continuation(c) || !is_continuation(d) {
+    if !is_four(a, b, c, d) {
         return None;
     }
     Some(Char {
