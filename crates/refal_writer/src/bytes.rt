@@ -27,7 +27,7 @@ impl<'a> Put for Word<'a> {
     ghost most = { 4294967295 };
 
     fn put(self, out: &mut [u8]) -> usize {
-        // Byte by byte, here and below: `copy_from_slice`, or a loop over the room alone, would have the library for C need `memcpy`.
+        // Byte by byte, here and below: `copy_from_slice` would have the library for C need `memcpy` and `memmove`.
         let n = self.text.len().min(out.len());
         for i in 0..n {
             out[i] = self.text[i];
@@ -48,6 +48,7 @@ impl<'a, const N: usize> Put for &'a [u8; N] {
                 out[i] = self[i];
             }
         } else {
+            // A loop over the room alone would become a call of `memcpy` too.
             for i in 0..N {
                 if i < out.len() {
                     out[i] = self[i];
