@@ -1,5 +1,5 @@
 -- Node rows: a node's words, and the nodes whose rows stand in a list of words. The width of a row and its columns are fixed here.
-use Rattle.std.specs.Prelude.{ℕ, ◌+◌, ◌*◌, ◌%◌, ◌≤◌, Bool, ◌||◌, List, [], ◌∷◌, eqb, length, get_or}
+use Rattle.std.specs.Prelude.{ℕ, ◌+◌, ◌*◌, ◌%◌, ◌≤◌, Bool, ◌||◌, List, [], ◌∷◌, ◌++◌, eqb, length, get_or}
 use Rattle.refal_ast.specs.Kinds.{node_name, node_function, node_identifier, node_number, node_variable, node_call}
 
 -- kind, detail, text start and length, span start and end, next: the row after the subtree, parent: the parent's row
@@ -93,3 +93,8 @@ nodes_of (k ∷ d ∷ s ∷ l ∷ a ∷ []) = []
 nodes_of (k ∷ d ∷ s ∷ l ∷ a ∷ b ∷ []) = []
 nodes_of (k ∷ d ∷ s ∷ l ∷ a ∷ b ∷ x ∷ []) = []
 nodes_of (k ∷ d ∷ s ∷ l ∷ a ∷ b ∷ x ∷ q ∷ w) = record { kind = k; detail = d; start = s; len = l; from = a; to = b; next = x; parent = q } ∷ nodes_of w
+
+-- the rows of a list of nodes, one after the other
+abbrev pub flat_nodes : List Node → List ℕ
+flat_nodes [] = []
+flat_nodes (x ∷ xs) = node_words x ++ flat_nodes xs

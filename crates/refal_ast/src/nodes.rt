@@ -132,3 +132,13 @@ pub fn text_len(tree: &[u32], i: usize) -> u32
 {
     word(tree, i, LEN)
 }
+
+// Whether rows of the kind of this number use their text; those of no kind do not.
+pub fn has_text(kind: u32) -> bool
+    ensures { result ≡ has_text kind }
+{
+    match NodeKind::try_from(kind) {
+        Ok(kind) => kind.has_text(),
+        Err(_) => false,
+    }
+}

@@ -35,3 +35,13 @@ row_words r next parent = node r.kind r.detail r.start r.len r.from r.to next pa
 unfoldable pub enc_g : Forest → ℕ → ℕ → List ℕ
 enc_g empty n q = []
 enc_g (tree r f g) n q = row_words r (n + 1 + size_g f) q ++ (enc_g f (n + 1) n ++ enc_g g (n + 1 + size_g f) q)
+
+-- a row's node, with the number of the next row and of the parent's
+abbrev pub with_next : Row → ℕ → ℕ → Node
+with_next r next parent =
+    record { kind = r.kind; detail = r.detail; start = r.start; len = r.len; from = r.from; to = r.to; next = next; parent = parent }
+
+-- two forests, one after the other
+unfoldable pub join_g : Forest → Forest → Forest
+join_g empty h = h
+join_g (tree r f g) h = tree r f (join_g g h)

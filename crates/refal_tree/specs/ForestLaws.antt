@@ -1,10 +1,13 @@
 -- A list of words holds a forest exactly when it is that forest's words.
-use Rattle.std.specs.Prelude.{ℕ, zero, suc, ◌+◌, ◌*◌, ◌-◌, ◌/◌, ◌%◌, ◌≤◌, ◌<◌, Bool, true, false, List, [], ◌∷◌, ◌++◌, ◌≡◌, refl, eqb, length, get_or, drop}
-use Rattle.std.proofs.Common.{append_assoc, append-nil, sym, ap, subst, ◌∙◌, arith, length-append, length-drop, drop_of_length-le, get_or-append-add, get_or-drop, drop-drop, eq-eqb, eqb-true}
+use Rattle.std.specs.Prelude.{ℕ, zero, suc, ◌+◌, ◌*◌, ◌-◌, ◌/◌, ◌%◌, ◌≤◌, ◌<◌, Bool, true, false, List, [], ◌∷◌, ◌++◌, ◌≡◌, refl, eqb, length, get_or, drop, replicate}
+use Rattle.std.proofs.Common.{append_assoc, append-nil, sym, ap, subst, ◌∙◌, arith, length-append, length-drop, drop_of_length-le, drop_at, get_or-append-add, get_or-drop, drop-drop, eq-eqb, eqb-true}
 use Rattle.std.proofs.Math.Option.{Option, none, some}
-use Rattle.refal_ast.specs.Nodes.{node_width, no_parent, col_kind, col_detail, col_start, col_len, col_from, col_to, col_next, col_parent, word_at, HasRow, whole_rows}
-use Rattle.refal_tree.specs.Forest.{Row, Forest, empty, tree, size_g, row_words, enc_g}
-use Rattle.refal_tree.specs.Ranges.{row_at, next_at, parent_at, joined, linked, Linked, linked_true, Finds, forest_in, forest_from, forest_row, forest_at, pick_forest, forest_of, forest_turn, forest_end, forest_all}
+use Rattle.std.proofs.Math.Nat.{mul-mod_right}
+use Rattle.std.proofs.lemmas.List.{length-replicate}
+use Rattle.refal_ast.specs.Nodes.{Node, node_words, node_width, no_parent, col_kind, col_detail, col_start, col_len, col_from, col_to, col_next, col_parent, word_at, HasRow, whole_rows, nodes_of, flat_nodes}
+use Rattle.refal_ast.specs.NodeLaws.{nodes_flat}
+use Rattle.refal_tree.specs.Forest.{Row, Forest, empty, tree, size_g, row_words, enc_g, with_next, join_g}
+use Rattle.refal_tree.specs.Ranges.{row_at, next_at, parent_at, joined, linked, Linked, linked_true, Finds, forest_in, forest_from, forest_row, forest_at, pick_forest, forest_of, forest_rows, forest_turn, forest_end, forest_all}
 
 pub length_enc : (f : Forest) (n q : ℕ) → length (enc_g f n q) ≡ node_width * size_g f
 unfolding enc_g size_g
@@ -170,3 +173,122 @@ enc_forest w f e = go (whole_rows w) refl e
         ∙ ap (λ (l : List ℕ). enc_g f 0 no_parent ++ l) (drop_of_length-le w n)
         ∙ append-nil (enc_g f 0 no_parent)
     go false h e = let z : ◌≡◌ {A = ℕ} 0 1 = cc in absurd (omega arith)
+
+-- ---- the same of words whose first row is row n, under the parent q
+
+-- rows i to j of a list of words that are a forest
+pub enc_forest_at : (w : List ℕ) (i j q : ℕ) (f : Forest) → node_width * j ≤ length w → forest_at w i j q ≡ some f → Holds w i j q f
+unfolding forest_at
+enc_forest_at w i j q f l e = holds (j - i) w i j q f l e
+
+pub forest_enc_rows : (f : Forest) (n q : ℕ) → forest_rows (enc_g f n q) n q ≡ some f
+unfolding forest_rows
+forest_enc_rows f n q =
+    let w : List ℕ = enc_g f n q in
+    let P : List ℕ = replicate (node_width * n) 0 in
+    let l : length w ≡ node_width * size_g f = length_enc f n q in
+    let z : length w % node_width ≡ 0 = ap (λ (k : ℕ). k % node_width) l ∙ mul-mod_right node_width (size_g f) in
+    ap (λ (b : Bool). pick_forest b (forest_at (P ++ w) n (n + length w / node_width) q)) (eq-eqb _ _ z)
+    ∙ ap (λ (v : List ℕ). forest_at (P ++ v) n (n + length w / node_width) q) (sym (append-nil w))
+    ∙ ap (λ (m : ℕ). forest_at (P ++ (w ++ [])) n m q) (let e : n + length w / node_width ≡ n + size_g f = omega arith in e)
+    ∙ forest_at_lem f P [] n q (length-replicate (node_width * n) 0)
+
+pub enc_forest_rows : (w : List ℕ) (n q : ℕ) (f : Forest) → forest_rows w n q ≡ some f → w ≡ enc_g f n q
+unfolding forest_rows
+enc_forest_rows w n q f e = go (whole_rows w) refl e
+  where
+    go : (b : Bool) → whole_rows w ≡ b → pick_forest b (forest_at (replicate (node_width * n) 0 ++ w) n (n + length w / node_width) q) ≡ some f → w ≡ enc_g f n q
+    go true h e =
+        let P : List ℕ = replicate (node_width * n) 0 in
+        let j : ℕ = n + length w / node_width in
+        let z : length w % node_width ≡ 0 = eqb-true _ _ h in
+        let p : length P ≡ node_width * n = length-replicate (node_width * n) 0 in
+        let k : length (P ++ w) ≡ length P + length w = length-append P w in
+        sym (drop_at P w (node_width * n) p)
+        ∙ (enc_forest_at (P ++ w) n j q f (omega arith) e).words
+        ∙ ap (λ (l : List ℕ). enc_g f n q ++ l) (drop_of_length-le (P ++ w) (let m : length (P ++ w) ≤ node_width * j = omega arith in m))
+        ∙ append-nil (enc_g f n q)
+    go false h e = let z : ◌≡◌ {A = ℕ} 0 1 = cc in absurd (omega arith)
+
+-- ---- two forests, one after the other
+
+pub join_empty : (f : Forest) → join_g f empty ≡ f
+unfolding join_g
+join_empty empty = refl
+join_empty (tree r f g) = ap (λ (x : Forest). tree r f x) (join_empty g)
+
+pub size_join : (f g : Forest) → size_g (join_g f g) ≡ size_g f + size_g g
+unfolding join_g size_g
+size_join empty g = omega arith
+size_join (tree r f g) h = let ih = size_join g h in omega arith
+
+-- ---- the nodes of a forest
+
+-- whose first row is row n, under the parent q
+unfoldable pub nodes_g : Forest → ℕ → ℕ → List Node
+nodes_g empty n q = []
+nodes_g (tree r f g) n q = with_next r (n + 1 + size_g f) q ∷ nodes_g f (n + 1) n ++ nodes_g g (n + 1 + size_g f) q
+
+flat_join : (xs ys : List Node) → flat_nodes (xs ++ ys) ≡ flat_nodes xs ++ flat_nodes ys
+flat_join [] ys = refl
+flat_join (x ∷ xs) ys = ap (λ (l : List ℕ). node_words x ++ l) (flat_join xs ys)
+
+-- its words are theirs
+pub enc_nodes : (f : Forest) (n q : ℕ) → enc_g f n q ≡ flat_nodes (nodes_g f n q)
+unfolding enc_g nodes_g
+enc_nodes empty n q = refl
+enc_nodes (tree r f g) n q =
+    let x : ℕ = n + 1 + size_g f in
+    ap (λ (l : List ℕ). row_words r x q ++ l)
+    (ap (λ (l : List ℕ). l ++ enc_g g x q) (enc_nodes f (n + 1) n)
+    ∙ ap (λ (l : List ℕ). flat_nodes (nodes_g f (n + 1) n) ++ l) (enc_nodes g x q)
+    ∙ sym (flat_join (nodes_g f (n + 1) n) (nodes_g g x q)))
+
+pub length_forest : (f : Forest) (n q : ℕ) → length (nodes_g f n q) ≡ size_g f
+unfolding nodes_g size_g
+length_forest empty n q = refl
+length_forest (tree r f g) n q =
+    let i = length_forest f (n + 1) n in
+    let j = length_forest g (n + 1 + size_g f) q in
+    let k = length-append (nodes_g f (n + 1) n) (nodes_g g (n + 1 + size_g f) q) in
+    omega arith
+
+-- of two forests
+nodes_join : (f g : Forest) (n q : ℕ) → nodes_g (join_g f g) n q ≡ nodes_g f n q ++ nodes_g g (n + size_g f) q
+unfolding nodes_g join_g size_g
+nodes_join empty g n q = ap (λ (m : ℕ). nodes_g g m q) (let e : n ≡ n + 0 = omega arith in e)
+nodes_join (tree r f g) h n q =
+    let m : ℕ = n + 1 + size_g f in
+    let x : Node = with_next r m q in
+    let A : List Node = nodes_g f (n + 1) n in
+    ap (λ (l : List Node). x ∷ A ++ l) (nodes_join g h m q)
+    ∙ ap (λ (k : ℕ). x ∷ A ++ (nodes_g g m q ++ nodes_g h k q)) (let e : m + size_g g ≡ n + (1 + size_g f + size_g g) = omega arith in e)
+    ∙ ap (λ (l : List Node). x ∷ l) (sym (append_assoc A (nodes_g g m q) (nodes_g h (n + (1 + size_g f + size_g g)) q)))
+
+-- the words of two forests
+pub enc_join : (f g : Forest) (n q : ℕ) → enc_g (join_g f g) n q ≡ enc_g f n q ++ enc_g g (n + size_g f) q
+enc_join f g n q =
+    enc_nodes (join_g f g) n q
+    ∙ ap flat_nodes (nodes_join f g n q)
+    ∙ flat_join (nodes_g f n q) (nodes_g g (n + size_g f) q)
+    ∙ ap (λ (l : List ℕ). l ++ flat_nodes (nodes_g g (n + size_g f) q)) (sym (enc_nodes f n q))
+    ∙ ap (λ (l : List ℕ). enc_g f n q ++ l) (sym (enc_nodes g (n + size_g f) q))
+
+-- the forest that a list of nodes is, the first of which is row n, under the parent q
+abbrev pub forest_n : List Node → ℕ → ℕ → Option Forest
+forest_n xs n q = forest_rows (flat_nodes xs) n q
+
+pub forest_nodes : (f : Forest) (n q : ℕ) → forest_n (nodes_g f n q) n q ≡ some f
+forest_nodes f n q = ap (λ (w : List ℕ). forest_rows w n q) (sym (enc_nodes f n q)) ∙ forest_enc_rows f n q
+
+none_more : (xs : List Node) → xs ++ nodes_of [] ≡ xs
+unfolding nodes_of
+none_more xs = append-nil xs
+
+nodes_of_flat : (xs : List Node) → nodes_of (flat_nodes xs) ≡ xs
+nodes_of_flat xs = ap nodes_of (sym (append-nil (flat_nodes xs))) ∙ nodes_flat xs [] ∙ none_more xs
+
+-- nodes that are a forest are that forest's nodes
+pub nodes_forest : (xs : List Node) (n q : ℕ) (f : Forest) → forest_n xs n q ≡ some f → xs ≡ nodes_g f n q
+nodes_forest xs n q f e =
+    sym (nodes_of_flat xs) ∙ ap nodes_of (enc_forest_rows (flat_nodes xs) n q f e ∙ enc_nodes f n q) ∙ nodes_of_flat (nodes_g f n q)

@@ -1,6 +1,6 @@
 -- Ranges of rows in a list of words: rows i to j as a forest, all of them under one parent. A walk reads row i, goes into its children, rows i + 1 to
 -- its `next`, and goes on at `next`.
-use Rattle.std.specs.Prelude.{ℕ, zero, suc, ◌+◌, ◌*◌, ◌-◌, ◌/◌, ◌%◌, ◌≤◌, ◌<◌, Bool, true, false, ◌&&◌, List, ◌≡◌, refl, eqb, leb, ltb, length}
+use Rattle.std.specs.Prelude.{ℕ, zero, suc, ◌+◌, ◌*◌, ◌-◌, ◌/◌, ◌%◌, ◌≤◌, ◌<◌, Bool, true, false, ◌&&◌, List, ◌++◌, ◌≡◌, refl, eqb, leb, ltb, length, replicate}
 use Rattle.std.proofs.Math.Bool.{and-false, and_assoc}
 use Rattle.std.proofs.Math.Option.{Option, none, some}
 use Rattle.std.proofs.Common.{sym, ap, subst, ◌∙◌, arith, eq-eqb, ne_eqb, eqb-true, lt-ltb, ltb-true, le-leb, leb-true}
@@ -70,6 +70,10 @@ pick_forest false o = none
 -- the forest that all words are: whole rows, under no parent
 unfoldable pub forest_of : List ℕ → Option Forest
 forest_of w = pick_forest (whole_rows w) (forest_at w 0 (length w / node_width) no_parent)
+
+-- the forest that words are whose first row is row n, under the parent q: whole rows, behind the n rows before them, whose words tell nothing
+unfoldable pub forest_rows : List ℕ → ℕ → ℕ → Option Forest
+forest_rows w n q = pick_forest (whole_rows w) (forest_at (replicate (node_width * n) 0 ++ w) n (n + length w / node_width) q)
 
 -- rows i to j are a forest under the parent q and keep the rules
 abbrev pub ok_in : ℕ → ℕ → Option Forest → Bool

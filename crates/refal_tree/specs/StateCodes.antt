@@ -1,10 +1,11 @@
 -- The code's states, in the numbers of States.
-use Rattle.std.specs.Prelude.{◌≡◌, ℕ, ◌≤◌, ◌<◌, Bool, true, false, Option, MatchOption, eqb, refl}
+use Rattle.std.specs.Prelude.{◌≡◌, ℕ, ◌≤◌, ◌<◌, Bool, true, false, Option, MatchOption, Result, MatchResult, eqb, refl}
 use Rattle.std.proofs.Common.{arith, ne_eqb, lit≤}
 use Rattle.refal_ast.specs.Kinds.{node_call}
 use Rattle.refal_tree.specs.States.{at_items, at_name, at_names, at_sentences, at_pattern, at_conditions, at_condition, at_colon, at_terms, at_argument, at_ending, closed, may_stand, state_next, pick_state}
 use Rattle.refal_tree.specs.Forest.{Row}
 use Rattle.refal_tree.specs.Rules.{row_ok}
+use Rattle.refal_tree.specs.declared.states.UnknownState.{UnknownState}
 use Rattle.refal_tree.specs.declared.states.State.{State}
 use Rattle.refal_tree.specs.declared.states.State.TheVariants as state
 
@@ -21,6 +22,10 @@ state_code state.Terms = at_terms
 state_code state.Argument = at_argument
 state_code state.Ending = at_ending
 state_code state.Closed = closed
+
+-- the result is the state with this number, or an error with a word that is the number of no state
+abbrev pub DecodesState : ℕ → Result State UnknownState → Type 0
+DecodesState word r = MatchResult r (λ state. state_code state ≡ word) (λ e. (e.0 ≡ word) × (1 ≤ word → closed < word))
 
 -- the result is the state after a row of the kind k and the detail d in the state st, and None where no such row may stand
 abbrev pub Follows : ℕ → ℕ → ℕ → Option State → Type 0
