@@ -64,12 +64,18 @@ impl<'a> Files<'a> {
         }
     }
 
-    // The number of row g's kind, for rows of unknown kinds too.
+    // The number of row g's kind, for rows of unknown kinds too. Not by `row`: a search asks for the kind of every row and for no more.
+    #[tactic(auto, unfolding(crate::specs::FileLaws::row_at))]
     pub fn kind(&self, g: usize) -> u32
         requires { g < rows_of self.now }
         ensures { result ≡ (row_of self.now g).node.kind }
     {
-        self.row(g).kind()
+        let n = self.one.count();
+        if g < n {
+            nodes::kind(self.one.tree, g)
+        } else {
+            nodes::kind(self.two.tree, g - n)
+        }
     }
 
     // The text of row g, as a part of whichever source holds it. It is that of a row of an unknown kind too, which is no Node.

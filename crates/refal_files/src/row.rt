@@ -4,7 +4,7 @@ ghost use Rattle.refal_ast.specs.Nodes.{HasRow};
 use crate::File;
 use refal_ast::answers;
 use refal_ast::kinds::UnknownKind;
-use refal_ast::nodes::{self, Node};
+use refal_ast::nodes::Node;
 
 // The file, which one it is, and the row's number there.
 #[derive(Clone, Copy, Debug, PartialEq, Eq)]
@@ -16,16 +16,7 @@ pub struct Row<'a> {
 }
 
 impl<'a> Row<'a> {
-    ghost use Rattle.std.specs.Prelude.{◌≡◌};
     ghost use Rattle.refal_ast.specs.Rows.{ReadsNode};
-    ghost use Rattle.refal_files.specs.View.{placed_of};
-
-    // The number of its kind, known or not.
-    pub fn kind(&self) -> u32
-        ensures { result ≡ (placed_of self.now).node.kind }
-    {
-        nodes::kind(self.file.tree, self.number)
-    }
 
     pub fn node(&self) -> Result<Node, UnknownKind>
         ensures { ReadsNode self.now.file.tree.now self.now.number result }

@@ -12,7 +12,7 @@ ghost use Rattle.refal_index.specs.View.{only_functions, known_before, IndexesIf
 pub use crate::index::Index;
 use refal_ast::kinds::NodeKind;
 use refal_ast::names::identifiers_equal;
-use refal_files::{Files, Row};
+use refal_files::Files;
 
 // Which rows bear names: functions only, or declared names too.
 #[derive(Clone, Copy, Debug, PartialEq, Eq)]
@@ -36,20 +36,13 @@ impl Bearers {
         }
     }
 
-    // Whether the row is one of them.
-    fn contain(self, row: &Row) -> bool
-        ensures { result ≡ bears (only_functions self) (placed_of row.now).node.kind }
-    {
-        self.include(row.kind())
-    }
-
     // Whether row g bears the name.
     #[tactic(auto, unfolding(crate::specs::Named::answers_to))]
     fn bear(self, files: &Files, g: usize, name: &[u8]) -> bool
         requires { g < rows_of files.now }
         ensures { result ≡ answers_to (only_functions self) name.now (row_of files.now g) }
     {
-        self.contain(&files.row(g)) && identifiers_equal(name, files.text(g))
+        self.include(files.kind(g)) && identifiers_equal(name, files.text(g))
     }
 }
 
@@ -110,7 +103,7 @@ pub fn enter(words: &mut [u32], buckets: usize, files: &Files, g: usize)
     requires room { 0 < buckets → rows_of files.now + buckets ≤ length words.old }
     ensures { words.new ≡ with_row words.old (rows_of files.now) buckets (row_of files.now) g }
 {
-    if buckets > 0 && Bearers::All.contain(&files.row(g)) {
+    if buckets > 0 && Bearers::All.include(files.kind(g)) {
         let h = index::bucket(files.text(g), buckets);
         index::push(words, files.count(), h, g);
     }
