@@ -30,10 +30,7 @@ impl Bearers {
     fn include(self, kind: u32) -> bool
         ensures { result ≡ bears (only_functions self) kind }
     {
-        match self {
-            Bearers::Functions => kind == FUNCTION,
-            Bearers::All => matches!(kind, FUNCTION | NAME),
-        }
+        (kind == FUNCTION) | (matches!(self, Bearers::All) & (kind == NAME))
     }
 
     // Whether row g bears the name.
