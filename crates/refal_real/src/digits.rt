@@ -77,10 +77,14 @@ impl<'a> Digits<'a> {
         requires { length (digits_told self) ≤ length out.old }
         ensures { out.new ≡ digits_told self.entry ++ drop (length (digits_told self.entry)) out.old }
     {
+        // Byte by byte: `copy_from_slice` would have the library for C need `memcpy` and `memmove`.
         let point = self.whole.len();
-        let end = self.len();
-        out[..point].copy_from_slice(self.whole);
-        out[point..end].copy_from_slice(self.fraction);
+        for i in 0..point {
+            out[i] = self.whole[i];
+        }
+        for k in 0..self.fraction.len() {
+            out[point + k] = self.fraction[k];
+        }
     }
 }
 

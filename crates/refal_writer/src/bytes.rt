@@ -27,8 +27,11 @@ impl<'a> Put for Word<'a> {
     ghost most = { 4294967295 };
 
     fn put(self, out: &mut [u8]) -> usize {
+        // Byte by byte, here and below: `copy_from_slice` would have the library for C need `memcpy` and `memmove`.
         let n = self.text.len().min(out.len());
-        out[..n].copy_from_slice(&self.text[..n]);
+        for i in 0..n {
+            out[i] = self.text[i];
+        }
         self.text.len()
     }
 }
@@ -39,12 +42,18 @@ impl<'a, const N: usize> Put for &'a [u8; N] {
     ghost most = { N };
 
     fn put(self, out: &mut [u8]) -> usize {
-        // Where all fit, a copy of a known size is one store.
+        // Where all fit, their count is known, and the loop becomes stores.
         if N <= out.len() {
-            out[..N].copy_from_slice(self);
+            for i in 0..N {
+                out[i] = self[i];
+            }
         } else {
-            let n = out.len();
-            out.copy_from_slice(&self[..n]);
+            // A loop over the room alone would become a call of `memcpy` too.
+            for i in 0..N {
+                if i < out.len() {
+                    out[i] = self[i];
+                }
+            }
         }
         N
     }
