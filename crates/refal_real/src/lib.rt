@@ -104,8 +104,12 @@ pub fn normal_form(text: &[u8], digits: &mut [u8], form: &mut [u64; 3]) -> Resul
 pub fn reals_equal(a: &[u8], b: &[u8]) -> bool
     ensures { result ≡ reals_equal a.now b.now }
 {
-    match (parse(a), parse(b)) {
-        (Ok(f), Ok(g)) => f == g,
-        _ => false,
-    }
+    // Where the first is no real, the second isn't looked at.
+    let Ok(f) = parse(a) else {
+        return false;
+    };
+    let Ok(g) = parse(b) else {
+        return false;
+    };
+    f == g
 }

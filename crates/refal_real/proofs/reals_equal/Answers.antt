@@ -3,5 +3,5 @@ use Rattle.std.proofs.Common.{◌∙◌}
 use Rattle.refal_real.specs.AnswerLaws.{same_told}
 use Rattle.refal_real.proofs.reals_equal.Goals as goal
 
-pub returns-in-Ok-Ok : goal.returns-in-Ok-Ok
-returns-in-Ok-Ok c = c.eq.ensures ∙ same_told _ _ c.in-Ok-Ok.f c.in-Ok-Ok.g c.in-Ok-Ok.ensures c.in-Ok-Ok.ensures'
+pub returns : goal.returns
+returns c = c.eq.ensures ∙ same_told _ _ c.in-Ok.f c.in-Ok-parse.g c.in-Ok.ensures c.in-Ok-parse.ensures
