@@ -47,3 +47,8 @@ pub same_told : (o u : Outcome) (f g : Code) → has_form (form_told f) ≡ o �
 same_told o u f g e h =
     ap (λ (x : Bool). beq f.minus g.minus && (int_eq f.power g.power && x)) (same_bytes (digits_told f.digits) (digits_told g.digits))
     ∙ same_power (beq f.minus g.minus) (same_list (digits_told f.digits) (digits_told g.digits)) (int_eq f.power g.power) f.power g.power (Decides-int_eq f.power g.power) ∙ ap₂ same_outcome e h
+
+-- the same, where the second form's sign and power stand in other words
+pub same_by : (o u : Outcome) (f g : Code) (m : Bool) (q : ℤ) → has_form (form_told f) ≡ o → has_form (form_told g) ≡ u → m ≡ g.minus → q ≡ g.power
+    → (beq f.minus m && (int_eq f.power q && bytes_eq (digits_told f.digits) (digits_told g.digits))) ≡ same_outcome o u
+same_by o u f g m q e h a b = rw (a, b) (same_told o u f g e h)

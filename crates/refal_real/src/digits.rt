@@ -95,9 +95,13 @@ impl PartialEq for Digits<'_> {
     ghost laws = { on_per digits_told (partial_equiv_from_equiv nat_list_eq_equiv) };
 
     fn eq(&self, other: &Self) -> bool {
+        if self.len() != other.len() {
+            return false;
+        }
         self.whole
             .iter()
             .chain(self.fraction)
-            .eq(other.whole.iter().chain(other.fraction))
+            .zip(other.whole.iter().chain(other.fraction))
+            .all(|(x, y)| x == y)
     }
 }

@@ -32,14 +32,22 @@ text_of_append src fs gs = ap text (views_append src fs gs) ∙ text_append (vie
 alone : (l : List ℕ) → l ++ 32 ∷ [] ≡ (l ++ 32 ∷ []) ++ []
 alone l = sym (append-nil (l ++ 32 ∷ []))
 
+module _ (k d : ℕ) (w : List ℕ) where
+  pub name_text : k ≡ tok_identifier → w ++ 32 ∷ [] ≡ token_text (spelled k d w)
+  unfolding spelling text
+  name_text e = rw e (alone w)
+
+  pub number_text : k ≡ tok_number → w ++ 32 ∷ [] ≡ token_text (spelled k d w)
+  unfolding spelling text
+  number_text e = rw e (alone w)
+
+-- as the tokens of a tree have them
 module _ (w : List ℕ) where
   pub name_is : w ++ 32 ∷ [] ≡ token_text (spelled tok_identifier 0 w)
-  unfolding spelling text
-  name_is = alone w
+  name_is = name_text tok_identifier 0 w refl
 
   pub number_is : w ++ 32 ∷ [] ≡ token_text (spelled tok_number 0 w)
-  unfolding spelling text
-  number_is = alone w
+  number_is = number_text tok_number 0 w refl
 
   pub variable_is : (d : ℕ) → d ∷ 46 ∷ (w ++ 32 ∷ []) ≡ token_text (spelled tok_variable d w)
   unfolding spelling text

@@ -1,5 +1,5 @@
 -- `refal_real::parts::split` meets its contract.
-use Rattle.std.proofs.Common.{arith, sym, ◌∙◌, ◌≤◌, length}
+use Rattle.std.proofs.Common.{arith, sym, ◌∙◌, ℕ, ◌≤◌, length, length-take}
 use Rattle.refal_ast.specs.Limits.{most_bytes}
 use Rattle.refal_real.specs.SplitLaws.{scans, no_digit, bare_point, bare_exponent, no_mark, not_all, is, parts_is, to_end, cut_short, ends_at}
 use Rattle.refal_real.proofs.parts.split.Goals as goal
@@ -23,7 +23,7 @@ returns-then-end-whole c =
     let s = scans c.args.text.now c.byte-sign.result c.from-from.result c.digits-whole.result.end c.is_sign.result c.fraction.result c.byte-sign.ensures c.is_sign.ensures c.from-from.ensures c.digits-whole.ensures.end c.fraction.ensures.part in
     elim c.then-end-whole.branch [
       | then-end-whole-via-then-end-whole w ↦ no_mark c.args.text.now c.from-from.result c.digits-whole.result.end c.fraction.result s (λ q. c.if-whole-from.false q) c.in_ok-to.to (sym c.ok.ensures.value ∙ c.in_ok-to.was) c.power.result c.power.ensures.part c.in_ok-end.end (sym c.ok-2.ensures.value ∙ c.in_ok-end.was) w.if-end-whole.true
-      | then-end-whole-via-else-end-whole+then-end-text w ↦ not_all c.args.text.now c.from-from.result c.digits-whole.result.end c.fraction.result s (λ q. c.if-whole-from.false q) c.in_ok-to.to (sym c.ok.ensures.value ∙ c.in_ok-to.was) c.power.result c.power.ensures.part c.in_ok-end.end (sym c.ok-2.ensures.value ∙ c.in_ok-end.was) w.if-end-whole.false w.if-end-text.true
+      | then-end-whole-via-else-end-whole+then-end-text w ↦ not_all c.args.text.now c.from-from.result c.digits-whole.result.end c.fraction.result s (λ q. c.if-whole-from.false q) c.in_ok-to.to (sym c.ok.ensures.value ∙ c.in_ok-to.was) c.power.result c.power.ensures.part c.in_ok-end.end (sym c.ok-2.ensures.value ∙ c.in_ok-end.was) w.if-end-whole.false (omega (arith, length-take {A = ℕ}))
     ]
 
 pub returns : goal.returns
@@ -32,11 +32,12 @@ returns c =
     let t = c.args.text.now in
     let l : c.in_ok-to.to ≤ length t = omega (arith, ends_at c.fraction.result c.in_ok-to.to (sym c.ok.ensures.value ∙ c.in_ok-to.was), c.fraction.ensures.to) in
     let w : c.in_ok-end.end ≤ length t = omega (arith, ends_at c.power.result c.in_ok-end.end (sym c.ok-2.ensures.value ∙ c.in_ok-end.was), c.power.ensures.to) in
+    let all : length t ≤ c.in_ok-end.end = omega (arith, length-take {A = ℕ}) in
     let h : length t ≤ most_bytes = omega (arith, c.if-text-gt-MOST_BYTES.false) in
     record {
-      real = is c.args.text.now c.from-from.result c.digits-whole.result.end c.fraction.result s (λ q. c.if-whole-from.false q) c.in_ok-to.to (sym c.ok.ensures.value ∙ c.in_ok-to.was) c.power.result c.power.ensures.part c.in_ok-end.end (sym c.ok-2.ensures.value ∙ c.in_ok-end.was) c.if-end-whole.false c.if-end-text.false w l h;
-      parts = parts_is c.args.text.now c.from-from.result c.digits-whole.result.end c.fraction.result s (λ q. c.if-whole-from.false q) c.in_ok-to.to (sym c.ok.ensures.value ∙ c.in_ok-to.was) c.power.result c.power.ensures.part c.in_ok-end.end (sym c.ok-2.ensures.value ∙ c.in_ok-end.was) c.if-end-whole.false c.if-end-text.false w l h c.byte-sign.result c.min.result c.byte-sign.ensures c.min.ensures;
-      exponent = to_end c.args.text.now c.from-from.result c.digits-whole.result.end c.fraction.result s (λ q. c.if-whole-from.false q) c.in_ok-to.to (sym c.ok.ensures.value ∙ c.in_ok-to.was) c.power.result c.power.ensures.part c.in_ok-end.end (sym c.ok-2.ensures.value ∙ c.in_ok-end.was) c.if-end-whole.false c.if-end-text.false w l h;
+      real = is c.args.text.now c.from-from.result c.digits-whole.result.end c.fraction.result s (λ q. c.if-whole-from.false q) c.in_ok-to.to (sym c.ok.ensures.value ∙ c.in_ok-to.was) c.power.result c.power.ensures.part c.in_ok-end.end (sym c.ok-2.ensures.value ∙ c.in_ok-end.was) c.if-end-whole.false all w l h;
+      parts = parts_is c.args.text.now c.from-from.result c.digits-whole.result.end c.fraction.result s (λ q. c.if-whole-from.false q) c.in_ok-to.to (sym c.ok.ensures.value ∙ c.in_ok-to.was) c.power.result c.power.ensures.part c.in_ok-end.end (sym c.ok-2.ensures.value ∙ c.in_ok-end.was) c.if-end-whole.false all w l h c.byte-sign.result c.min.result c.byte-sign.ensures c.min.ensures;
+      exponent = to_end c.args.text.now c.from-from.result c.digits-whole.result.end c.fraction.result s (λ q. c.if-whole-from.false q) c.in_ok-to.to (sym c.ok.ensures.value ∙ c.in_ok-to.was) c.power.result c.power.ensures.part c.in_ok-end.end (sym c.ok-2.ensures.value ∙ c.in_ok-end.was) c.if-end-whole.false all w l h;
       whole = cut_short t _ _ h;
       fraction = cut_short t _ _ h;
     }
