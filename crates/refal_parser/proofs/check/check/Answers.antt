@@ -22,8 +22,8 @@ loop-row-init c = ap ok_tokens (by_rows _ c.args.tokens.now (omega (arith, c.if-
 pub loop-row-preserved : goal.loop-row-preserved
 loop-row-preserved c = let row = get_or c.in-Some.before.now c.loop-row.row-index [] in
     ok_on c.in-Some.before.now c.in-Some.last.now c.loop-row.row-index _ c.loop-row.good _ (omega (arith, c.loop-row-test.true))
-        (ap (λ (b : Bool). (leb 1 (get_or row 0 0) && leb (get_or row 0 0) 16) && b) c.good_fields.ensures)
-        c.loop-row.invariant
+    (ap (λ (b : Bool). (leb 1 (get_or row 0 0) && leb (get_or row 0 0) 16) && b) c.good_fields.ensures)
+    c.loop-row.invariant
 
 pub returns : goal.returns
 returns c = sym (well c.args.tokens.now _ c.if-n-ne0.false c.if-n-gt-MOST_WORDS.false
